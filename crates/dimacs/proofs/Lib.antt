@@ -1,0 +1,5 @@
+pub mod Runs
+pub mod NumberLaws
+pub mod WordLaws
+pub mod LineLaws
+pub mod Examples

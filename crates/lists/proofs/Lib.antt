@@ -1,0 +1,5 @@
+pub mod Cases
+pub mod Members
+pub mod Steps
+pub mod Distinct
+pub mod TableLaws

@@ -1,0 +1,49 @@
+-- The tests of `specs/Tests.antt` turned into facts about places in a list, and back. Assumes nothing.
+use mathlib.Core.Path.{_≡_, refl, sym, ap, _∙_}
+use mathlib.Core.Bool.{Bool, true, false, _&&_, _||_, or-true}
+use mathlib.Core.List.{List, [], _∷_}
+use Prim.Native.Nat.{ℕ, zero, suc, _<_, zero-le, suc-le-suc}
+use native.Mathlib.Nat.{not-suc-le-zero, le-of-suc-le-suc}
+use borrow.Author.Tests.{eq-eqb, eqb-true}
+use lib.ListN.{length, getD}
+use lib.Dec.{eqb}
+use Rattle.lists.specs.Tests.{anyOf, allOf, has}
+use Rattle.lists.proofs.Cases.{never, and-l, and-r, and-both, or-cases}
+
+-- some element passes
+pub any-at : {A : Type 0} (q : A → Bool) (l : List A) (d : A) → anyOf q l ≡ true → (i : ℕ) × (i < length l) × (q (getD l i d) ≡ true)
+unfolding anyOf
+any-at q [] d e = never e
+any-at q (x ∷ l) d e =
+    or-cases (q x) (anyOf q l) e
+    (λ h. (0, suc-le-suc zero-le, h))
+    (λ h. let r = any-at q l d h in (suc (r .0), suc-le-suc (r .1), r .2))
+
+pub any-in : {A : Type 0} (q : A → Bool) (l : List A) (d : A) (i : ℕ) → i < length l → q (getD l i d) ≡ true → anyOf q l ≡ true
+unfolding anyOf
+any-in q [] d i h e = absurd (not-suc-le-zero h)
+any-in q (x ∷ l) d zero h e = rw e
+any-in q (x ∷ l) d (suc i) h e = rw (any-in q l d i (le-of-suc-le-suc h) e) (or-true (q x))
+
+-- every element passes
+pub all-at : {A : Type 0} (q : A → Bool) (l : List A) (d : A) → allOf q l ≡ true → (i : ℕ) → i < length l → q (getD l i d) ≡ true
+unfolding allOf
+all-at q [] d e i h = absurd (not-suc-le-zero h)
+all-at q (x ∷ l) d e zero h = and-l (q x) (allOf q l) e
+all-at q (x ∷ l) d e (suc i) h = all-at q l d (and-r (q x) (allOf q l) e) i (le-of-suc-le-suc h)
+
+pub all-in : {A : Type 0} (q : A → Bool) (l : List A) (d : A) → ((i : ℕ) → i < length l → q (getD l i d) ≡ true) → allOf q l ≡ true
+unfolding allOf
+all-in q [] d f = refl
+all-in q (x ∷ l) d f = and-both (f 0 (suc-le-suc zero-le)) (all-in q l d (λ i h. f (suc i) (suc-le-suc h)))
+
+-- a number that is in a list has a place there
+pub place : (l : List ℕ) (x : ℕ) → has l x ≡ true → (i : ℕ) × (i < length l) × (getD l i 0 ≡ x)
+place l x e = let r = any-at (λ y. eqb y x) l 0 e in (r .0, r .1, eqb-true _ _ (r .2))
+
+pub placed : (l : List ℕ) (x i : ℕ) → i < length l → getD l i 0 ≡ x → has l x ≡ true
+placed l x i h e = any-in (λ y. eqb y x) l 0 i h (eq-eqb _ _ e)
+
+-- what holds of every element, at one that is in the list
+pub all-has : (q : ℕ → Bool) (l : List ℕ) (x : ℕ) → allOf q l ≡ true → has l x ≡ true → q x ≡ true
+all-has q l x e h = let r = place l x h in rw (r .2) at (all-at q l 0 e (r .0) (r .1))

@@ -35,6 +35,11 @@ pub or-r-false : (a b : Bool) → (a || b) ≡ false → b ≡ false
 or-r-false true b e = never (sym e)
 or-r-false false b e = e
 
+-- what cannot be true is false
+pub not-so : (b : Bool) → (b ≡ true → ⊥) → b ≡ false
+not-so true f = absurd (f refl)
+not-so false f = refl
+
 -- two truth values that hold together are equal
 pub bool-ext : (a b : Bool) → (a ≡ true → b ≡ true) → (b ≡ true → a ≡ true) → a ≡ b
 bool-ext true b f g = sym (f refl)

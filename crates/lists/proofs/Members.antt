@@ -8,7 +8,7 @@ use borrow.Author.Tests.{eq-eqb, eqb-true}
 use lib.ListN.{length, getD}
 use lib.Dec.{eqb}
 use Rattle.lists.specs.Tests.{anyOf, allOf, has}
-use Rattle.lists.proofs.Cases.{never, and-l, and-r, and-both, or-cases}
+use Rattle.lists.proofs.Cases.{never, not-so, and-l, and-r, and-both, or-cases}
 
 -- some element passes
 pub any-at : {A : Type 0} (q : A → Bool) (l : List A) (d : A) → anyOf q l ≡ true → (i : ℕ) × (i < length l) × (q (getD l i d) ≡ true)
@@ -36,6 +36,9 @@ pub all-in : {A : Type 0} (q : A → Bool) (l : List A) (d : A) → ((i : ℕ) �
 unfolding allOf
 all-in q [] d f = refl
 all-in q (x ∷ l) d f = and-both (f 0 (suc-le-suc zero-le)) (all-in q l d (λ i h. f (suc i) (suc-le-suc h)))
+
+pub all-not : {A : Type 0} (q : A → Bool) (l : List A) (d : A) (i : ℕ) → i < length l → q (getD l i d) ≡ false → allOf q l ≡ false
+all-not q l d i h e = not-so (allOf q l) (λ t. never (sym e ∙ all-at q l d t i h))
 
 -- a number that is in a list has a place there
 pub place : (l : List ℕ) (x : ℕ) → has l x ≡ true → (i : ℕ) × (i < length l) × (getD l i 0 ≡ x)

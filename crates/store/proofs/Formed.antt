@@ -1,0 +1,138 @@
+-- What is known of a well formed store, for the functions that rely on it: every demand as a fact about places. Assumes nothing.
+use mathlib.Core.Path.{_≡_, refl, sym, ap, _∙_}
+use mathlib.Core.Bool.{Bool, true, false, not, _&&_}
+use mathlib.Core.List.{List, [], _∷_, map}
+use Prim.Native.Nat.{ℕ, zero, suc, _+_, _-_, _*_, _/_, _%_, _≤_, _<_, suc-le-suc}
+use native.Mathlib.Nat.{not-suc-le-zero, le-of-suc-le-suc}
+use native.Mathlib.Omega.{arith}
+use borrow.Author.Tests.{leb-true, eqb-true, eqb-false, not-true}
+use lib.ListN.{length, getD, take, drop, length-map}
+use lib.Seq.{drop-drop, getD-take, length-take-le}
+use lib.Dec.{eqb, leb, lit<}
+use Rattle.lists.specs.Tests.{allOf, distinct}
+use Rattle.lists.proofs.Cases.{and-l, and-r}
+use Rattle.lists.proofs.Members.{all-at}
+use Rattle.lists.proofs.Distinct.{distinct-inj}
+use Rattle.store.specs.Literals.{variableOf, isNegative, isLiteral}
+use Rattle.store.specs.Stores.{Store, maxVariables, maxClauses, maxLiterals, maxRows, rising, literalCount, rowsOf, isImage, isRow, demands, wellFormed}
+use Rattle.store.proofs.FormLaws.{variables, variable-at, literal-low, literal-high, image-literal, count-none, count-last}
+use Rattle.store.proofs.Demands.{used}
+
+-- ---- a row
+
+pub record Row (n : ℕ) (row : List ℕ) : Type 0 where
+  pub size : length row ≡ n
+  pub low : (i : ℕ) → i < n → 1 ≤ getD row i 0 / 2
+  pub high : (i : ℕ) → i < n → getD row i 0 / 2 ≤ n
+  pub positive : (i : ℕ) → i < n → getD row i 0 % 2 ≡ 0
+  pub one-place : (i j : ℕ) → i < n → j < n → getD row i 0 / 2 ≡ getD row j 0 / 2 → i ≡ j
+
+image-positive : (n code : ℕ) → isImage n code ≡ true → code % 2 ≡ 0
+unfolding isImage
+image-positive n code e =
+    let odd : code % 2 ≡ 1 → ⊥ = eqb-false (code % 2) 1 (not-true (isNegative code) (and-r (isLiteral n code) (not (isNegative code)) e)) in
+    by (code % 2) (omega arith) odd
+  where
+    by : (r : ℕ) → r < 2 → (r ≡ 1 → ⊥) → r ≡ 0
+    by zero h odd = refl
+    by (suc zero) h odd = absurd (odd refl)
+    by (suc (suc r)) h odd = absurd (omega arith)
+
+pub row-of : (n : ℕ) (row : List ℕ) → isRow n row ≡ true → Row n row
+unfolding isRow
+row-of n row e =
+    let first = and-l (eqb (length row) n && allOf (isImage n) row) (distinct (variables row)) e in
+    let size : length row ≡ n = eqb-true (length row) n (and-l (eqb (length row) n) (allOf (isImage n) row) first) in
+    let image : (i : ℕ) → i < n → isImage n (getD row i 0) ≡ true =
+    λ i h. all-at (isImage n) row 0 (and-r (eqb (length row) n) (allOf (isImage n) row) first) i (omega arith) in
+    let different = and-r (eqb (length row) n && allOf (isImage n) row) (distinct (variables row)) e in
+    let many : length (variables row) ≡ n = length-map row variableOf ∙ size in
+    record {
+      size = size;
+      low = λ i h. literal-low n (getD row i 0) (image-literal n (getD row i 0) (image i h));
+      high = λ i h. literal-high n (getD row i 0) (image-literal n (getD row i 0) (image i h));
+      positive = λ i h. image-positive n (getD row i 0) (image i h);
+      one-place = λ i j h k q. distinct-inj (variables row) different i j (omega arith) (omega arith) (variable-at row i ∙ q ∙ sym (variable-at row j));
+    }
+
+-- ---- the ends
+
+rising-low : (from : ℕ) (l : List ℕ) → rising from l ≡ true → (i : ℕ) → i < length l → from ≤ getD l i 0
+unfolding rising
+rising-low from [] e i h = absurd (not-suc-le-zero h)
+rising-low from (x ∷ l) e zero h = leb-true from x (and-l (leb from x) (rising x l) e)
+rising-low from (x ∷ l) e (suc i) h =
+    omega (arith, leb-true from x (and-l (leb from x) (rising x l) e), rising-low x l (and-r (leb from x) (rising x l) e) i (le-of-suc-le-suc h))
+
+rising-order : (from : ℕ) (l : List ℕ) → rising from l ≡ true → (i j : ℕ) → i ≤ j → j < length l → getD l i 0 ≤ getD l j 0
+unfolding rising
+rising-order from [] e i j h k = absurd (not-suc-le-zero k)
+rising-order from (x ∷ l) e zero zero h k = omega arith
+rising-order from (x ∷ l) e zero (suc j) h k = rising-low x l (and-r (leb from x) (rising x l) e) j (le-of-suc-le-suc k)
+rising-order from (x ∷ l) e (suc i) zero h k = absurd (not-suc-le-zero h)
+rising-order from (x ∷ l) e (suc i) (suc j) h k =
+    rising-order x l (and-r (leb from x) (rising x l) e) i j (le-of-suc-le-suc h) (le-of-suc-le-suc k)
+
+-- ---- the rows
+
+-- row r, from 0
+abbrev pub rowAt : ℕ → ℕ → List ℕ → List ℕ
+rowAt n r images = take n (drop (r * n) images)
+
+rows-at : (n k : ℕ) (images : List ℕ) → allOf (isRow n) (rowsOf n k images) ≡ true → (r : ℕ) → r < k → isRow n (rowAt n r images) ≡ true
+unfolding rowsOf allOf
+rows-at n zero images e r h = absurd (not-suc-le-zero h)
+rows-at n (suc k) images e zero h =
+    let z : 0 * n ≡ 0 = omega arith in
+    rw z (and-l (isRow n (take n images)) (allOf (isRow n) (rowsOf n k (drop n images))) e)
+rows-at n (suc k) images e (suc r) h =
+    let z : suc r * n ≡ n + r * n = omega arith in
+    rw (z, ← drop-drop (r * n) n images) (rows-at n k (drop n images) (and-r (isRow n (take n images)) (allOf (isRow n) (rowsOf n k (drop n images))) e) r (le-of-suc-le-suc h))
+
+-- ---- the store
+
+pub record Formed (s : Store) : Type 0 where
+  pub variables-fit : s .counts .variables ≤ maxVariables
+  pub clauses-fit : s .counts .clauses ≤ maxClauses
+  pub rows-fit : s .counts .rows ≤ maxRows
+  pub ends-long : s .counts .clauses ≤ length (s .ends)
+  pub literals-fit : used s ≤ maxLiterals
+  pub literals-long : used s ≤ length (s .literals)
+  pub images-long : s .counts .rows * s .counts .variables ≤ length (s .images)
+  pub ends-rise : (i j : ℕ) → i ≤ j → j < s .counts .clauses → getD (s .ends) i 0 ≤ getD (s .ends) j 0
+  pub end-within : (j : ℕ) → j < s .counts .clauses → getD (s .ends) j 0 ≤ used s
+  pub literal-low : (i : ℕ) → i < used s → 1 ≤ getD (s .literals) i 0 / 2
+  pub literal-high : (i : ℕ) → i < used s → getD (s .literals) i 0 / 2 ≤ s .counts .variables
+  pub row : (r : ℕ) → r < s .counts .rows → Row (s .counts .variables) (rowAt (s .counts .variables) r (s .images))
+
+module _ (s : Store) (e : wellFormed s ≡ true) where
+  demand : (k : ℕ) → k < length (demands s) → getD (demands s) k true ≡ true
+  unfolding wellFormed
+  demand k h = all-at (λ b. b) (demands s) true e k h
+
+  pub formed : Formed s
+  unfolding demands
+  formed =
+      let n : ℕ = s .counts .variables in
+      let m : ℕ = s .counts .clauses in
+      let ends-long : m ≤ length (s .ends) = leb-true _ _ (demand 3 (lit< tt)) in
+      let literals-long : used s ≤ length (s .literals) = leb-true _ _ (demand 6 (lit< tt)) in
+      let first : length (take m (s .ends)) ≡ m = length-take-le m (s .ends) ends-long in
+      let order : (i j : ℕ) → i ≤ j → j < m → getD (s .ends) i 0 ≤ getD (s .ends) j 0 =
+      λ i j h k. rw (getD-take m (s .ends) j 0 k, getD-take m (s .ends) i 0 (omega arith)) at (rising-order 0 (take m (s .ends)) (demand 4 (lit< tt)) i j h (omega arith)) in
+      let literal : (i : ℕ) → i < used s → isLiteral n (getD (s .literals) i 0) ≡ true =
+      λ i h. rw (getD-take (used s) (s .literals) i 0 h) at (all-at (isLiteral n) (take (used s) (s .literals)) 0 (demand 7 (lit< tt)) i (omega (arith, length-take-le (used s) (s .literals) literals-long))) in
+      record {
+        variables-fit = leb-true _ _ (demand 0 (lit< tt));
+        clauses-fit = leb-true _ _ (demand 1 (lit< tt));
+        rows-fit = leb-true _ _ (demand 2 (lit< tt));
+        ends-long = ends-long;
+        literals-fit = leb-true _ _ (demand 5 (lit< tt));
+        literals-long = literals-long;
+        images-long = leb-true _ _ (demand 8 (lit< tt));
+        ends-rise = order;
+        end-within = λ j h. omega (arith, order j (m - 1) (omega arith) (omega arith), count-last m (s .ends) (omega arith));
+        literal-low = λ i h. literal-low n (getD (s .literals) i 0) (literal i h);
+        literal-high = λ i h. literal-high n (getD (s .literals) i 0) (literal i h);
+        row = λ r h. row-of n (rowAt n r (s .images)) (rows-at n (s .counts .rows) (s .images) (demand 9 (lit< tt)) r h);
+      }

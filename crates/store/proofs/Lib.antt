@@ -1,0 +1,4 @@
+pub mod FormLaws
+pub mod Demands
+pub mod Formed
+pub mod Examples

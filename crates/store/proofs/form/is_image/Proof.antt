@@ -1,0 +1,18 @@
+-- `store::form::is_image` meets its contract. Assumes nothing.
+use mathlib.Core.Path.{sym, _∙_}
+use Rattle.store.proofs.FormLaws.{image-negative, image-positive}
+use borrow.Author.Needs.{needs}
+use Rattle.store.proofs.form.is_image.Statement.{statement}
+use Rattle.store.proofs.form.is_image.Tie as tie
+
+returns : tie.Need-returns
+returns c = sym (image-negative _ _ (c .if1 .taken))
+
+is-literal-requires : tie.Need-is-literal-requires
+is-literal-requires c κs = search needs
+
+returns-2 : tie.Need-returns-2
+returns-2 c = c .is-literal .ensures ∙ sym (image-positive _ _ (c .before .if1 .left))
+
+pub is-image-spec : {M : Type 1} → statement M
+is-image-spec = tie.close (tie.spec returns is-literal-requires returns-2)

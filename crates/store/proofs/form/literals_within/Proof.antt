@@ -1,0 +1,61 @@
+-- `store::form::literals_within` meets its contract. The invariant: all are literals of 1..n if those from i on are. Assumes nothing.
+use mathlib.Core.Path.{_≡_, refl, sym, _∙_}
+use Prim.Native.Nat.{_-_}
+use lib.ListN.{length, drop}
+use Rattle.lists.specs.Tests.{allOf}
+use Rattle.lists.proofs.Steps.{all-drop-miss, all-drop-hit, all-drop-end}
+use Rattle.store.specs.Literals.{isLiteral}
+use borrow.Author.Tests.{not-true, not-false}
+use borrow.Author.Needs.{needs}
+use native.Mathlib.Omega.{arith}
+use Rattle.store.proofs.form.literals_within.Statement.{statement}
+use Rattle.store.proofs.form.literals_within.Tie as tie
+
+abbrev Inv-loop : tie.InvT-loop
+Inv-loop literals n i₀ i = allOf (isLiteral n) literals ≡ allOf (isLiteral n) (drop i literals)
+
+abbrev μ-loop : tie.MeasureT-loop
+μ-loop literals n i₀ i = length literals - i
+
+loop-holds : tie.Need-loop-holds Inv-loop μ-loop
+loop-holds c = refl
+
+mul-is-literal : tie.Need-mul-is-literal Inv-loop μ-loop
+mul-is-literal c = omega arith
+
+shared-slice-read-is-literal : tie.Need-shared-slice-read-is-literal Inv-loop μ-loop
+shared-slice-read-is-literal c = omega arith
+
+is-literal-requires : tie.Need-is-literal-requires Inv-loop μ-loop
+is-literal-requires c κs = search needs
+
+returns : tie.Need-returns Inv-loop μ-loop
+returns c = let at = c .before .before .before .before in sym (at .loop .inv ∙ all-drop-miss (isLiteral _) _ (at .loop .i) 0 (search needs) (sym (c .before .is-literal .ensures) ∙ not-true _ (c .if1 .taken)))
+
+add-i : tie.Need-add-i Inv-loop μ-loop
+add-i c = omega arith
+
+loop-less : tie.Need-loop-less Inv-loop μ-loop
+loop-less c = omega arith
+
+loop-again : tie.Need-loop-again Inv-loop μ-loop
+loop-again c = let at = c .before .before .before .before in at .loop .inv ∙ all-drop-hit (isLiteral _) _ (at .loop .i) 0 (search needs) (sym (c .before .is-literal .ensures) ∙ not-false _ (c .if1 .left))
+
+returns-2 : tie.Need-returns-2 Inv-loop μ-loop
+returns-2 c = sym (c .before .loop .inv ∙ all-drop-end (isLiteral _) _ (c .before .loop .i) (search needs))
+
+pub literals-within-spec : {M : Type 1} → statement M
+literals-within-spec =
+    tie.close
+    (tie.spec
+    Inv-loop
+    μ-loop
+    loop-holds
+    mul-is-literal
+    shared-slice-read-is-literal
+    is-literal-requires
+    returns
+    add-i
+    loop-less
+    loop-again
+    returns-2)

@@ -1,0 +1,83 @@
+-- The store: "what the caller lends at every call" (document 01, "Plain formula"), and when it is well formed ("Turned back by the store", 21).
+-- Assumes nothing.
+use Prim.Native.Nat.{ℕ, zero, suc, _-_, _*_}
+use mathlib.Core.Bool.{Bool, true, false, cond, not, _&&_}
+use mathlib.Core.List.{List, [], _∷_, map}
+use lib.ListN.{length, getD, take, drop}
+use lib.Dec.{eqb, leb}
+use Rattle.lists.specs.Tests.{allOf, distinct}
+use Rattle.store.specs.Literals.{variableOf, isNegative, isLiteral}
+use Rattle.store.specs.declared.record.Record.{Record}
+
+-- "At most 512 variables, 4,096 clauses and 12,288 literals", and 64 rows
+abbrev pub maxVariables : ℕ
+maxVariables = 512
+
+abbrev pub maxClauses : ℕ
+maxClauses = 4096
+
+abbrev pub maxLiterals : ℕ
+maxLiterals = 12288
+
+abbrev pub maxRows : ℕ
+maxRows = 64
+
+-- "A new store starts closed"
+abbrev pub closedRecord : Record
+closedRecord = record { variables = 0; clauses = 0; rows = 0; is_open = false }
+
+-- "literals in order, each clause's end (the count of literals up to it), the images of the accepted permutations, one row of n each, and a
+-- small record of n, m, the count of rows and whether it is open"
+pub record Store : Type 0 where
+  pub counts : Record
+  pub literals : List ℕ
+  pub ends : List ℕ
+  pub images : List ℕ
+
+abbrev pub lent : Record → List ℕ → List ℕ → List ℕ → Store
+lent counts literals ends images = record { counts = counts; literals = literals; ends = ends; images = images }
+
+-- the ends never fall: each is at least the one before it, the first at least `from`
+unfoldable pub rising : ℕ → List ℕ → Bool
+rising from [] = true
+rising from (e ∷ ends) = leb from e && rising e ends
+
+-- the count of literals in use: the last clause's end, 0 where there is no clause
+unfoldable pub literalCount : ℕ → List ℕ → ℕ
+literalCount m ends = cond (eqb m 0) 0 (getD ends (m - 1) 0)
+
+-- the first k rows of n codes
+unfoldable pub rowsOf : ℕ → ℕ → List ℕ → List (List ℕ)
+rowsOf n zero images = []
+rowsOf n (suc k) images = take n images ∷ rowsOf n k (drop n images)
+
+-- the image of a variable: the code of a literal of 1..n, and one that is not negative
+unfoldable pub isImage : ℕ → ℕ → Bool
+isImage n code = isLiteral n code && not (isNegative code)
+
+-- a row: n images whose variables are all different, so a permutation of 1..n
+unfoldable pub isRow : ℕ → List ℕ → Bool
+isRow n row = eqb (length row) n && allOf (isImage n) row && distinct (map variableOf row)
+
+-- the opposite of 21: "a slice too short for the counts, ends that fall or pass the literals, a literal 0 or beyond n, a row that isn't a
+-- permutation, a count over its limit"
+unfoldable pub demands : Store → List Bool
+demands s =
+    let n = s .counts .variables in
+    let m = s .counts .clauses in
+    let rows = s .counts .rows in
+    let used = literalCount m (s .ends) in
+    leb n maxVariables
+    ∷ leb m maxClauses
+    ∷ leb rows maxRows
+    ∷ leb m (length (s .ends))
+    ∷ rising 0 (take m (s .ends))
+    ∷ leb used maxLiterals
+    ∷ leb used (length (s .literals))
+    ∷ allOf (isLiteral n) (take used (s .literals))
+    ∷ leb (rows * n) (length (s .images))
+    ∷ allOf (isRow n) (rowsOf n rows (s .images))
+    ∷ []
+
+unfoldable pub wellFormed : Store → Bool
+wellFormed s = allOf (λ b. b) (demands s)

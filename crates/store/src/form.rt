@@ -1,0 +1,150 @@
+// The one test of a store's form, the opposite of refusal 21: every call that needs an open store makes it first, and the functions below the
+// public calls rely on it. It looks only at the entries in use.
+ghost use mathlib.Core.Path.{_≡_};
+ghost use Prim.Native.Nat.{_*_, _≤_};
+ghost use lib.ListN.{length};
+ghost use Rattle.lists.specs.Tests.{allOf};
+ghost use Rattle.store.specs.Literals.{isLiteral};
+ghost use Rattle.store.specs.Stores.{lent, wellFormed, rising, literalCount, isImage, isRow, rowsOf, maxVariables};
+use crate::record::Record;
+
+pub fn well_formed(counts: Record, literals: &[u16], ends: &[u16], images: &[u16]) -> bool
+    ensures { λ r. ⌜ r ≡ wellFormed (lent counts (now (literals .entry)) (now (ends .entry)) (now (images .entry))) ⌝ }
+{
+    let n = counts.variables;
+    let m = counts.clauses;
+    let rows = counts.rows;
+    if Record::MAX_VARIABLES < n {
+        return false;
+    }
+    if Record::MAX_CLAUSES < m {
+        return false;
+    }
+    if Record::MAX_ROWS < rows {
+        return false;
+    }
+    if ends.len() < m {
+        return false;
+    }
+    if !ends_rise(&ends[..m]) {
+        return false;
+    }
+    let used = literal_count(ends, m);
+    if Record::MAX_LITERALS < used {
+        return false;
+    }
+    if literals.len() < used {
+        return false;
+    }
+    if !literals_within(&literals[..used], n) {
+        return false;
+    }
+    if images.len() < rows * n {
+        return false;
+    }
+    rows_formed(images, rows, n)
+}
+
+// The count of literals in use by m clauses.
+pub fn literal_count(ends: &[u16], m: usize) -> usize
+    requires { ⌜ m ≤ length (now ends) ⌝ }
+    ensures { λ r. ⌜ r ≡ literalCount m (now (ends .entry)) ⌝ }
+{
+    if m == 0 {
+        return 0;
+    }
+    ends[m - 1] as usize
+}
+
+// Whether a row is a permutation of the variables 1..n.
+pub fn is_row(row: &[u16], n: usize) -> bool
+    requires { ⌜ n ≤ maxVariables ⌝ }
+    ensures { λ r. ⌜ r ≡ isRow n (now (row .entry)) ⌝ }
+{
+    if row.len() != n {
+        return false;
+    }
+    let mut seen = [false; 513];
+    let mut i = 0;
+    while i < row.len() {
+        let code = row[i];
+        if !is_image(code, n) {
+            return false;
+        }
+        let v = (code / 2) as usize;
+        if seen[v] {
+            return false;
+        }
+        seen[v] = true;
+        i += 1;
+    }
+    true
+}
+
+// Whether each of the first `rows` rows of n images is one.
+fn rows_formed(images: &[u16], rows: usize, n: usize) -> bool
+    requires { ⌜ (n ≤ maxVariables) × (rows * n ≤ length (now images)) ⌝ }
+    ensures { λ r. ⌜ r ≡ allOf (isRow n) (rowsOf n rows (now (images .entry))) ⌝ }
+{
+    let mut r = 0;
+    let mut at = 0;
+    while r < rows {
+        let to = at + n;
+        if !is_row(&images[at..to], n) {
+            return false;
+        }
+        at = to;
+        r += 1;
+    }
+    true
+}
+
+fn ends_rise(ends: &[u16]) -> bool
+    ensures { λ r. ⌜ r ≡ rising 0 (now (ends .entry)) ⌝ }
+{
+    let mut i = 0;
+    let mut last = 0;
+    while i < ends.len() {
+        let end = ends[i];
+        if end < last {
+            return false;
+        }
+        last = end;
+        i += 1;
+    }
+    true
+}
+
+fn literals_within(literals: &[u16], n: usize) -> bool
+    ensures { λ r. ⌜ r ≡ allOf (isLiteral n) (now (literals .entry)) ⌝ }
+{
+    let mut i = 0;
+    while i < literals.len() {
+        if !is_literal(literals[i], n) {
+            return false;
+        }
+        i += 1;
+    }
+    true
+}
+
+// Whether a code is that of a literal of 1..n.
+fn is_literal(code: u16, n: usize) -> bool
+    ensures { λ r. ⌜ r ≡ isLiteral n code ⌝ }
+{
+    let v = (code / 2) as usize;
+    if v == 0 {
+        return false;
+    }
+    v <= n
+}
+
+// Whether a code can stand in a row: that of one of the variables 1..n itself.
+fn is_image(code: u16, n: usize) -> bool
+    ensures { λ r. ⌜ r ≡ isImage n code ⌝ }
+{
+    if code % 2 == 1 {
+        return false;
+    }
+    is_literal(code, n)
+}

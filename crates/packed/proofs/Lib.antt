@@ -1,0 +1,6 @@
+pub mod Bits
+pub mod Form
+pub mod Trips
+pub mod OrderLaws
+pub mod Differ
+pub mod Examples

@@ -12,7 +12,7 @@ use Rattle.packed.specs.Words.{bitsOf}
 abbrev pub valueOf : List Bool → ℕ → Bool
 valueOf a i = getD a (i - 1) false
 
--- the least variable, counted from i, at which two assignments differ; 0 where they are equal
+-- the least variable, counted from i, at which two assignments of one length differ; 0 where they are equal
 unfoldable pub differenceFrom : ℕ → List Bool → List Bool → ℕ
 differenceFrom i [] b = 0
 differenceFrom i (x ∷ a) [] = 0

@@ -1,3 +1,4 @@
 pub mod Literals
+pub mod Numerals
 pub mod Refusals
 pub mod Stores

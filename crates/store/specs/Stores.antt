@@ -4,6 +4,7 @@ use Prim.Native.Nat.{ℕ, zero, suc, _-_, _*_}
 use mathlib.Core.Bool.{Bool, true, false, cond, not, _&&_}
 use mathlib.Core.List.{List, [], _∷_, map}
 use lib.ListN.{length, getD, take, drop}
+use lib.Seq.{slice}
 use lib.Dec.{eqb, leb}
 use Rattle.lists.specs.Tests.{allOf, distinct}
 use Rattle.store.specs.Literals.{variableOf, isNegative, isLiteral}
@@ -50,6 +51,18 @@ literalCount m ends = cond (eqb m 0) 0 (getD ends (m - 1) 0)
 unfoldable pub rowsOf : ℕ → ℕ → List ℕ → List (List ℕ)
 rowsOf n zero images = []
 rowsOf n (suc k) images = take n images ∷ rowsOf n k (drop n images)
+
+-- the literals cut into clauses, the first from `from` on, each up to its end
+unfoldable pub cut : ℕ → List ℕ → List ℕ → List (List ℕ)
+cut from literals [] = []
+cut from literals (e ∷ ends) = slice from e literals ∷ cut e literals ends
+
+-- the plain formula that a store holds, and its rows
+unfoldable pub plainOf : Store → List (List ℕ)
+plainOf s = cut 0 (s .literals) (take (s .counts .clauses) (s .ends))
+
+unfoldable pub heldRows : Store → List (List ℕ)
+heldRows s = rowsOf (s .counts .variables) (s .counts .rows) (s .images)
 
 -- the image of a variable: the code of a literal of 1..n, and one that is not negative
 unfoldable pub isImage : ℕ → ℕ → Bool

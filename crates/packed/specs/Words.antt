@@ -9,6 +9,10 @@ use lib.Dec.{eqb}
 use Rattle.lists.specs.Tests.{allOf}
 use Rattle.lists.specs.Tables.{table}
 
+-- the most words that a comparison takes: "519 words (N is at most 33,216)"
+abbrev pub maxWords : ℕ
+maxWords = 519
+
 -- the bit of a word at place p, counted from the highest of 64
 unfoldable pub bitIn : ℕ → ℕ → Bool
 bitIn w p = eqb (w / 2 ^ (63 - p) % 2) 1

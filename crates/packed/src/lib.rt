@@ -5,8 +5,11 @@ ghost use mathlib.Core.Path.{_≡_};
 ghost use mathlib.Core.Bool.{Bool, true, false};
 ghost use Prim.Native.Nat.{_-_, _*_, _≤_};
 ghost use lib.ListN.{length};
-ghost use Rattle.packed.specs.Words.{bitAt, isAssignment};
+ghost use Rattle.packed.specs.Words.{maxWords, bitAt, isAssignment};
 ghost use Rattle.packed.specs.Order.{allBits, firstDifference, part, lesserOf};
+
+// The most words that a comparison takes: as many as hold the variables of the largest made formula.
+pub const MAX_WORDS: usize = 519;
 
 // The value of variable i.
 pub fn value(words: &[u64], i: usize) -> bool
@@ -36,7 +39,7 @@ pub fn is_assignment(words: &[u64], n: usize) -> bool
 
 // The variable at which two assignments of one length first differ, 0 where they are equal.
 pub fn first_difference(a: &[u64], b: &[u64]) -> usize
-    requires { ⌜ (length (now a) ≡ length (now b)) × (length (now a) ≤ 519) ⌝ }
+    requires { ⌜ (length (now a) ≡ length (now b)) × (length (now a) ≤ maxWords) ⌝ }
     ensures { λ r. ⌜ r ≡ firstDifference (allBits (now (a .entry))) (allBits (now (b .entry))) ⌝ }
 {
     let mut i = 0;

@@ -1,0 +1,16 @@
+-- The efficiency of symmetry breaking (document 01, "Quality figure and program"). Assumes nothing.
+use Prim.Native.Nat.{ℕ, _-_, _*_, _/_}
+use mathlib.Core.Bool.{Bool, not, _&&_}
+use lib.Dec.{eqb, leb}
+
+abbrev pub maxLabelled : ℕ
+maxLabelled = 1000000000000
+
+-- the opposite of 14: "Not unlabelled ≤ allowed ≤ labelled, or labelled = unlabelled, or labelled over 10^12"
+unfoldable pub hasEfficiency : ℕ → ℕ → ℕ → Bool
+hasEfficiency labelled unlabelled allowed =
+    leb unlabelled allowed && leb allowed labelled && not (eqb labelled unlabelled) && leb labelled maxLabelled
+
+-- "10,000 × (labelled - allowed) / (labelled - unlabelled), cut off downwards", in hundredths of a percent
+unfoldable pub efficiencyOf : ℕ → ℕ → ℕ → ℕ
+efficiencyOf labelled unlabelled allowed = 10000 * (labelled - allowed) / (labelled - unlabelled)

@@ -1,0 +1,486 @@
+"""Reference symmetry breaker: document 01 alone, written from the papers, naive on purpose.
+
+A call answers ('refused', number, place) or ('done', value...).  A call that may write lent memory returns that
+answer followed by the new contents of each thing it may write; nothing lent is ever changed in place.
+`lesser` and `new_record` can refuse nothing and return their value bare.
+Inside, a clause is a list of signed literals, a row is {i: p(i)} and an assignment is {variable: bool}.
+"""
+from __future__ import annotations
+
+import functools
+import inspect
+import re
+import sys
+from itertools import accumulate, islice
+from typing import Dict, Iterator, List, NamedTuple, Optional, Tuple
+
+MAX_VARIABLES, MAX_CLAUSES, MAX_LITERALS, MAX_ROWS = 512, 4096, 12288, 64
+MAX_COMPARED_WORDS, MAX_INPUT, MAX_LABELLED = 519, 65536, 10 ** 12
+
+Clause = List[int]
+Row = Dict[int, int]
+Assignment = Dict[int, bool]
+
+
+class Record(NamedTuple):
+    """"a small record of n, m, the count of rows and whether it is open"."""
+    variables: int
+    clauses: int
+    rows: int
+    open: bool
+
+
+class Refusal(Exception):
+    """"A refusal carries its number and a place inside the answer"."""
+
+    def __init__(self, number: int, place: int):
+        super().__init__(number, place)
+        self.answer = ("refused", number, place)
+
+
+def call(*written: str):
+    """"nothing else changes": a refusal hands the writable arguments back as they were lent."""
+    def wrap(body):
+        signature = inspect.signature(body)
+
+        @functools.wraps(body)
+        def answered(*given, **named):
+            lent = signature.bind(*given, **named).arguments
+            try:
+                return body(*given, **named)
+            except Refusal as refusal:
+                return (refusal.answer, *(lent[name] for name in written)) if written else refusal.answer
+        return answered
+    return wrap
+
+
+def overwritten(lent, new, at: int = 0):
+    """"entries past those then in use unchanged", "bytes past it stay", "Words after it stay"."""
+    return type(lent)([*lent[:at], *new, *lent[at + len(new):]])
+
+
+def words(text: bytes, start: int = 0) -> List[Tuple[int, bytes]]:
+    """"A word is a run of bytes other than space, tab and line feed", each with its offset."""
+    return [(found.start(), bytes(found.group())) for found in re.compile(rb"[^ \t\n]+").finditer(text, start)]
+
+
+def number_of(word: bytes) -> Optional[int]:
+    """"an optional - and one to six decimal digits, without leading zeros except 0 itself; -0 is no number"."""
+    return int(word) if re.fullmatch(rb"0|-?[1-9][0-9]{0,5}", word) else None
+
+
+def lines(text: bytes) -> List[Tuple[int, bytes]]:
+    """"A last line feed starts no further line": the lines without their line feeds, each with its offset."""
+    found, place = [], 0
+    for line in bytes(text).split(b"\n"):
+        found.append((place, line))
+        place += len(line) + 1
+    return found[:-1] if found[-1][1] == b"" else found
+
+
+def problem_line(text: bytes) -> Tuple[int, bytes]:
+    """"first line that doesn't start with c, or the text's length" (1)."""
+    for place, line in lines(text):
+        if not line.startswith(b"c"):
+            return place, line
+    raise Refusal(1, len(text))
+
+
+def problem_counts(place: int, line: bytes) -> Tuple[int, int]:
+    """"p cnf n m (that byte p first, four words, n and m not negative)" (1); "n or m over its limit" (2)."""
+    parts = [word for _, word in words(line)]
+    if not line.startswith(b"p") or len(parts) != 4 or parts[:2] != [b"p", b"cnf"]:
+        raise Refusal(1, place)
+    n, m = number_of(parts[2]), number_of(parts[3])
+    if n is None or m is None or n < 0 or m < 0:
+        raise Refusal(1, place)
+    if n > MAX_VARIABLES or m > MAX_CLAUSES:
+        raise Refusal(2, place)
+    return n, m
+
+
+def read_clauses(text: bytes, start: int, n: int, m: int) -> List[Clause]:
+    """"the first fault from the left counts, and at one word the lower number, but 6 goes before 3, 4 and 5"."""
+    closed, current, count = [], [], 0
+    for place, word in words(text, start):
+        number = number_of(word)
+        if len(closed) == m:
+            raise Refusal(6, place)
+        if number is None:
+            raise Refusal(3, place)
+        if abs(number) > n:
+            raise Refusal(4, place)
+        if number != 0 and count == MAX_LITERALS:
+            raise Refusal(5, place)
+        if number == 0:
+            closed.append(current)
+            current = []
+        else:
+            current.append(number)
+            count += 1
+    if len(closed) < m:
+        raise Refusal(6, len(text))
+    return closed
+
+
+def new_record() -> Record:
+    """"A new store starts closed"."""
+    return Record(0, 0, 0, False)
+
+
+@call("record", "literals", "ends")
+def open_formula(record, text: bytes, literals, ends):
+    """"Opening a formula replaces the old one and drops its rows"; "opening tries literals before ends" (23)."""
+    place, line = problem_line(text)
+    n, m = problem_counts(place, line)
+    formula = read_clauses(text, place + len(line), n, m)
+    codes = [literal_code(literal) for clause_ in formula for literal in clause_]
+    new_ends = list(accumulate(len(clause_) for clause_ in formula))
+    if len(literals) < len(codes):
+        raise Refusal(23, len(codes))
+    if len(ends) < m:
+        raise Refusal(23, m)
+    return ("done", n, m), Record(n, m, 0, True), overwritten(literals, codes), overwritten(ends, new_ends)
+
+
+def literal_code(literal: int) -> int:
+    """"Literal i means variable i is true, -i that it is false": codes 2i and 2i + 1."""
+    return 2 * literal if literal > 0 else 2 * -literal + 1
+
+
+def literal_of(code: int) -> int:
+    """"Literal i means variable i is true, -i that it is false": the signed literal of a code."""
+    return -(code // 2) if code % 2 else code // 2
+
+
+def badly_formed(record, literals, ends, images) -> bool:
+    """"a slice too short for the counts, ends that fall or pass the literals, a literal 0 or beyond n, .." (21)."""
+    n, m, rows = record.variables, record.clauses, record.rows
+    if n > MAX_VARIABLES or m > MAX_CLAUSES or rows > MAX_ROWS:
+        return True
+    if len(ends) < m or len(images) < rows * n:
+        return True
+    if any(ends[q] < ends[q - 1] for q in range(1, m)) or any(end > len(literals) for end in ends[:m]):
+        return True
+    used = ends[m - 1] if m > 0 else 0
+    if used > MAX_LITERALS or any(not 1 <= code // 2 <= n for code in literals[:used]):
+        return True
+    identity = [2 * i for i in range(1, n + 1)]
+    return any(sorted(images[r * n:(r + 1) * n]) != identity for r in range(rows))
+
+
+def require_store(record, literals, ends, images) -> None:
+    """"20. Not open. 21. Badly formed .. These have place 0 and come first, in this order"."""
+    if not record.open:
+        raise Refusal(20, 0)
+    if badly_formed(record, literals, ends, images):
+        raise Refusal(21, 0)
+
+
+def plain_clauses(record, literals, ends) -> List[Clause]:
+    """"literals in order, each clause's end (the count of literals up to it)"."""
+    starts = [0, *ends[:record.clauses]]
+    return [[literal_of(code) for code in literals[starts[q]:ends[q]]] for q in range(record.clauses)]
+
+
+def rows_of(record, images) -> List[Row]:
+    """"the images of the accepted permutations, one row of n each"."""
+    n = record.variables
+    return [{i: images[r * n + i - 1] // 2 for i in range(1, n + 1)} for r in range(record.rows)]
+
+
+def line_numbers(line: bytes, refusal: int) -> List[Tuple[int, int]]:
+    """"a word that is no number" (7 on the names line, 9 on a value line), tried over the whole line."""
+    found = [(place, number_of(word)) for place, word in words(line)]
+    for place, number in found:
+        if number is None:
+            raise Refusal(refusal, place)
+    return found
+
+
+def read_names(line: bytes, n: int) -> List[int]:
+    """"A name outside 1..n or repeated, or no name (place: length)" (8)."""
+    names: List[int] = []
+    for place, number in line_numbers(line, 7):
+        if not 1 <= number <= n or number in names:
+            raise Refusal(8, place)
+        names.append(number)
+    if not names:
+        raise Refusal(8, len(line))
+    return names
+
+
+def read_values(line: bytes, names: List[int]) -> List[int]:
+    """"A value that isn't a name or is repeated, or too few (place: length)" (10)."""
+    values: List[int] = []
+    for place, number in line_numbers(line, 9):
+        if number not in names or number in values:
+            raise Refusal(10, place)
+        values.append(number)
+    if len(values) < len(names):
+        raise Refusal(10, len(line))
+    return values
+
+
+def stated_row(n: int, names: List[int], values: List[int]) -> Row:
+    """"Name i goes to its value p(i); variables not named stay"."""
+    row = {i: i for i in range(1, n + 1)}
+    row.update(zip(names, values))
+    return row
+
+
+def image(clause_: frozenset, row: Row) -> frozenset:
+    """"A clause's image replaces each variable i by p(i) and keeps signs"."""
+    return frozenset(row[literal] if literal > 0 else -row[-literal] for literal in clause_)
+
+
+def require_symmetry(formula: List[Clause], row: Row) -> None:
+    """"p is a symmetry when the set of images equals the set of clauses"; else 11 at the first missing image."""
+    sets = [frozenset(clause_) for clause_ in formula]
+    clause_set, image_set = set(sets), {image(clause_, row) for clause_ in sets}
+    if image_set != clause_set:
+        raise Refusal(11, [image(clause_, row) in clause_set for clause_ in sets].index(False) + 1)
+
+
+@call("record", "images")
+def offer(record, literals, ends, images, names: bytes, values: bytes):
+    """"An offer tries 7, 8, 9, 10, 11 in that order, each over its whole line"; 20, 21, 22 before, 23 last."""
+    require_store(record, literals, ends, images)
+    n, held = record.variables, record.rows
+    if held == MAX_ROWS:
+        raise Refusal(22, 0)
+    named = read_names(names, n)
+    row = stated_row(n, named, read_values(values, named))
+    require_symmetry(plain_clauses(record, literals, ends), row)
+    if len(images) < (held + 1) * n:
+        raise Refusal(23, (held + 1) * n)
+    codes = [2 * row[i] for i in range(1, n + 1)]
+    return ("done",), record._replace(rows=held + 1), overwritten(images, codes, held * n)
+
+
+def moved_variables(row: Row) -> List[int]:
+    """"An accepted row has moved variables x1 < .. < xk"."""
+    return [i for i in sorted(row) if row[i] != i]
+
+
+def auxiliaries(row: Row) -> int:
+    """"It adds k-1 auxiliaries"; "The identity adds nothing"."""
+    return max(len(moved_variables(row)) - 1, 0)
+
+
+def row_clauses(row: Row, last: int) -> Iterator[Clause]:
+    """"six clauses for each auxiliary j, written in this order", numbered on from `last`."""
+    xs = [0, *moved_variables(row)]
+    for j in range(1, len(xs) - 1):
+        x, y, e, before = xs[j], row[xs[j]], last + j, last + j - 1
+        x_next, y_next = xs[j + 1], row[xs[j + 1]]
+        yield [-x, y] if j == 1 else [-e, before]
+        yield [-e, -x, y]
+        yield [-e, x, -y]
+        yield [e, x, y] if j == 1 else [e, -before, x, y]
+        yield [e, -x, -y] if j == 1 else [e, -before, -x, -y]
+        yield [-e, -x_next, y_next]
+
+
+def made_formula(record, literals, ends, images) -> Iterator[Clause]:
+    """"The first m clauses are the plain ones, then each row's in order of acceptance"."""
+    yield from plain_clauses(record, literals, ends)
+    last = record.variables
+    for row in rows_of(record, images):
+        yield from row_clauses(row, last)
+        last += auxiliaries(row)
+
+
+def made_counts(record, images) -> Tuple[int, int]:
+    """"N = n + the sum of (k-1) over the rows that move something, and M = m + 6 times that sum"."""
+    added = sum(auxiliaries(row) for row in rows_of(record, images))
+    return record.variables + added, record.clauses + 6 * added
+
+
+def header_line(record, images) -> bytes:
+    """"Header line: p cnf N M"."""
+    return b"p cnf %d %d\n" % made_counts(record, images)
+
+
+def clause_line(clause_: Clause) -> bytes:
+    """"literals as read, one space between, ` 0` and a line feed; an empty clause's line is 0 alone"."""
+    return " ".join(map(str, [*clause_, 0])).encode() + b"\n"
+
+
+def made_text(record, literals, ends, images) -> bytes:
+    """"the text written is exactly the plain formula followed by the documented clauses": header and all lines."""
+    return header_line(record, images) + b"".join(map(clause_line, made_formula(record, literals, ends, images)))
+
+
+def write_line(line: bytes, out):
+    """"each returning its byte length; bytes past it stay"; "An output slice too short" (23)."""
+    if len(out) < len(line):
+        raise Refusal(23, len(line))
+    return ("done", len(line)), overwritten(out, line)
+
+
+@call("out")
+def header(record, literals, ends, images, out):
+    """"Header and clause q (1 to M) are written by separate calls": the header's."""
+    require_store(record, literals, ends, images)
+    return write_line(header_line(record, images), out)
+
+
+@call("out")
+def clause(record, literals, ends, images, q: int, out):
+    """"Header and clause q (1 to M) are written by separate calls"; "Clause number 0 or above M" (13)."""
+    require_store(record, literals, ends, images)
+    if not 1 <= q <= made_counts(record, images)[1]:
+        raise Refusal(13, 0)
+    return write_line(clause_line(next(islice(made_formula(record, literals, ends, images), q - 1, None))), out)
+
+
+def bits(words_: List[int]) -> List[bool]:
+    """"variable 1 is the highest bit of the first word, 1 is true"."""
+    return [digit == "1" for word in words_ for digit in format(word, "064b")]
+
+
+def word_count(n: int) -> int:
+    """"the count of words is just enough"."""
+    return (n + 63) // 64
+
+
+def assignment_of(words_: List[int], n: int) -> Assignment:
+    """"An assignment of the wrong length or with a spare bit set; place 0" (12)."""
+    if len(words_) != word_count(n) or any(bits(words_)[n:]):
+        raise Refusal(12, 0)
+    return dict(enumerate(bits(words_)[:n], 1))
+
+
+def words_of(a: Assignment) -> List[int]:
+    """"An assignment is lent as 64-bit words .. spare low bits are 0"."""
+    digits = "".join("1" if a[i] else "0" for i in sorted(a))
+    return [int(digits[start:start + 64].ljust(64, "0"), 2) for start in range(0, len(digits), 64)]
+
+
+def first_difference(a: Assignment, b: Assignment) -> int:
+    """"the variable at which two assignments first differ .. or 0 when equal"."""
+    return min((i for i in a if a[i] != b[i]), default=0)
+
+
+def less(a: Assignment, b: Assignment) -> bool:
+    """"A < B when A has 0 and B has 1 at the variable at which two assignments first differ"."""
+    i = first_difference(a, b)
+    return i != 0 and not a[i] and b[i]
+
+
+@call()
+def compare(a: List[int], b: List[int]):
+    """"one call gives that variable, or 0 when equal, and refuses unequal lengths or more than 519 words"."""
+    if len(a) != len(b) or len(a) > MAX_COMPARED_WORDS:
+        raise Refusal(12, 0)
+    return "done", first_difference(dict(enumerate(bits(a), 1)), dict(enumerate(bits(b), 1)))
+
+
+def lesser(a: List[int], b: List[int]) -> str:
+    """"the first when equal, the empty beginning of the first when lengths differ"."""
+    if len(a) != len(b):
+        return "empty"
+    return "second" if less(dict(enumerate(bits(b), 1)), dict(enumerate(bits(a), 1))) else "first"
+
+
+def moved(row: Row, a: Assignment) -> Assignment:
+    """"A moved by p has, at variable i, the value A(p(i))"."""
+    return {i: a[row[i]] for i in a}
+
+
+def lowers(row: Row, a: Assignment) -> bool:
+    """"p carries A to that, and makes A smaller when that is < A"."""
+    return less(moved(row, a), a)
+
+
+def true_clause(clause_: Clause, a: Assignment) -> bool:
+    """"every clause has a true literal"."""
+    return any(a[abs(literal)] == (literal > 0) for literal in clause_)
+
+
+def filled_in(record, images, a: Assignment) -> Assignment:
+    """"A itself, and ej true exactly when A agrees with A moved by p on x1 .. xj"."""
+    full, last = dict(a), record.variables
+    for row in rows_of(record, images):
+        xs, carried = moved_variables(row), moved(row, a)
+        for j in range(1, len(xs)):
+            full[last + j] = all(a[x] == carried[x] for x in xs[:j])
+        last += auxiliaries(row)
+    return full
+
+
+@call("out_words")
+def fill_in(record, literals, ends, images, a: List[int], out_words):
+    """"Filling in writes an assignment of 1..N .. Words after it stay"."""
+    require_store(record, literals, ends, images)
+    filled = words_of(filled_in(record, images, assignment_of(a, record.variables)))
+    if len(out_words) < len(filled):
+        raise Refusal(23, len(filled))
+    return ("done", len(filled)), overwritten(out_words, filled)
+
+
+@call()
+def check(record, literals, ends, images, a: List[int]):
+    """"answers yes, or the first clause of the made formula that an assignment of 1..N makes false"."""
+    require_store(record, literals, ends, images)
+    full = assignment_of(a, made_counts(record, images)[0])
+    false = (q for q, clause_ in enumerate(made_formula(record, literals, ends, images), 1)
+             if not true_clause(clause_, full))
+    return "done", next(false, 0)
+
+
+@call("a")
+def descend(record, literals, ends, images, a: List[int], limit: int):
+    """"Descent takes the first row by which A moved is < A, puts that in A, and goes on"; settled or spent."""
+    require_store(record, literals, ends, images)
+    reached, rows, moves = assignment_of(a, record.variables), rows_of(record, images), 0
+    while True:
+        lowering = next((row for row in rows if lowers(row, reached)), None)
+        if lowering is None:
+            return ("done", "settled", moves), words_of(reached)
+        if moves == limit:
+            return ("done", "spent", moves), words_of(reached)
+        reached, moves = moved(lowering, reached), moves + 1
+
+
+@call()
+def efficiency(labelled: int, unlabelled: int, allowed: int):
+    """"10,000 x (labelled - allowed) / (labelled - unlabelled), cut off downwards"; 14."""
+    if not unlabelled <= allowed <= labelled or labelled == unlabelled or labelled > MAX_LABELLED:
+        raise Refusal(14, 0)
+    return "done", 10000 * (labelled - allowed) // (labelled - unlabelled)
+
+
+def split_input(data: bytes) -> Tuple[bytes, List[bytes]]:
+    """"formula text (all before the first line that is just %), that line, the names line, value lines" (15)."""
+    found = lines(data)
+    marks = [index for index, (_, line) in enumerate(found) if line == b"%"]
+    if len(data) > MAX_INPUT or not marks:
+        raise Refusal(15, 0)
+    return data[:found[marks[0]][0]], [line for _, line in found[marks[0] + 1:]]
+
+
+def run(data: bytes) -> bytes:
+    """"It offers all, then prints the made formula"; "without value lines nothing is offered"."""
+    text, after = split_input(data)
+    literals, ends, images = [0] * MAX_LITERALS, [0] * MAX_CLAUSES, [0] * (MAX_ROWS * MAX_VARIABLES)
+    answer, record, literals, ends = open_formula(new_record(), text, literals, ends)
+    for values in after[1:]:
+        if answer[0] == "done":
+            answer, record, images = offer(record, literals, ends, images, after[0], values)
+    if answer[0] == "refused":
+        raise Refusal(*answer[1:])
+    return made_text(record, literals, ends, images)
+
+
+def program(data: bytes) -> bytes:
+    """"or only the line refused NUMBER WHERE at the first refusal, WHERE being its place"."""
+    try:
+        return run(data)
+    except Refusal as refusal:
+        return b"refused %d %d\n" % refusal.answer[1:]
+
+
+if __name__ == "__main__":
+    sys.stdout.buffer.write(program(sys.stdin.buffer.read(MAX_INPUT + 1)))

@@ -1,0 +1,439 @@
+"""Tests of the reference: the worked cases of 01, the examples of the readings A-H, demand 3 by brute force."""
+import copy
+import itertools
+import random
+import unittest
+
+import reference as ref
+
+LISTING = b"p cnf 3 2\n1 2 0\n2 3 0\n"
+TOP = 2 ** 64 - 1
+
+
+class Host:
+    """A store with slices of its own; every call is checked to change nothing in place, and nothing when refused."""
+
+    def __init__(self, text=LISTING, literals=64, ends=64, images=256):
+        self.record, self.images = ref.new_record(), [7] * images
+        self.answer, self.record, self.literals, self.ends = call(
+            ref.open_formula, self.record, text, [9] * literals, [8] * ends, written=(0, 2, 3))
+
+    @property
+    def store(self):
+        return self.record, self.literals, self.ends, self.images
+
+    def offer(self, names, values):
+        answer, self.record, self.images = call(ref.offer, *self.store, names, values, written=(0, 3))
+        return answer
+
+    def with_rows(self, *rows):
+        """Hold these rows, symmetries or not."""
+        n = self.record.variables
+        self.record = self.record._replace(rows=len(rows))
+        self.images = [2 * value for row in rows for value in row] + self.images
+        assert all(sorted(row) == list(range(1, n + 1)) for row in rows)
+        return self
+
+
+def call(function, *lent, written):
+    """Call and check: nothing lent changes in place, a refusal returns it all unchanged."""
+    before = [copy.copy(part) for part in lent]
+    answer, *after = function(*lent)
+    assert list(lent) == before, "changed in place"
+    assert len(after) == len(written)
+    if answer[0] == "refused":
+        assert after == [before[index] for index in written], "a refusal changed something"
+    return (answer, *after)
+
+
+def words(digits):
+    """'101' as lent words."""
+    return ref.words_of({i: digit == "1" for i, digit in enumerate(digits, 1)})
+
+
+def digits(words_, n):
+    return "".join("1" if bit else "0" for bit in ref.bits(words_)[:n])
+
+
+def opening(text, literals=13000, ends=5000):
+    return ref.open_formula(ref.new_record(), text, [0] * literals, [0] * ends)[0]
+
+
+def descend(box, a, limit=TOP):
+    answer, reached = call(ref.descend, *box.store, words(a), limit, written=(4,))
+    return answer, digits(reached, len(a))
+
+
+def fill_in(box, a, room=1):
+    return call(ref.fill_in, *box.store, words(a), [TOP] * room, written=(5,))
+
+
+class WorkedCases(unittest.TestCase):
+    """01, "Tried on both edges" and the listing."""
+
+    def test_offers(self):
+        cases = [(b"1 3", b"3 1", ("done",)), (b"1 2", b"2 1", ("refused", 11, 2)), (b"1 3", b"3", ("refused", 10, 1)),
+                 (b"1 3", b"3 3", ("refused", 10, 2)), (b"1 1", b"", ("refused", 8, 2)), (b"4", b"", ("refused", 8, 0))]
+        for names, values, answer in cases:
+            box = Host()
+            self.assertEqual(box.offer(names, values), answer)
+            accepted = answer == ("done",)
+            self.assertEqual(box.record, ref.Record(3, 2, int(accepted), True))
+            self.assertEqual(box.images, ([6, 4, 2] if accepted else [7] * 3) + [7] * 253)
+
+    def test_descent_and_filling_in(self):
+        box = Host().with_rows((3, 2, 1))
+        self.assertEqual(descend(box, "110"), (("done", "settled", 1), "011"))
+        self.assertEqual(descend(box, "110", 0), (("done", "spent", 0), "110"))
+        self.assertEqual(descend(box, "011", 0), (("done", "settled", 0), "011"))
+        for a, full in ("101", "1011"), ("011", "0110"):
+            answer, out = fill_in(box, a, 3)
+            self.assertEqual((answer, out), (("done", 1), [*words(full), TOP, TOP]))
+        self.assertEqual(fill_in(box, "011", 0), (("refused", 23, 1), []))
+        turned = Host(b"p cnf 3 1\n1 2 3 0\n")
+        self.assertEqual(turned.offer(b"1 2 3", b"2 3 1"), ("done",))
+        self.assertEqual(descend(turned, "100"), (("done", "settled", 1), "001"))
+        self.assertEqual(descend(turned, "010"), (("done", "settled", 0), "010"))
+
+    def test_efficiency(self):
+        cases = [((25, 6, 8), 8947), ((29281, 302, 1024), 9750), ((10 ** 12, 0, 0), 10000), ((5, 4, 5), 0),
+                 ((20001, 1, 20000), 0), ((20001, 1, 19998), 1)]
+        for figures, answer in cases:
+            self.assertEqual(ref.efficiency(*figures), ("done", answer))
+        for figures in (3, 3, 3), (5, 4, 3), (5, 2, 6), (10 ** 12 + 1, 0, 0), (0, 0, 0), (2, TOP, TOP), (TOP, 0, 1):
+            self.assertEqual(ref.efficiency(*figures), ("refused", 14, 0))
+
+    def test_edges_of_the_text(self):
+        self.assertEqual(opening(b"p cnf 512 4096\n" + b"0 " * 4096), ("done", 512, 4096))
+        self.assertEqual(opening(b"c\np cnf 513 0"), ("refused", 2, 2))
+        self.assertEqual(opening(b"p cnf 1 4097"), ("refused", 2, 0))
+        self.assertEqual(opening(b"p cnf 0 0"), ("done", 0, 0))
+        self.assertEqual(opening(b"p cnf 1 1\n-0 0"), ("refused", 3, 10))
+
+    def test_row_64(self):
+        box = Host()
+        for _ in range(64):
+            self.assertEqual(box.offer(b"3 1", b"1 3"), ("done",))
+        self.assertEqual(box.offer(b"x", b"y"), ("refused", 22, 0))
+        self.assertEqual(ref.made_counts(box.record, box.images), (67, 2 + 6 * 64))
+
+    def test_listing(self):
+        made = (b"p cnf 4 8\n1 2 0\n2 3 0\n-1 3 0\n-4 -1 3 0\n-4 1 -3 0\n4 1 3 0\n4 -1 -3 0\n-4 -3 1 0\n")
+        self.assertEqual(ref.program(LISTING + b"%\n1 3\n3 1\n"), made)
+        self.assertEqual(ref.program(LISTING + b"%\n1 3\n3 1"), made)
+
+
+class OpeningReadings(unittest.TestCase):
+    """Readings A and B."""
+
+    def test_numbers(self):
+        for word in b"-0", b"00", b"-00", b"01", b"+1", b"1000000", b"-", b"--1", b"1\r", b"\x80", b"\0", b"1_0":
+            self.assertIsNone(ref.number_of(word))
+        for number in 0, 1, -1, 10, 999999, -999999:
+            self.assertEqual(ref.number_of(b"%d" % number), number)
+
+    def test_places(self):
+        cases = {
+            b"": (1, 0), b"c x\n": (1, 4), b"c x": (1, 3), b"c\n\np cnf 0 0": (1, 2), b"p cnf 1 1\r\n1 0": (1, 0),
+            b"p cnf 1000000 0": (1, 0), b"p cnf 513 x": (1, 0), b"p cnf 0512 0": (1, 0), b"p cnf -0 0": (1, 0),
+            b"p cnf 1 -1": (1, 0), b"p cnf 999999 0": (2, 0), b" p cnf 0 0": (1, 0), b"pcnf 0 0": (1, 0),
+            b"p cnf 0 0 0": (1, 0), b"p cnf 1 1 1 0": (1, 0), b"p cnf 1\n1\n0": (1, 0), b"p cnf 0 0 c x": (1, 0),
+            b"px cnf 0 0": (1, 0), b"c\rc\np cnff 0 0": (1, 4), b"p cnf 1 1\n1 0\r": (3, 12),
+            b"p cnf 1 1\n c x": (3, 11), b"p cnf 1 1\nc x\n1 0": (3, 10), b"p cnf 1 1\n1 0\nc": (6, 14),
+            b"p cnf 3 1\n-4 0": (4, 10), b"p cnf 0 1\n1 0": (4, 10), b"p cnf 3 1\n1 2": (6, 13),
+            b"p cnf 3 1\n1 2 \n": (6, 15), b"p cnf 3 0\nx": (6, 10), b"p cnf 3 0\n4": (6, 10),
+            b"p cnf 3 0 \n 0": (6, 12), b"p cnf 3 1": (6, 9), b"p cnf 3 1\n999999 0": (4, 10),
+            b"p cnf 3 1\n1000000 0": (3, 10)}
+        for text, refusal in cases.items():
+            self.assertEqual(opening(text), ("refused", *refusal), text)
+        for text in (b"p\tcnf  0 0 \t\n\n \t\n", b"cnf 3 2\ncp cnf 0 0\ncomment\r\np cnf 0 0",
+                     b"p cnf 1 2 \n\n0 -1 1\n\n1\n0"):
+            self.assertEqual(opening(text)[0], "done", text)
+
+    def test_literal_12289(self):
+        full = b"p cnf 1 2\n" + b"1 " * 12288
+        for tail, refusal in (b"1", 5), (b"2", 4), (b"x", 3), (b"-1", 5), (b"0 0 x", 6):
+            place = len(full) + (4 if refusal == 6 else 0)
+            self.assertEqual(opening(full + tail), ("refused", refusal, place))
+        self.assertEqual(opening(full + b"0 0"), ("done", 1, 2))
+        self.assertEqual(opening(full + b"0 1 0"), ("refused", 5, len(full) + 2))
+
+    def test_slices(self):
+        self.assertEqual(opening(LISTING, 3, 1), ("refused", 23, 4))
+        self.assertEqual(opening(LISTING, 4, 1), ("refused", 23, 2))
+        box = Host().with_rows((1, 2, 3))
+        answer, record, literals, ends = call(
+            ref.open_formula, box.record, b"p cnf 2 2 -1 2", box.literals, box.ends, written=(0, 2, 3))
+        self.assertEqual((answer, record.rows), (("refused", 1, 0), 1))
+        answer, record, literals, ends = call(
+            ref.open_formula, box.record, b"p cnf 2 2\n0 -1 0", [9] * 3, [8] * 3, written=(0, 2, 3))
+        self.assertEqual((record, literals, ends), (ref.Record(2, 2, 0, True), [3, 9, 9], [0, 1, 8]))
+        self.assertEqual(ref.plain_clauses(record, literals, ends), [[], [-1]])
+
+
+class OfferReadings(unittest.TestCase):
+    """Readings C."""
+
+    def test_places(self):
+        cases = [(b"4 x", b"", 7, 2), (b"1 3\r", b"", 7, 2), (b"4", b"x", 8, 0), (b"1 3", b"3 3 x", 9, 4),
+                 (b"  ", b"x", 8, 2), (b"", b"", 8, 0), (b"1 3", b"2", 10, 0), (b"1 3", b"3 1 2", 10, 4),
+                 (b"1 3", b" 3\t", 10, 3), (b"-1", b"", 8, 0), (b"1 0", b"", 8, 2), (b"1 3", b"-3 1", 10, 0),
+                 (b"1 3", b"0 1", 10, 0), (b"999999", b"", 8, 0), (b"1000000", b"", 7, 0), (b"1 2 3", b"2 3 1", 11, 2)]
+        for names, values, number, place in cases:
+            self.assertEqual(Host().offer(names, values), ("refused", number, place), (names, values))
+        self.assertEqual(Host().offer(b"1\n3", b"\t3\n1 "), ("done",))
+        self.assertEqual(Host().offer(b"2", b"2"), ("done",))
+        for names in b"x", b"1", b"":
+            self.assertEqual(Host(b"p cnf 0 0").offer(names, b"")[1], 7 if names == b"x" else 8)
+
+    def test_clause_sets_and_repeats(self):
+        box = Host(b"p cnf 3 5\n3 1 1 0 2 0 -2 2 0 1 3 0 0")
+        for _ in range(2):
+            self.assertEqual(box.offer(b"1 3", b"3 1"), ("done",))
+        self.assertEqual(box.offer(b"1 2", b"2 1"), ("refused", 11, 1))
+        self.assertEqual(box.offer(b"1", b"1"), ("done",))
+        self.assertEqual([c for c in ref.made_formula(*box.store)][5::6], [[-1, 3], [-1, 3]])
+        self.assertEqual(ref.made_counts(box.record, box.images), (5, 17))
+        self.assertEqual(Host(b"p cnf 2 3\n2 1 0 1 0 1 1 0").offer(b"1 2", b"2 1"), ("refused", 11, 2))
+
+    def test_room(self):
+        box = Host(images=5)
+        self.assertEqual(box.offer(b"1 3", b"3 1"), ("done",))
+        self.assertEqual(box.offer(b"1 3", b"3 1"), ("refused", 23, 6))
+        self.assertEqual(box.offer(b"1 2", b"2 1"), ("refused", 11, 2))
+
+
+class StoreReadings(unittest.TestCase):
+    """Readings D: 20 and 21 in every call that needs an open store, entries past those in use not looked at."""
+
+    def answers(self, record, literals, ends, images):
+        store, lent = (record, literals, ends, images), [5] * 600
+        return [call(ref.offer, *store, b"x", b"", written=(0, 3))[0], call(ref.header, *store, [], written=(4,))[0],
+                call(ref.clause, *store, 0, [], written=(5,))[0], call(ref.fill_in, *store, lent, [], written=(5,))[0],
+                ref.check(*store, lent), call(ref.descend, *store, lent, 0, written=(4,))[0]]
+
+    def test_refusals(self):
+        good = ref.Record(3, 2, 1, True), [2, 4, 4, 6, 0], [2, 4, 0], [6, 4, 2, 1]
+        self.assertEqual([a[1] for a in self.answers(*good)], [7, 23, 13, 12, 12, 12])
+        variants = [(0, good[0]._replace(variables=513)), (0, good[0]._replace(variables=TOP)),
+                    (0, good[0]._replace(clauses=4097)), (0, good[0]._replace(clauses=TOP)),
+                    (0, good[0]._replace(rows=65)), (0, good[0]._replace(rows=TOP)), (0, good[0]._replace(clauses=3)),
+                    (0, good[0]._replace(rows=2)), (0, good[0]._replace(variables=2)), (1, [2, 4, 4]), (2, [2]),
+                    (2, [3, 2]), (2, [2, 5]), (2, [65535, 4]), (3, [6, 4]), (3, [6, 4, 3]), (3, [6, 6, 2]),
+                    (3, [0, 4, 2]), (3, [6, 4, 8]), (1, [0, 4, 4, 6]), (1, [1, 4, 4, 6]),
+                    (1, [8, 4, 4, 6]), (1, [9, 4, 4, 6])]
+        for index, bad in variants:
+            store = [bad if place == index else part for place, part in enumerate(good)]
+            self.assertEqual(self.answers(*store), [("refused", 21, 0)] * 6, (index, bad))
+            store[0] = store[0]._replace(open=False)
+            self.assertEqual(self.answers(*store), [("refused", 20, 0)] * 6)
+        self.assertEqual(self.answers(ref.new_record(), [], [], []), [("refused", 20, 0)] * 6)
+
+    def test_literal_count(self):
+        for count, refused in (12288, False), (12289, True):
+            self.assertEqual(ref.badly_formed(ref.Record(1, 1, 0, True), [2] * count, [count], []), refused)
+
+    def test_no_variables(self):
+        store = ref.Record(0, 1, 64, True), [], [0], []
+        self.assertEqual(ref.made_text(*store), b"p cnf 0 1\n0\n")
+        self.assertEqual(ref.check(*store, []), ("done", 1))
+        self.assertEqual(ref.descend(*store, [], 0), (("done", "settled", 0), []))
+        self.assertEqual(ref.fill_in(*store, [], [5]), (("done", 0), [5]))
+
+
+class WritingAndAssignments(unittest.TestCase):
+    """Readings E and F, and the figures at the limits."""
+
+    def test_calls_write_the_text(self):
+        box = Host(b"p cnf 4 4\n3 1 1 0 0 -2 2 0 2 4 0").with_rows((3, 4, 1, 2), (1, 2, 3, 4), (2, 3, 4, 1))
+        lines = ref.made_text(*box.store).splitlines(keepends=True)
+        self.assertEqual(lines[:6], [b"p cnf 10 40\n", b"3 1 1 0\n", b"0\n", b"-2 2 0\n", b"2 4 0\n", b"-1 3 0\n"])
+        self.assertEqual(lines[5 + 18:][:12:6], [b"-1 2 0\n", b"-9 8 0\n"])
+        self.assertEqual(lines[11:17], [b"-6 5 0\n", b"-6 -2 4 0\n", b"-6 2 -4 0\n", b"6 -5 2 4 0\n", b"6 -5 -2 -4 0\n",
+                                        b"-6 -3 1 0\n"])
+        for q, line in enumerate(lines):
+            for room in len(line) - 1, len(line), len(line) + 2:
+                out, tail = bytearray(b"#" * room), (q,) if q else ()
+                answer, after = call(ref.clause if q else ref.header, *box.store, *tail, out, written=(4 + len(tail),))
+                enough = room >= len(line)
+                self.assertEqual(answer, ("done", len(line)) if enough else ("refused", 23, len(line)))
+                self.assertEqual(after, line + b"#" * (room - len(line)) if enough else out)
+        for q in 0, 41, TOP:
+            self.assertEqual(ref.clause(*box.store, q, [])[0], ("refused", 13, 0))
+
+    def test_comparison(self):
+        self.assertEqual(ref.compare([], []), ("done", 0))
+        self.assertEqual(ref.compare([5, TOP], [5, TOP - 1]), ("done", 128))
+        self.assertEqual(ref.compare([0] * 519, [0] * 518 + [1]), ("done", 33216))
+        for a, b in ([0] * 520, [0] * 520), ([0], []):
+            self.assertEqual(ref.compare(a, b), ("refused", 12, 0))
+        for a, b, which in ([], [], "first"), ([1], [1], "first"), ([1], [2], "first"), ([3], [2], "second"), \
+                ([], [1], "empty"), ([1] * 600, [1] * 599 + [0], "second"), ([0] * 600, [0], "empty"):
+            self.assertEqual(ref.lesser(a, b), which)
+
+    def test_descent_starts_again_at_the_first_row(self):
+        box = Host(b"p cnf 4 0").with_rows((1, 2, 4, 3), (2, 3, 1, 4))
+        self.assertEqual(descend(box, "1100"), (("done", "settled", 3), "0011"))
+        self.assertEqual(descend(box, "1100", 2)[0], ("done", "spent", 2))
+        self.assertEqual(descend(box, "1100", 3)[0], ("done", "settled", 3))
+        box = Host(b"p cnf 4 0").with_rows((1, 3, 4, 2), (3, 1, 2, 4))
+        self.assertEqual(descend(box, "1110"), (("done", "settled", 2), "1011"))
+
+    def test_form_of_assignments(self):
+        box = Host().with_rows((3, 2, 1))
+        for a in [], [0, 0], [1], [1 << 60]:
+            self.assertEqual(ref.descend(*box.store, a, 0), (("refused", 12, 0), a))
+            self.assertEqual(ref.fill_in(*box.store, a, []), (("refused", 12, 0), []))
+        self.assertEqual(ref.check(*box.store, [1 << 59]), ("refused", 12, 0))
+        for full, answer in ("0110", 0), ("0010", 1), ("0111", 5), ("1011", 0), ("1010", 7), ("1100", 3):
+            self.assertEqual(ref.check(*box.store, words(full)), ("done", answer), full)
+
+    def test_limits(self):
+        n = 512
+        text = b"p cnf 512 4096\n" + b"".join(b"%d %d %d 0\n" % (i, -i, i) for i in range(1, n + 1)) * 8
+        box = Host(text, 12288, 4096, 64 * n)
+        names = b" ".join(b"%d" % i for i in range(1, n + 1))
+        for turn in range(1, 65):
+            self.assertEqual(box.offer(names, b" ".join(b"%d" % ((i + turn) % n + 1) for i in range(n))), ("done",))
+        self.assertEqual(call(ref.header, *box.store, [0] * 19, written=(4,))[1], list(b"p cnf 33216 200320\n"))
+        self.assertEqual(sum(1 for _ in ref.made_formula(*box.store)), 200320)
+        self.assertEqual(call(ref.clause, *box.store, 200320, [0] * 18, written=(5,))[0], ("done", 17))
+        for a in "0" * n, "1" * n, "0" * 256 + "1" * 256:
+            answer, out = fill_in(box, a, 519)
+            self.assertEqual((answer, ref.check(*box.store, out)), (("done", 519), ("done", 0)))
+        answer, reached = descend(box, "1" + "0" * 511)
+        self.assertEqual((answer[1], reached), ("settled", "0" * 511 + "1"))
+
+
+class ProgramReadings(unittest.TestCase):
+    """Readings H."""
+
+    def test_runs(self):
+        plain = LISTING
+        cases = {
+            b"": b"15 0", LISTING: b"15 0", LISTING + b"% \n": b"15 0", LISTING + b" %\n": b"15 0", b"%%": b"15 0",
+            LISTING + b"%\r\n": b"15 0", b"%": b"1 0", b"c\n%\n": b"1 2", b"p cnf 3 1\n1\n%": b"6 12",
+            LISTING + b"%\n1 3\n%\n": b"9 0", LISTING + b"%\n%\n1": b"7 0", LISTING + b"%\n\n1\n": b"8 0",
+            LISTING + b"%\n1 3\n3 1\n\n": b"10 0", LISTING + b"%\n1 3\n\n": b"10 0", LISTING + b"%\n1 2\n2 1": b"11 2",
+            LISTING + b"%\n1 3\n" + b"3 1\n" * 65: b"22 0", LISTING + b"%\n1 3\n3 1\n3 3\n": b"10 2",
+            LISTING + b"%\n" + b"x" * 65536: b"15 0"}
+        for data, refusal in cases.items():
+            self.assertEqual(ref.program(data), b"refused " + refusal + b"\n", data[:40])
+        room = 65536 - len(plain) - 2
+        for tail in b"%", b"%\n", b"%\nrubbish", b"%\nrubbish\n", b"%\n\n", b"%\n" + b"x" * room:
+            self.assertEqual(ref.program(LISTING + tail), plain)
+        self.assertEqual(ref.program(b"c\np cnf 2 2\n0 2\n 2 -1 0\n%\n2\n2"), b"p cnf 2 2\n0\n2 2 -1 0\n")
+
+
+def models(formula, a, free):
+    """All extensions of `a` by the variables `free` that make every clause true, by plain branching."""
+    left = [c for c in formula if not any(abs(l) in a and a[abs(l)] == (l > 0) for l in c)]
+    if any(all(abs(l) in a for l in c) for c in left):
+        return
+    if not free:
+        yield dict(a)
+        return
+    for value in False, True:
+        yield from models(left, {**a, free[0]: value}, free[1:])
+
+
+def random_formula(rng, n):
+    """A text, often the closure of some clauses under a random permutation, literals shuffled and repeated."""
+    row = dict(zip(range(1, n + 1), rng.sample(range(1, n + 1), n)))
+    clauses = []
+    for _ in range(rng.randint(0, 3)):
+        c = [rng.choice((1, -1)) * rng.randint(1, n) for _ in range(rng.choice((0, 1, 2, 2, 3, 3)) if n else 0)]
+        for _ in range(rng.choice((1, 60, 60))):
+            if frozenset(c) not in map(frozenset, clauses):
+                clauses.append(rng.sample(c, len(c)) + c[:rng.randint(0, 1)])
+            c = [row[l] if l > 0 else -row[-l] for l in c]
+    clauses += rng.sample(clauses, min(len(clauses), rng.randint(0, 1)))
+    rng.shuffle(clauses)
+    lines = [" ".join(map(str, [*c, 0])) for c in clauses]
+    return "\n".join([f"p cnf {n} {len(clauses)}", *lines]).encode(), clauses, row
+
+
+class Demands(unittest.TestCase):
+    """Demands 2 and 3 of the brief, brute force over all assignments of random small formulas."""
+
+    def offers(self, rng, box, clauses, row):
+        """A list of offers, refused ones included; the accepted rows by a definition of the test's own."""
+        n, accepted = box.record.variables, []
+        power = {i: i for i in row}
+        for _ in range(rng.randint(0, 5)):
+            power = {i: row[power[i]] for i in row}
+            chosen = power if rng.random() < .6 else dict(zip(row, rng.sample(list(row), n)))
+            names = [i for i in rng.sample(list(row), n) if chosen[i] != i or rng.random() < .3]
+            values = [chosen[i] for i in names][:None if rng.random() < .9 else -1]
+            answer = box.offer(" ".join(map(str, names)).encode(), " ".join(map(str, values)).encode())
+            sets = {tuple(sorted(set(c))) for c in clauses}
+            images = {tuple(sorted({chosen[abs(l)] * (1 if l > 0 else -1) for l in c})) for c in clauses}
+            right = bool(names) and len(values) == len(names) and images == sets
+            self.assertEqual(answer == ("done",), right, answer)
+            accepted += [chosen] if right else []
+        return accepted
+
+    def demand_3(self, rng, box, clauses, accepted):
+        n = box.record.variables
+        made, (total, count) = list(ref.made_formula(*box.store)), ref.made_counts(box.record, box.images)
+        self.assertEqual((made[:len(clauses)], len(made)), (clauses, count))
+        plain = list(models(clauses, {}, list(range(1, n + 1))))
+        as_tuple = lambda a: tuple(a[i] for i in range(1, n + 1))
+        carried = lambda p, a: {i: a[p[i]] for i in a}
+        kept = set()
+        for a in plain:
+            full = list(models(made, a, list(range(n + 1, total + 1))))
+            lowered = any(as_tuple(carried(p, a)) < as_tuple(a) for p in accepted)
+            self.assertEqual(len(full), 0 if lowered else 1)
+            answer, out = fill_in(box, "".join("01"[a[i]] for i in sorted(a)), 4)
+            self.assertEqual(answer, ("done", ref.word_count(total)))
+            self.assertEqual(out[answer[1]:], [TOP] * (4 - answer[1]))
+            filled = dict(enumerate(ref.bits(out)[:total], 1))
+            self.assertEqual(filled in full, not lowered)
+            self.assertEqual(ref.check(*box.store, out[:answer[1]])[1] == 0, not lowered)
+            kept |= set() if lowered else {as_tuple(a)}
+        self.assertEqual(bool(plain), bool(kept))
+        self.descents(rng, box, plain, kept, as_tuple)
+        for a in plain:
+            reach = [a]
+            for b in reach:
+                reach += [c for p in accepted for c in [carried(p, b)] if c not in reach]
+            self.assertTrue(any(as_tuple(b) in kept for b in reach) and all(b in plain for b in reach))
+
+    def descents(self, rng, box, plain, kept, as_tuple):
+        for a in plain:
+            text = "".join("01"[bit] for bit in as_tuple(a))
+            for limit in 0, 1, rng.randint(2, 5), TOP:
+                (_, how, moves), reached = descend(box, text, limit)
+                end = tuple(digit == "1" for digit in reached)
+                self.assertEqual(how == "settled", end in kept)
+                self.assertTrue(moves == limit if how == "spent" else moves <= limit)
+                self.assertTrue(end == as_tuple(a) if moves == 0 else end < as_tuple(a))
+
+    def test_random_formulas(self):
+        rng, held = random.Random(17), 0
+        for _ in range(600):
+            text, clauses, row = random_formula(rng, rng.choice((0, 1, 2, 3, 4, 5, 6, 6)))
+            box = Host(text, 128, 64, 40)
+            self.assertEqual(box.answer[0], "done")
+            accepted = self.offers(rng, box, clauses, row)
+            self.assertEqual(ref.rows_of(box.record, box.images), accepted)
+            self.assertEqual(box.images[len(accepted) * len(row):], [7] * (40 - len(accepted) * len(row)))
+            self.demand_3(rng, box, clauses, accepted)
+            held += len(accepted)
+        self.assertGreater(held, 500)
+
+    def test_every_row_fills_in_uniquely(self):
+        for n in range(1, 6):
+            for p in itertools.permutations(range(1, n + 1)):
+                box = Host(b"p cnf %d 0" % n).with_rows(p)
+                made, (total, _) = list(ref.made_formula(*box.store)), ref.made_counts(box.record, box.images)
+                for bits in itertools.product((False, True), repeat=n):
+                    a = dict(enumerate(bits, 1))
+                    full = list(models(made, a, list(range(n + 1, total + 1))))
+                    lowered = ref.lowers(dict(enumerate(p, 1)), a)
+                    self.assertEqual(full, [] if lowered else [ref.filled_in(box.record, box.images, a)])
+
+
+if __name__ == "__main__":
+    unittest.main()

@@ -59,13 +59,13 @@ def opening(text, literals=13000, ends=5000):
     return ref.open_formula(ref.new_record(), text, [0] * literals, [0] * ends)[0]
 
 
-def descend(box, a, limit=TOP):
-    answer, reached = call(ref.descend, *box.store, words(a), limit, written=(4,))
+def descend(host, a, limit=TOP):
+    answer, reached = call(ref.descend, *host.store, words(a), limit, written=(4,))
     return answer, digits(reached, len(a))
 
 
-def fill_in(box, a, room=1):
-    return call(ref.fill_in, *box.store, words(a), [TOP] * room, written=(5,))
+def fill_in(host, a, room=1):
+    return call(ref.fill_in, *host.store, words(a), [TOP] * room, written=(5,))
 
 
 class WorkedCases(unittest.TestCase):
@@ -75,21 +75,21 @@ class WorkedCases(unittest.TestCase):
         cases = [(b"1 3", b"3 1", ("done",)), (b"1 2", b"2 1", ("refused", 11, 2)), (b"1 3", b"3", ("refused", 10, 1)),
                  (b"1 3", b"3 3", ("refused", 10, 2)), (b"1 1", b"", ("refused", 8, 2)), (b"4", b"", ("refused", 8, 0))]
         for names, values, answer in cases:
-            box = Host()
-            self.assertEqual(box.offer(names, values), answer)
+            host = Host()
+            self.assertEqual(host.offer(names, values), answer)
             accepted = answer == ("done",)
-            self.assertEqual(box.record, ref.Record(3, 2, int(accepted), True))
-            self.assertEqual(box.images, ([6, 4, 2] if accepted else [7] * 3) + [7] * 253)
+            self.assertEqual(host.record, ref.Record(3, 2, int(accepted), True))
+            self.assertEqual(host.images, ([6, 4, 2] if accepted else [7] * 3) + [7] * 253)
 
     def test_descent_and_filling_in(self):
-        box = Host().with_rows((3, 2, 1))
-        self.assertEqual(descend(box, "110"), (("done", "settled", 1), "011"))
-        self.assertEqual(descend(box, "110", 0), (("done", "spent", 0), "110"))
-        self.assertEqual(descend(box, "011", 0), (("done", "settled", 0), "011"))
+        host = Host().with_rows((3, 2, 1))
+        self.assertEqual(descend(host, "110"), (("done", "settled", 1), "011"))
+        self.assertEqual(descend(host, "110", 0), (("done", "spent", 0), "110"))
+        self.assertEqual(descend(host, "011", 0), (("done", "settled", 0), "011"))
         for a, full in ("101", "1011"), ("011", "0110"):
-            answer, out = fill_in(box, a, 3)
+            answer, out = fill_in(host, a, 3)
             self.assertEqual((answer, out), (("done", 1), [*words(full), TOP, TOP]))
-        self.assertEqual(fill_in(box, "011", 0), (("refused", 23, 1), []))
+        self.assertEqual(fill_in(host, "011", 0), (("refused", 23, 1), []))
         turned = Host(b"p cnf 3 1\n1 2 3 0\n")
         self.assertEqual(turned.offer(b"1 2 3", b"2 3 1"), ("done",))
         self.assertEqual(descend(turned, "100"), (("done", "settled", 1), "001"))
@@ -111,11 +111,11 @@ class WorkedCases(unittest.TestCase):
         self.assertEqual(opening(b"p cnf 1 1\n-0 0"), ("refused", 3, 10))
 
     def test_row_64(self):
-        box = Host()
+        host = Host()
         for _ in range(64):
-            self.assertEqual(box.offer(b"3 1", b"1 3"), ("done",))
-        self.assertEqual(box.offer(b"x", b"y"), ("refused", 22, 0))
-        self.assertEqual(ref.made_counts(box.record, box.images), (67, 2 + 6 * 64))
+            self.assertEqual(host.offer(b"3 1", b"1 3"), ("done",))
+        self.assertEqual(host.offer(b"x", b"y"), ("refused", 22, 0))
+        self.assertEqual(ref.made_counts(host.record, host.images), (67, 2 + 6 * 64))
 
     def test_listing(self):
         made = (b"p cnf 4 8\n1 2 0\n2 3 0\n-1 3 0\n-4 -1 3 0\n-4 1 -3 0\n4 1 3 0\n4 -1 -3 0\n-4 -3 1 0\n")
@@ -161,12 +161,12 @@ class OpeningReadings(unittest.TestCase):
     def test_slices(self):
         self.assertEqual(opening(LISTING, 3, 1), ("refused", 23, 4))
         self.assertEqual(opening(LISTING, 4, 1), ("refused", 23, 2))
-        box = Host().with_rows((1, 2, 3))
+        host = Host().with_rows((1, 2, 3))
         answer, record, literals, ends = call(
-            ref.open_formula, box.record, b"p cnf 2 2 -1 2", box.literals, box.ends, written=(0, 2, 3))
+            ref.open_formula, host.record, b"p cnf 2 2 -1 2", host.literals, host.ends, written=(0, 2, 3))
         self.assertEqual((answer, record.rows), (("refused", 1, 0), 1))
         answer, record, literals, ends = call(
-            ref.open_formula, box.record, b"p cnf 2 2\n0 -1 0", [9] * 3, [8] * 3, written=(0, 2, 3))
+            ref.open_formula, host.record, b"p cnf 2 2\n0 -1 0", [9] * 3, [8] * 3, written=(0, 2, 3))
         self.assertEqual((record, literals, ends), (ref.Record(2, 2, 0, True), [3, 9, 9], [0, 1, 8]))
         self.assertEqual(ref.plain_clauses(record, literals, ends), [[], [-1]])
 
@@ -187,20 +187,20 @@ class OfferReadings(unittest.TestCase):
             self.assertEqual(Host(b"p cnf 0 0").offer(names, b"")[1], 7 if names == b"x" else 8)
 
     def test_clause_sets_and_repeats(self):
-        box = Host(b"p cnf 3 5\n3 1 1 0 2 0 -2 2 0 1 3 0 0")
+        host = Host(b"p cnf 3 5\n3 1 1 0 2 0 -2 2 0 1 3 0 0")
         for _ in range(2):
-            self.assertEqual(box.offer(b"1 3", b"3 1"), ("done",))
-        self.assertEqual(box.offer(b"1 2", b"2 1"), ("refused", 11, 1))
-        self.assertEqual(box.offer(b"1", b"1"), ("done",))
-        self.assertEqual([c for c in ref.made_formula(*box.store)][5::6], [[-1, 3], [-1, 3]])
-        self.assertEqual(ref.made_counts(box.record, box.images), (5, 17))
+            self.assertEqual(host.offer(b"1 3", b"3 1"), ("done",))
+        self.assertEqual(host.offer(b"1 2", b"2 1"), ("refused", 11, 1))
+        self.assertEqual(host.offer(b"1", b"1"), ("done",))
+        self.assertEqual([c for c in ref.made_formula(*host.store)][5::6], [[-1, 3], [-1, 3]])
+        self.assertEqual(ref.made_counts(host.record, host.images), (5, 17))
         self.assertEqual(Host(b"p cnf 2 3\n2 1 0 1 0 1 1 0").offer(b"1 2", b"2 1"), ("refused", 11, 2))
 
     def test_room(self):
-        box = Host(images=5)
-        self.assertEqual(box.offer(b"1 3", b"3 1"), ("done",))
-        self.assertEqual(box.offer(b"1 3", b"3 1"), ("refused", 23, 6))
-        self.assertEqual(box.offer(b"1 2", b"2 1"), ("refused", 11, 2))
+        host = Host(images=5)
+        self.assertEqual(host.offer(b"1 3", b"3 1"), ("done",))
+        self.assertEqual(host.offer(b"1 3", b"3 1"), ("refused", 23, 6))
+        self.assertEqual(host.offer(b"1 2", b"2 1"), ("refused", 11, 2))
 
 
 class StoreReadings(unittest.TestCase):
@@ -245,8 +245,8 @@ class WritingAndAssignments(unittest.TestCase):
     """Readings E and F, and the figures at the limits."""
 
     def test_calls_write_the_text(self):
-        box = Host(b"p cnf 4 4\n3 1 1 0 0 -2 2 0 2 4 0").with_rows((3, 4, 1, 2), (1, 2, 3, 4), (2, 3, 4, 1))
-        lines = ref.made_text(*box.store).splitlines(keepends=True)
+        host = Host(b"p cnf 4 4\n3 1 1 0 0 -2 2 0 2 4 0").with_rows((3, 4, 1, 2), (1, 2, 3, 4), (2, 3, 4, 1))
+        lines = ref.made_text(*host.store).splitlines(keepends=True)
         self.assertEqual(lines[:6], [b"p cnf 10 40\n", b"3 1 1 0\n", b"0\n", b"-2 2 0\n", b"2 4 0\n", b"-1 3 0\n"])
         self.assertEqual(lines[5 + 18:][:12:6], [b"-1 2 0\n", b"-9 8 0\n"])
         self.assertEqual(lines[11:17], [b"-6 5 0\n", b"-6 -2 4 0\n", b"-6 2 -4 0\n", b"6 -5 2 4 0\n", b"6 -5 -2 -4 0\n",
@@ -254,12 +254,12 @@ class WritingAndAssignments(unittest.TestCase):
         for q, line in enumerate(lines):
             for room in len(line) - 1, len(line), len(line) + 2:
                 out, tail = bytearray(b"#" * room), (q,) if q else ()
-                answer, after = call(ref.clause if q else ref.header, *box.store, *tail, out, written=(4 + len(tail),))
+                answer, after = call(ref.clause if q else ref.header, *host.store, *tail, out, written=(4 + len(tail),))
                 enough = room >= len(line)
                 self.assertEqual(answer, ("done", len(line)) if enough else ("refused", 23, len(line)))
                 self.assertEqual(after, line + b"#" * (room - len(line)) if enough else out)
         for q in 0, 41, TOP:
-            self.assertEqual(ref.clause(*box.store, q, [])[0], ("refused", 13, 0))
+            self.assertEqual(ref.clause(*host.store, q, [])[0], ("refused", 13, 0))
 
     def test_comparison(self):
         self.assertEqual(ref.compare([], []), ("done", 0))
@@ -272,36 +272,36 @@ class WritingAndAssignments(unittest.TestCase):
             self.assertEqual(ref.lesser(a, b), which)
 
     def test_descent_starts_again_at_the_first_row(self):
-        box = Host(b"p cnf 4 0").with_rows((1, 2, 4, 3), (2, 3, 1, 4))
-        self.assertEqual(descend(box, "1100"), (("done", "settled", 3), "0011"))
-        self.assertEqual(descend(box, "1100", 2)[0], ("done", "spent", 2))
-        self.assertEqual(descend(box, "1100", 3)[0], ("done", "settled", 3))
-        box = Host(b"p cnf 4 0").with_rows((1, 3, 4, 2), (3, 1, 2, 4))
-        self.assertEqual(descend(box, "1110"), (("done", "settled", 2), "1011"))
+        host = Host(b"p cnf 4 0").with_rows((1, 2, 4, 3), (2, 3, 1, 4))
+        self.assertEqual(descend(host, "1100"), (("done", "settled", 3), "0011"))
+        self.assertEqual(descend(host, "1100", 2)[0], ("done", "spent", 2))
+        self.assertEqual(descend(host, "1100", 3)[0], ("done", "settled", 3))
+        host = Host(b"p cnf 4 0").with_rows((1, 3, 4, 2), (3, 1, 2, 4))
+        self.assertEqual(descend(host, "1110"), (("done", "settled", 2), "1011"))
 
     def test_form_of_assignments(self):
-        box = Host().with_rows((3, 2, 1))
+        host = Host().with_rows((3, 2, 1))
         for a in [], [0, 0], [1], [1 << 60]:
-            self.assertEqual(ref.descend(*box.store, a, 0), (("refused", 12, 0), a))
-            self.assertEqual(ref.fill_in(*box.store, a, []), (("refused", 12, 0), []))
-        self.assertEqual(ref.check(*box.store, [1 << 59]), ("refused", 12, 0))
+            self.assertEqual(ref.descend(*host.store, a, 0), (("refused", 12, 0), a))
+            self.assertEqual(ref.fill_in(*host.store, a, []), (("refused", 12, 0), []))
+        self.assertEqual(ref.check(*host.store, [1 << 59]), ("refused", 12, 0))
         for full, answer in ("0110", 0), ("0010", 1), ("0111", 5), ("1011", 0), ("1010", 7), ("1100", 3):
-            self.assertEqual(ref.check(*box.store, words(full)), ("done", answer), full)
+            self.assertEqual(ref.check(*host.store, words(full)), ("done", answer), full)
 
     def test_limits(self):
         n = 512
         text = b"p cnf 512 4096\n" + b"".join(b"%d %d %d 0\n" % (i, -i, i) for i in range(1, n + 1)) * 8
-        box = Host(text, 12288, 4096, 64 * n)
+        host = Host(text, 12288, 4096, 64 * n)
         names = b" ".join(b"%d" % i for i in range(1, n + 1))
         for turn in range(1, 65):
-            self.assertEqual(box.offer(names, b" ".join(b"%d" % ((i + turn) % n + 1) for i in range(n))), ("done",))
-        self.assertEqual(call(ref.header, *box.store, [0] * 19, written=(4,))[1], list(b"p cnf 33216 200320\n"))
-        self.assertEqual(sum(1 for _ in ref.made_formula(*box.store)), 200320)
-        self.assertEqual(call(ref.clause, *box.store, 200320, [0] * 18, written=(5,))[0], ("done", 17))
+            self.assertEqual(host.offer(names, b" ".join(b"%d" % ((i + turn) % n + 1) for i in range(n))), ("done",))
+        self.assertEqual(call(ref.header, *host.store, [0] * 19, written=(4,))[1], list(b"p cnf 33216 200320\n"))
+        self.assertEqual(sum(1 for _ in ref.made_formula(*host.store)), 200320)
+        self.assertEqual(call(ref.clause, *host.store, 200320, [0] * 18, written=(5,))[0], ("done", 17))
         for a in "0" * n, "1" * n, "0" * 256 + "1" * 256:
-            answer, out = fill_in(box, a, 519)
-            self.assertEqual((answer, ref.check(*box.store, out)), (("done", 519), ("done", 0)))
-        answer, reached = descend(box, "1" + "0" * 511)
+            answer, out = fill_in(host, a, 519)
+            self.assertEqual((answer, ref.check(*host.store, out)), (("done", 519), ("done", 0)))
+        answer, reached = descend(host, "1" + "0" * 511)
         self.assertEqual((answer[1], reached), ("settled", "0" * 511 + "1"))
 
 
@@ -356,16 +356,16 @@ def random_formula(rng, n):
 class Demands(unittest.TestCase):
     """Demands 2 and 3 of the brief, brute force over all assignments of random small formulas."""
 
-    def offers(self, rng, box, clauses, row):
+    def offers(self, rng, host, clauses, row):
         """A list of offers, refused ones included; the accepted rows by a definition of the test's own."""
-        n, accepted = box.record.variables, []
+        n, accepted = host.record.variables, []
         power = {i: i for i in row}
         for _ in range(rng.randint(0, 5)):
             power = {i: row[power[i]] for i in row}
             chosen = power if rng.random() < .6 else dict(zip(row, rng.sample(list(row), n)))
             names = [i for i in rng.sample(list(row), n) if chosen[i] != i or rng.random() < .3]
             values = [chosen[i] for i in names][:None if rng.random() < .9 else -1]
-            answer = box.offer(" ".join(map(str, names)).encode(), " ".join(map(str, values)).encode())
+            answer = host.offer(" ".join(map(str, names)).encode(), " ".join(map(str, values)).encode())
             sets = {tuple(sorted(set(c))) for c in clauses}
             images = {tuple(sorted({chosen[abs(l)] * (1 if l > 0 else -1) for l in c})) for c in clauses}
             right = bool(names) and len(values) == len(names) and images == sets
@@ -373,9 +373,9 @@ class Demands(unittest.TestCase):
             accepted += [chosen] if right else []
         return accepted
 
-    def demand_3(self, rng, box, clauses, accepted):
-        n = box.record.variables
-        made, (total, count) = list(ref.made_formula(*box.store)), ref.made_counts(box.record, box.images)
+    def demand_3(self, rng, host, clauses, accepted):
+        n = host.record.variables
+        made, (total, count) = list(ref.made_formula(*host.store)), ref.made_counts(host.record, host.images)
         self.assertEqual((made[:len(clauses)], len(made)), (clauses, count))
         plain = list(models(clauses, {}, list(range(1, n + 1))))
         as_tuple = lambda a: tuple(a[i] for i in range(1, n + 1))
@@ -385,26 +385,26 @@ class Demands(unittest.TestCase):
             full = list(models(made, a, list(range(n + 1, total + 1))))
             lowered = any(as_tuple(carried(p, a)) < as_tuple(a) for p in accepted)
             self.assertEqual(len(full), 0 if lowered else 1)
-            answer, out = fill_in(box, "".join("01"[a[i]] for i in sorted(a)), 4)
+            answer, out = fill_in(host, "".join("01"[a[i]] for i in sorted(a)), 4)
             self.assertEqual(answer, ("done", ref.word_count(total)))
             self.assertEqual(out[answer[1]:], [TOP] * (4 - answer[1]))
             filled = dict(enumerate(ref.bits(out)[:total], 1))
             self.assertEqual(filled in full, not lowered)
-            self.assertEqual(ref.check(*box.store, out[:answer[1]])[1] == 0, not lowered)
+            self.assertEqual(ref.check(*host.store, out[:answer[1]])[1] == 0, not lowered)
             kept |= set() if lowered else {as_tuple(a)}
         self.assertEqual(bool(plain), bool(kept))
-        self.descents(rng, box, plain, kept, as_tuple)
+        self.descents(rng, host, plain, kept, as_tuple)
         for a in plain:
             reach = [a]
             for b in reach:
                 reach += [c for p in accepted for c in [carried(p, b)] if c not in reach]
             self.assertTrue(any(as_tuple(b) in kept for b in reach) and all(b in plain for b in reach))
 
-    def descents(self, rng, box, plain, kept, as_tuple):
+    def descents(self, rng, host, plain, kept, as_tuple):
         for a in plain:
             text = "".join("01"[bit] for bit in as_tuple(a))
             for limit in 0, 1, rng.randint(2, 5), TOP:
-                (_, how, moves), reached = descend(box, text, limit)
+                (_, how, moves), reached = descend(host, text, limit)
                 end = tuple(digit == "1" for digit in reached)
                 self.assertEqual(how == "settled", end in kept)
                 self.assertTrue(moves == limit if how == "spent" else moves <= limit)
@@ -414,25 +414,25 @@ class Demands(unittest.TestCase):
         rng, held = random.Random(17), 0
         for _ in range(600):
             text, clauses, row = random_formula(rng, rng.choice((0, 1, 2, 3, 4, 5, 6, 6)))
-            box = Host(text, 128, 64, 40)
-            self.assertEqual(box.answer[0], "done")
-            accepted = self.offers(rng, box, clauses, row)
-            self.assertEqual(ref.rows_of(box.record, box.images), accepted)
-            self.assertEqual(box.images[len(accepted) * len(row):], [7] * (40 - len(accepted) * len(row)))
-            self.demand_3(rng, box, clauses, accepted)
+            host = Host(text, 128, 64, 40)
+            self.assertEqual(host.answer[0], "done")
+            accepted = self.offers(rng, host, clauses, row)
+            self.assertEqual(ref.rows_of(host.record, host.images), accepted)
+            self.assertEqual(host.images[len(accepted) * len(row):], [7] * (40 - len(accepted) * len(row)))
+            self.demand_3(rng, host, clauses, accepted)
             held += len(accepted)
         self.assertGreater(held, 500)
 
     def test_every_row_fills_in_uniquely(self):
         for n in range(1, 6):
             for p in itertools.permutations(range(1, n + 1)):
-                box = Host(b"p cnf %d 0" % n).with_rows(p)
-                made, (total, _) = list(ref.made_formula(*box.store)), ref.made_counts(box.record, box.images)
+                host = Host(b"p cnf %d 0" % n).with_rows(p)
+                made, (total, _) = list(ref.made_formula(*host.store)), ref.made_counts(host.record, host.images)
                 for bits in itertools.product((False, True), repeat=n):
                     a = dict(enumerate(bits, 1))
                     full = list(models(made, a, list(range(n + 1, total + 1))))
                     lowered = ref.lowers(dict(enumerate(p, 1)), a)
-                    self.assertEqual(full, [] if lowered else [ref.filled_in(box.record, box.images, a)])
+                    self.assertEqual(full, [] if lowered else [ref.filled_in(host.record, host.images, a)])
 
 
 if __name__ == "__main__":

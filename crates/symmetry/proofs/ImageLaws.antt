@@ -1,0 +1,64 @@
+-- The image of a literal: its variable and its sign, and that a row sends different literals to different literals. Assumes nothing.
+use mathlib.Core.Path.{_≡_, refl, sym, ap}
+use mathlib.Core.Bool.{Bool, true, false, cond}
+use mathlib.Core.List.{List, List·Memᴰ, Memᴰ·map, Memᴰ·of-map, Memᴰ·cast}
+use Prim.Native.Nat.{ℕ, _+_, _-_, _/_, _%_}
+use native.Mathlib.Omega.{arith}
+use borrow.Author.Tests.{eqb-true, eqb-false}
+use lib.ListN.{getD}
+use Rattle.lists.specs.Tests.{allOf}
+use Rattle.lists.proofs.Members.{all-has}
+use Rattle.store.specs.Literals.{isNegative, oppositeOf, isLiteral}
+use Rattle.store.proofs.FormLaws.{literal-low, literal-high}
+use Rattle.store.proofs.Formed.{Row}
+use Rattle.symmetry.specs.Sets.{SameSet}
+use Rattle.symmetry.specs.Symmetry.{imageOf, clauseImage}
+use Rattle.symmetry.proofs.SetLaws.{has-iff}
+
+module _ (row : List ℕ) (code : ℕ) where
+  pub image-of-negative : isNegative code ≡ true → imageOf row code ≡ oppositeOf (getD row (code / 2 - 1) 0)
+  unfolding imageOf
+  image-of-negative e = rw e
+
+  pub image-of-positive : isNegative code ≡ false → imageOf row code ≡ getD row (code / 2 - 1) 0
+  unfolding imageOf
+  image-of-positive e = rw e
+
+-- a literal or its opposite, by a sign: the variable is kept, and the signs add up
+turned : (code a : ℕ) → let r = cond (isNegative code) (oppositeOf a) a in
+    (r / 2 ≡ a / 2) × ((r + code + a) % 2 ≡ 0)
+turned code a = go (isNegative code) refl (isNegative a) refl
+  where
+    go : (b : Bool) → isNegative code ≡ b → (c : Bool) → isNegative a ≡ c → let r = cond b (cond c (a - 1) (a + 1)) a in
+        (r / 2 ≡ a / 2) × ((r + code + a) % 2 ≡ 0)
+    go true e true f = let x = eqb-true (code % 2) 1 e in let y = eqb-true (a % 2) 1 f in (omega arith, omega arith)
+    go true e false f = let x = eqb-true (code % 2) 1 e in let y = eqb-false (a % 2) 1 f in (omega arith, omega arith)
+    go false e c f = let x = eqb-false (code % 2) 1 e in (refl, omega arith)
+
+module _ (n : ℕ) (row : List ℕ) (r : Row n row) where
+  image-one : (x y : ℕ) → isLiteral n x ≡ true → isLiteral n y ≡ true → imageOf row x ≡ imageOf row y → x ≡ y
+  unfolding imageOf
+  image-one x y gx gy e =
+      let lx = literal-low n x gx in
+      let hx = literal-high n x gx in
+      let ly = literal-low n y gy in
+      let hy = literal-high n y gy in
+      let tx = turned x (getD row (x / 2 - 1) 0) in
+      let ty = turned y (getD row (y / 2 - 1) 0) in
+      let same : x / 2 - 1 ≡ y / 2 - 1 = r .one-place (x / 2 - 1) (y / 2 - 1) (omega arith) (omega arith) (omega arith) in
+      signs _ _ _ _ x y (tx .1) (ty .1) e (ap (λ (i : ℕ). getD row i 0) same) (omega arith)
+    where
+      signs : (r s a b x y : ℕ) → (r + x + a) % 2 ≡ 0 → (s + y + b) % 2 ≡ 0 → r ≡ s → a ≡ b → x / 2 ≡ y / 2 → x ≡ y
+      signs r s a b x y p q e f g = omega arith
+
+  back : (a b : List ℕ) → allOf (isLiteral n) a ≡ true → allOf (isLiteral n) b ≡ true
+      → ((y : ℕ) → List·Memᴰ y (clauseImage row a) → List·Memᴰ y (clauseImage row b)) → (x : ℕ) → List·Memᴰ x a → List·Memᴰ x b
+  unfolding clauseImage
+  back a b ga gb s x m =
+      let t = Memᴰ·of-map (imageOf row) b (s (imageOf row x) (Memᴰ·map (imageOf row) m)) in
+      let same : t .0 ≡ x = image-one (t .0) x (all-has (isLiteral n) b (t .0) gb (has-iff b (t .0) .1 (t .1))) (all-has (isLiteral n) a x ga (has-iff a x .1 m)) (t .2) in
+      Memᴰ·cast (sym same) (t .1)
+
+  -- images with the same literals are images of clauses with the same literals
+  pub images-one : (a b : List ℕ) → allOf (isLiteral n) a ≡ true → allOf (isLiteral n) b ≡ true → SameSet (clauseImage row a) (clauseImage row b) → SameSet a b
+  images-one a b ga gb s x = (back a b ga gb (λ y. s y .0) x, back b a gb ga (λ y. s y .1) x)

@@ -1,0 +1,9 @@
+pub mod SetLaws
+pub mod ImageLaws
+pub mod Ranges
+pub mod Cuts
+pub mod Finite
+pub mod Onto
+pub mod Theorem
+pub mod Facts
+pub mod Examples

@@ -7,6 +7,8 @@ import tempfile
 ROOT = os.path.dirname(os.path.dirname(os.path.dirname(os.path.abspath(__file__))))
 ARCHIVE = os.path.join(ROOT, "target", "staticlib", "libsymbreak.a")
 
+NUMBER, SLICE = [ctypes.c_uint64], [ctypes.c_void_p, ctypes.c_size_t]
+
 
 class Record(ctypes.Structure):
     _fields_ = [(name, ctypes.c_uint64) for name in ("variables", "clauses", "rows", "is_open")]
@@ -16,28 +18,74 @@ class Answer(ctypes.Structure):
     _fields_ = [("refusal", ctypes.c_uint32), ("place", ctypes.c_uint64), ("value", ctypes.c_uint64)]
 
 
+class Stored(ctypes.Structure):
+    _fields_ = [("refusal", ctypes.c_uint32), ("place", ctypes.c_uint64)] + Record._fields_
+
+
+EXPORTS = {
+    "symbreak_new_record": (Record, []),
+    "symbreak_open": (Stored, NUMBER * 4 + SLICE * 3),
+    "symbreak_offer": (Stored, NUMBER * 4 + SLICE * 5),
+    "symbreak_compare": (Answer, SLICE * 2),
+    "symbreak_efficiency": (Answer, NUMBER * 3),
+}
+
+
 def load():
     """Builds the static library, which proves it first, and loads it as a shared one."""
     subprocess.run(["rt", "staticlib", "symbreak"], cwd=ROOT, check=True, stdout=subprocess.DEVNULL)
-    folder = tempfile.mkdtemp()
-    shared = os.path.join(folder, "libsymbreak.so")
+    shared = os.path.join(tempfile.mkdtemp(), "libsymbreak.so")
     subprocess.run(["gcc", "-shared", "-o", shared, "-Wl,--whole-archive", ARCHIVE, "-Wl,--no-whole-archive"], check=True)
     library = ctypes.CDLL(shared)
-    library.symbreak_new_record.restype = Record
-    library.symbreak_new_record.argtypes = []
-    library.symbreak_compare.restype = Answer
-    library.symbreak_compare.argtypes = [ctypes.c_void_p, ctypes.c_size_t] * 2
-    library.symbreak_efficiency.restype = Answer
-    library.symbreak_efficiency.argtypes = [ctypes.c_uint64] * 3
+    for name, (result, arguments) in EXPORTS.items():
+        getattr(library, name).restype = result
+        getattr(library, name).argtypes = arguments
     return library
+
+
+def lend(kind, values):
+    """A lent slice: an array of its own, with the length that goes beside it."""
+    return (kind * len(values))(*values)
 
 
 def words(values):
     """A slice of 64-bit words, as the two arguments that lend it."""
-    lent = (ctypes.c_uint64 * len(values))(*values)
-    return lent, len(values)
+    return lend(ctypes.c_uint64, values), len(values)
 
 
 def said(answer):
     """An answer in the reference's terms."""
     return ("refused", answer.refusal, answer.place) if answer.refusal else ("done", answer.value)
+
+
+class Host:
+    """A store as a host keeps it: a record and three slices, lent anew at each call."""
+
+    def __init__(self, library, record, literals, ends, images):
+        self.library = library
+        self.record = record
+        self.literals, self.ends, self.images = (lend(ctypes.c_uint16, part) for part in (literals, ends, images))
+
+    def parts(self):
+        """All that is lent, as the reference has it."""
+        return self.record, list(self.literals), list(self.ends), list(self.images)
+
+    def _numbers(self):
+        return self.record.variables, self.record.clauses, self.record.rows, int(self.record.open)
+
+    def _told(self, answer, done):
+        self.record = self.record._replace(variables=answer.variables, clauses=answer.clauses, rows=answer.rows, open=bool(answer.is_open))
+        return ("refused", answer.refusal, answer.place) if answer.refusal else done(self.record)
+
+    def open(self, text):
+        lent = lend(ctypes.c_uint8, text)
+        answer = self.library.symbreak_open(*self._numbers(), lent, len(lent), self.literals, len(self.literals), self.ends, len(self.ends))
+        assert bytes(lent) == text
+        return self._told(answer, lambda record: ("done", record.variables, record.clauses))
+
+    def offer(self, names, values):
+        lent = lend(ctypes.c_uint8, names), lend(ctypes.c_uint8, values)
+        slices = [self.literals, self.ends, self.images, *lent]
+        answer = self.library.symbreak_offer(*self._numbers(), *(part for each in slices for part in (each, len(each))))
+        assert (bytes(lent[0]), bytes(lent[1])) == (names, values)
+        return self._told(answer, lambda record: ("done",))

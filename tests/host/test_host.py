@@ -5,17 +5,123 @@ import sys
 import unittest
 
 sys.path.insert(0, os.path.join(os.path.dirname(os.path.abspath(__file__)), "..", "reference"))
-import reference
+import generate
 import library
+import reference
 
 LIBRARY = library.load()
 TOP = 2 ** 64 - 1
 
 
-class Records(unittest.TestCase):
+def fresh(literals=64, ends=64, images=256, entry=7):
+    """A store that was never opened, with something in every entry."""
+    return library.Host(LIBRARY, reference.new_record(), [entry] * literals, [entry] * ends, [entry] * images)
+
+
+class Stores(unittest.TestCase):
+    """Opening and offers: the answer, the record and every entry of every lent slice."""
+
+    def open(self, host, text):
+        expected = reference.open_formula(host.record, text, list(host.literals), list(host.ends))
+        images = list(host.images)
+        answer = host.open(text)
+        self.assertEqual((answer, *host.parts()), (*expected, images), text)
+        return answer
+
+    def offer(self, host, names, values):
+        before = host.parts()
+        expected, record, images = reference.offer(*before, names, values)
+        answer = host.offer(names, values)
+        self.assertEqual((answer, *host.parts()), (expected, record, before[1], before[2], images), (before, names, values))
+        return answer
+
     def test_new_record(self):
         record = LIBRARY.symbreak_new_record()
         self.assertEqual((record.variables, record.clauses, record.rows, bool(record.is_open)), tuple(reference.new_record()))
+
+    def test_worked_cases(self):
+        listing = b"p cnf 3 2\n1 2 0\n2 3 0\n"
+        for names, values, expected in [(b"1 3", b"3 1", ("done",)), (b"1 2", b"2 1", ("refused", 11, 2)), (b"1 3", b"3", ("refused", 10, 1)),
+                                        (b"1 3", b"3 3", ("refused", 10, 2)), (b"1 1", b"", ("refused", 8, 2)), (b"4", b"", ("refused", 8, 0))]:
+            host = fresh()
+            self.assertEqual(self.open(host, listing), ("done", 3, 2))
+            self.assertEqual(self.offer(host, names, values), expected)
+        self.assertEqual(self.open(fresh(), b"p cnf 0 0"), ("done", 0, 0))
+        self.assertEqual(self.open(fresh(), b"p cnf 1 1\n-0 0"), ("refused", 3, 10))
+
+    def test_limits(self):
+        full = fresh(literals=12289, ends=4097)
+        self.assertEqual(self.open(full, b"p cnf 512 0"), ("done", 512, 0))
+        self.assertEqual(self.open(full, b"p cnf 513 0"), ("refused", 2, 0))
+        self.assertEqual(self.open(full, b"p cnf 0 4096" + b"\n0" * 4096), ("done", 0, 4096))
+        self.assertEqual(self.open(full, b"p cnf 0 4097" + b"\n0" * 4097), ("refused", 2, 0))
+        self.assertEqual(self.open(full, b"p cnf 1 1\n" + b"1 " * 12288 + b"0"), ("done", 1, 1))
+        self.assertEqual(self.open(full, b"p cnf 1 1\n" + b"1 " * 12289 + b"0"), ("refused", 5, 10 + 2 * 12288))
+        self.assertEqual(self.open(fresh(literals=12287), b"p cnf 1 1\n" + b"1 " * 12288 + b"0"), ("refused", 23, 12288))
+        self.assertEqual(self.open(fresh(ends=4095), b"p cnf 0 4096" + b"\n0" * 4096), ("refused", 23, 4096))
+        rows = fresh(images=2 * 64)
+        self.open(rows, b"p cnf 2 1\n1 2 0\n")
+        for _ in range(64):
+            self.assertEqual(self.offer(rows, b"1 2", b"2 1"), ("done",))
+        self.assertEqual(self.offer(rows, b"1 2", b"2 1"), ("refused", 22, 0))
+        short = fresh(images=3)
+        self.open(short, b"p cnf 2 1\n1 2 0\n")
+        self.assertEqual(self.offer(short, b"1 2", b"2 1"), ("done",))
+        self.assertEqual(self.offer(short, b"1 2", b"2 1"), ("refused", 23, 4))
+
+    def test_largest(self):
+        """A formula at all the limits, with a permutation that keeps it."""
+        clauses = [[1 + i % 512, -(1 + (i * 7) % 512), 1 + (i * 11) % 512] for i in range(2048)]
+        swap = [i + 1 if i % 2 else i - 1 for i in range(1, 513)]
+        clauses = [each for clause in clauses for each in (clause, generate.image(clause, swap))]
+        host = fresh(literals=12288, ends=4096, images=1024)
+        self.assertEqual(self.open(host, generate.text(random.Random(3), 512, clauses)), ("done", 512, 4096))
+        names = b" ".join(b"%d" % i for i in range(1, 513))
+        self.assertEqual(self.offer(host, names, b" ".join(b"%d" % i for i in swap)), ("done",))
+        self.assertEqual(self.offer(host, b"1 2", b"2 1")[1], 11)
+
+    def test_random(self):
+        chance = random.Random(4)
+        answers = {}
+        for _ in range(2500):
+            n = chance.choice([0, 1, 2, 3, 4, 5, 6, 9])
+            clauses, rows = generate.formula(chance, n, 12)
+            text = generate.text(chance, n, clauses)
+            host = fresh(chance.choice([64, 64, 64, chance.randrange(40)]), chance.choice([64, 64, chance.randrange(14)]), chance.choice([256, 256, chance.randrange(40)]))
+            if chance.random() < 0.3:
+                text = generate.damaged(chance, text)
+            self.count(answers, self.open(host, text))
+            for row in rows + [generate.permutation(chance, n)]:
+                named = [i for i in range(1, n + 1) if row[i - 1] != i or chance.random() < 0.3]
+                chance.shuffle(named)
+                names, values = generate.line(chance, named), generate.line(chance, [row[i - 1] for i in named])
+                if chance.random() < 0.2:
+                    names = generate.damaged(chance, names)
+                if chance.random() < 0.2:
+                    values = generate.damaged(chance, values)
+                if chance.random() < 0.2:
+                    self.damage(chance, host)
+                self.count(answers, self.offer(host, names, values))
+        for refusal in [None, 1, 2, 3, 4, 6, 7, 8, 9, 10, 11, 20, 21, 23]:
+            self.assertGreater(answers.get(refusal, 0), 5, refusal)
+
+    def count(self, answers, answer):
+        number = answer[1] if answer[0] == "refused" else None
+        answers[number] = answers.get(number, 0) + 1
+
+    def damage(self, chance, host):
+        """A store that no call left so: counts, an end, a literal or an image changed."""
+        edges = [0, 1, 2, 3, 64, 65, 512, 513, 4096, 4097, 2 ** 32, TOP]
+        kind = chance.randrange(5)
+        if kind == 0:
+            field = chance.choice(["variables", "clauses", "rows"])
+            host.record = host.record._replace(**{field: chance.choice(edges)})
+        elif kind == 1:
+            host.record = host.record._replace(open=chance.random() < 0.5)
+        else:
+            part = (host.literals, host.ends, host.images)[kind - 2]
+            if len(part):
+                part[chance.randrange(min(len(part), 12))] = chance.choice([0, 1, 2, 3, 5, 12, 65535, chance.randrange(30)])
 
 
 class Compare(unittest.TestCase):
@@ -38,12 +144,12 @@ class Compare(unittest.TestCase):
             a = [chance.choice([0, TOP, chance.getrandbits(64)]) for _ in range(chance.randrange(9))]
             b = list(a)
             for _ in range(chance.randrange(4)):
-                damage = chance.randrange(4)
-                if damage == 0 and b:
+                kind = chance.randrange(4)
+                if kind == 0 and b:
                     b[chance.randrange(len(b))] ^= 1 << chance.randrange(64)
-                elif damage == 1 and b:
+                elif kind == 1 and b:
                     b[chance.randrange(len(b))] = chance.getrandbits(64)
-                elif damage == 2:
+                elif kind == 2:
                     b.append(chance.getrandbits(64))
                 elif b:
                     b.pop()

@@ -1,7 +1,7 @@
 -- The tests of `specs/Tests.antt` turned into facts about places in a list, and back. Assumes nothing.
 use mathlib.Core.Path.{_≡_, refl, sym, ap, _∙_}
-use mathlib.Core.Bool.{Bool, true, false, _&&_, _||_, or-true}
-use mathlib.Core.List.{List, [], _∷_}
+use mathlib.Core.Bool.{Bool, true, false, _&&_, _||_, or-true, and-assoc}
+use mathlib.Core.List.{List, [], _∷_, _++_}
 use Prim.Native.Nat.{ℕ, zero, suc, _<_, zero-le, suc-le-suc}
 use native.Mathlib.Nat.{not-suc-le-zero, le-of-suc-le-suc}
 use borrow.Author.Tests.{eq-eqb, eqb-true}
@@ -39,6 +39,11 @@ all-in q (x ∷ l) d f = and-both (f 0 (suc-le-suc zero-le)) (all-in q l d (λ i
 
 pub all-not : {A : Type 0} (q : A → Bool) (l : List A) (d : A) (i : ℕ) → i < length l → q (getD l i d) ≡ false → allOf q l ≡ false
 all-not q l d i h e = not-so (allOf q l) (λ t. never (sym e ∙ all-at q l d t i h))
+
+pub all-append : {A : Type 0} (q : A → Bool) (a b : List A) → allOf q (a ++ b) ≡ (allOf q a && allOf q b)
+unfolding allOf
+all-append q [] b = refl
+all-append q (x ∷ a) b = rw (all-append q a b, and-assoc)
 
 -- a number that is in a list has a place there
 pub place : (l : List ℕ) (x : ℕ) → has l x ≡ true → (i : ℕ) × (i < length l) × (getD l i 0 ≡ x)

@@ -3,13 +3,13 @@ use mathlib.Core.Path.{_≡_, refl, sym, ap, _∙_}
 use mathlib.Core.Bool.{Bool, true, false, _&&_, and-true}
 use mathlib.Core.List.{List, [], _∷_}
 use Prim.Native.Nat.{ℕ, _*_, _≤_, _<_}
-use borrow.Author.Tests.{lt-leb, le-leb}
+use borrow.Author.Tests.{lt-leb, le-leb, leb-true}
 use lib.ListN.{length, getD, take}
 use lib.Dec.{lit<}
 use Rattle.lists.specs.Tests.{allOf}
-use Rattle.lists.proofs.Members.{all-not}
+use Rattle.lists.proofs.Members.{all-at, all-not}
 use Rattle.store.specs.Literals.{isLiteral}
-use Rattle.store.specs.Stores.{Store, maxVariables, maxClauses, maxLiterals, maxRows, rising, literalCount, rowsOf, isRow, demands, wellFormed}
+use Rattle.store.specs.Stores.{Store, maxVariables, maxClauses, maxLiterals, maxRows, rising, literalCount, heldRows, isRow, demands, wellFormed}
 
 module _ (s : Store) where
   -- the count of literals in use
@@ -68,8 +68,8 @@ module _ (s : Store) where
     pub literals-good : allOf (isLiteral (s .counts .variables)) (take used (s .literals)) ≡ true
     pub images-long : s .counts .rows * s .counts .variables ≤ length (s .images)
 
-  pub rows-decide : Rest → wellFormed s ≡ allOf (isRow (s .counts .variables)) (rowsOf (s .counts .variables) (s .counts .rows) (s .images))
-  unfolding wellFormed demands allOf
+  pub rows-decide : Rest → wellFormed s ≡ allOf (isRow (s .counts .variables)) (heldRows s)
+  unfolding wellFormed demands allOf heldRows
   rows-decide r =
       simp (
         le-leb _ _ (r .variables-fit),
@@ -83,3 +83,27 @@ module _ (s : Store) where
         le-leb _ _ (r .images-long),
         and-true,
       )
+
+  -- and what a well formed store meets
+  module _ (e : wellFormed s ≡ true) where
+    pub demand : (k : ℕ) → k < length (demands s) → getD (demands s) k true ≡ true
+    unfolding wellFormed
+    demand k h = all-at (λ b. b) (demands s) true e k h
+
+    pub rest-of : Rest
+    unfolding demands
+    rest-of = record {
+      variables-fit = leb-true _ _ (demand 0 (lit< tt));
+      clauses-fit = leb-true _ _ (demand 1 (lit< tt));
+      rows-fit = leb-true _ _ (demand 2 (lit< tt));
+      ends-long = leb-true _ _ (demand 3 (lit< tt));
+      ends-rise = demand 4 (lit< tt);
+      literals-fit = leb-true _ _ (demand 5 (lit< tt));
+      literals-long = leb-true _ _ (demand 6 (lit< tt));
+      literals-good = demand 7 (lit< tt);
+      images-long = leb-true _ _ (demand 8 (lit< tt));
+    }
+
+    pub rows-of : allOf (isRow (s .counts .variables)) (heldRows s) ≡ true
+    unfolding demands heldRows
+    rows-of = demand 9 (lit< tt)

@@ -8,15 +8,15 @@ use native.Mathlib.Omega.{arith}
 use borrow.Author.Tests.{leb-true, eqb-true, eqb-false, not-true}
 use lib.ListN.{length, getD, take, drop, length-map}
 use lib.Seq.{drop-drop, getD-take, length-take-le}
-use lib.Dec.{eqb, leb, lit<}
+use lib.Dec.{eqb, leb}
 use Rattle.lists.specs.Tests.{allOf, distinct}
 use Rattle.lists.proofs.Cases.{and-l, and-r}
 use Rattle.lists.proofs.Members.{all-at}
 use Rattle.lists.proofs.Distinct.{distinct-inj}
 use Rattle.store.specs.Literals.{variableOf, isNegative, isLiteral}
-use Rattle.store.specs.Stores.{Store, maxVariables, maxClauses, maxLiterals, maxRows, rising, literalCount, rowsOf, isImage, isRow, demands, wellFormed}
-use Rattle.store.proofs.FormLaws.{variables, variable-at, literal-low, literal-high, image-literal, count-none, count-last}
-use Rattle.store.proofs.Demands.{used}
+use Rattle.store.specs.Stores.{Store, maxVariables, maxClauses, maxLiterals, maxRows, rising, literalCount, rowsOf, heldRows, isImage, isRow, wellFormed}
+use Rattle.store.proofs.FormLaws.{variables, variable-at, literal-low, literal-high, image-literal, count-last}
+use Rattle.store.proofs.Demands.{used, rest-of, rows-of}
 
 -- ---- a row
 
@@ -105,34 +105,28 @@ pub record Formed (s : Store) : Type 0 where
   pub literal-high : (i : ℕ) → i < used s → getD (s .literals) i 0 / 2 ≤ s .counts .variables
   pub row : (r : ℕ) → r < s .counts .rows → Row (s .counts .variables) (rowAt (s .counts .variables) r (s .images))
 
-module _ (s : Store) (e : wellFormed s ≡ true) where
-  demand : (k : ℕ) → k < length (demands s) → getD (demands s) k true ≡ true
-  unfolding wellFormed
-  demand k h = all-at (λ b. b) (demands s) true e k h
-
-  pub formed : Formed s
-  unfolding demands
-  formed =
-      let n : ℕ = s .counts .variables in
-      let m : ℕ = s .counts .clauses in
-      let ends-long : m ≤ length (s .ends) = leb-true _ _ (demand 3 (lit< tt)) in
-      let literals-long : used s ≤ length (s .literals) = leb-true _ _ (demand 6 (lit< tt)) in
-      let first : length (take m (s .ends)) ≡ m = length-take-le m (s .ends) ends-long in
-      let order : (i j : ℕ) → i ≤ j → j < m → getD (s .ends) i 0 ≤ getD (s .ends) j 0 =
-      λ i j h k. rw (getD-take m (s .ends) j 0 k, getD-take m (s .ends) i 0 (omega arith)) at (rising-order 0 (take m (s .ends)) (demand 4 (lit< tt)) i j h (omega arith)) in
-      let literal : (i : ℕ) → i < used s → isLiteral n (getD (s .literals) i 0) ≡ true =
-      λ i h. rw (getD-take (used s) (s .literals) i 0 h) at (all-at (isLiteral n) (take (used s) (s .literals)) 0 (demand 7 (lit< tt)) i (omega (arith, length-take-le (used s) (s .literals) literals-long))) in
-      record {
-        variables-fit = leb-true _ _ (demand 0 (lit< tt));
-        clauses-fit = leb-true _ _ (demand 1 (lit< tt));
-        rows-fit = leb-true _ _ (demand 2 (lit< tt));
-        ends-long = ends-long;
-        literals-fit = leb-true _ _ (demand 5 (lit< tt));
-        literals-long = literals-long;
-        images-long = leb-true _ _ (demand 8 (lit< tt));
-        ends-rise = order;
-        end-within = λ j h. omega (arith, order j (m - 1) (omega arith) (omega arith), count-last m (s .ends) (omega arith));
-        literal-low = λ i h. literal-low n (getD (s .literals) i 0) (literal i h);
-        literal-high = λ i h. literal-high n (getD (s .literals) i 0) (literal i h);
-        row = λ r h. row-of n (rowAt n r (s .images)) (rows-at n (s .counts .rows) (s .images) (demand 9 (lit< tt)) r h);
-      }
+pub formed : (s : Store) → wellFormed s ≡ true → Formed s
+unfolding heldRows
+formed s e =
+    let n : ℕ = s .counts .variables in
+    let m : ℕ = s .counts .clauses in
+    let r = rest-of s e in
+    let first : length (take m (s .ends)) ≡ m = length-take-le m (s .ends) (r .ends-long) in
+    let order : (i j : ℕ) → i ≤ j → j < m → getD (s .ends) i 0 ≤ getD (s .ends) j 0 =
+    λ i j h k. rw (getD-take m (s .ends) j 0 k, getD-take m (s .ends) i 0 (omega arith)) at (rising-order 0 (take m (s .ends)) (r .ends-rise) i j h (omega arith)) in
+    let literal : (i : ℕ) → i < used s → isLiteral n (getD (s .literals) i 0) ≡ true =
+    λ i h. rw (getD-take (used s) (s .literals) i 0 h) at (all-at (isLiteral n) (take (used s) (s .literals)) 0 (r .literals-good) i (omega (arith, length-take-le (used s) (s .literals) (r .literals-long)))) in
+    record {
+      variables-fit = r .variables-fit;
+      clauses-fit = r .clauses-fit;
+      rows-fit = r .rows-fit;
+      ends-long = r .ends-long;
+      literals-fit = r .literals-fit;
+      literals-long = r .literals-long;
+      images-long = r .images-long;
+      ends-rise = order;
+      end-within = λ j h. omega (arith, order j (m - 1) (omega arith) (omega arith), count-last m (s .ends) (omega arith));
+      literal-low = λ i h. literal-low n (getD (s .literals) i 0) (literal i h);
+      literal-high = λ i h. literal-high n (getD (s .literals) i 0) (literal i h);
+      row = λ k h. row-of n (rowAt n k (s .images)) (rows-at n (s .counts .rows) (s .images) (rows-of s e) k h);
+    }

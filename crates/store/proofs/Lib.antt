@@ -1,4 +1,5 @@
 pub mod FormLaws
 pub mod Demands
 pub mod Formed
+pub mod Append
 pub mod Examples

@@ -1,7 +1,7 @@
--- What each public call says, in document 01's numbers: its values, or the number and the place of a refusal. For each answer enum of the code a
--- definition gives the number and the values of its cases. Assumes nothing.
-use Prim.Native.Nat.{ℕ}
-use mathlib.Core.Bool.{Bool, cond, _&&_}
+-- What each public call says, in document 01's numbers, and what the lent store holds afterwards. For each answer enum of the code a definition gives
+-- the numbers and the values of its cases. Assumes nothing.
+use Prim.Native.Nat.{ℕ, _+_}
+use mathlib.Core.Bool.{Bool, true, false, cond, not, _&&_}
 use mathlib.Core.List.{List}
 use lib.ListN.{length}
 use lib.Dec.{eqb, leb}
@@ -9,23 +9,82 @@ use Rattle.packed.specs.Words.{maxWords}
 use Rattle.packed.specs.Order.{allBits, firstDifference}
 use Rattle.quality.specs.Efficiency.{hasEfficiency, efficiencyOf}
 use Rattle.store.specs.Refusals.{Said, done, refused, saidRefused}
+use Rattle.store.specs.Stores.{Store, lent, wellFormed, maxRows}
+use Rattle.store.specs.declared.record.Record.{Record}
+use Rattle.opening.specs.Clauses.{literalsIn, endsFrom}
+use Rattle.opening.specs.Opening.{bodyOf, openedBy, written}
+use Rattle.opening.specs.declared.Opened.{Opened}
+use Rattle.offering.specs.Offering.{rowFor, offeredBy, imagesAfter}
+use Rattle.offering.specs.declared.Offered.{Offered}
 use Rattle.symbreak.specs.declared.Compared.{Compared}
 use Rattle.symbreak.specs.declared.Figure.{Figure}
 
--- Compare: "one call gives that variable, or 0 when equal, and refuses unequal lengths or more than 519 words .. with 12", place 0
-unfoldable pub compareSays : List ℕ → List ℕ → Said ℕ
-compareSays a b =
-    cond (eqb (length a) (length b) && leb (length a) maxWords) (done (firstDifference (allBits a) (allBits b))) (refused 12 0)
+-- a call that answers without a value
+pub data Accepted : Type 0 where
+  accepted : Accepted
+
+-- ---- open: 1 to 6 by place, then 23. It looks at no old store, replaces it and drops its rows; a refused opening changes nothing.
+
+-- n and m
+pub record Sizes : Type 0 where
+  pub variables : ℕ
+  pub clauses : ℕ
+
+abbrev pub saidOpened : Opened → Said Sizes
+saidOpened (Opened.Open n m) = done (record { variables = n; clauses = m })
+saidOpened (Opened.Refused r) = saidRefused r
+
+unfoldable pub openSays : Store → List ℕ → Said Sizes
+openSays s text = saidOpened (openedBy text (length (s .literals)) (length (s .ends)))
+
+abbrev pub countsOpened : Opened → Record → Record
+countsOpened (Opened.Open n m) old = record { variables = n; clauses = m; rows = 0; is_open = true }
+countsOpened (Opened.Refused r) old = old
+
+unfoldable pub openStore : Store → List ℕ → Store
+openStore s text =
+    let answer = openedBy text (length (s .literals)) (length (s .ends)) in
+    lent (countsOpened answer (s .counts)) (written answer (literalsIn (bodyOf text)) (s .literals)) (written answer (endsFrom 0 (bodyOf text)) (s .ends)) (s .images)
+
+-- ---- offer: 20, 21, 22, then 7, 8, 9, 10, 11, 23
+
+abbrev pub saidOffered : Offered → Said Accepted
+saidOffered Offered.Accepted = done accepted
+saidOffered (Offered.Refused r) = saidRefused r
+
+unfoldable pub offerSays : Store → List ℕ → List ℕ → Said Accepted
+offerSays s names values =
+    cond (not (s .counts .is_open)) (refused 20 0)
+    (cond (not (wellFormed s)) (refused 21 0)
+    (cond (eqb (s .counts .rows) maxRows) (refused 22 0)
+    (saidOffered (offeredBy s names values))))
+
+-- the store with one row more, or as it was where the offer is refused
+abbrev pub storeOffered : Said Accepted → Store → List ℕ → Store
+storeOffered (done a) s row =
+    lent (record { variables = s .counts .variables; clauses = s .counts .clauses; rows = s .counts .rows + 1; is_open = s .counts .is_open })
+    (s .literals) (s .ends) (imagesAfter Offered.Accepted s row)
+storeOffered (refused number place) s row = s
+
+unfoldable pub offerStore : Store → List ℕ → List ℕ → Store
+offerStore s names values = storeOffered (offerSays s names values) s (rowFor s names values)
+
+-- ---- compare: "one call gives that variable, or 0 when equal, and refuses unequal lengths or more than 519 words .. with 12", place 0
 
 abbrev pub saidCompared : Compared → Said ℕ
 saidCompared (Compared.First variable) = done variable
 saidCompared (Compared.Refused r) = saidRefused r
 
--- Efficiency: 14, place 0
-unfoldable pub efficiencySays : ℕ → ℕ → ℕ → Said ℕ
-efficiencySays labelled unlabelled allowed =
-    cond (hasEfficiency labelled unlabelled allowed) (done (efficiencyOf labelled unlabelled allowed)) (refused 14 0)
+unfoldable pub compareSays : List ℕ → List ℕ → Said ℕ
+compareSays a b =
+    cond (eqb (length a) (length b) && leb (length a) maxWords) (done (firstDifference (allBits a) (allBits b))) (refused 12 0)
+
+-- ---- efficiency: 14, place 0
 
 abbrev pub saidFigure : Figure → Said ℕ
 saidFigure (Figure.Hundredths figure) = done figure
 saidFigure (Figure.Refused r) = saidRefused r
+
+unfoldable pub efficiencySays : ℕ → ℕ → ℕ → Said ℕ
+efficiencySays labelled unlabelled allowed =
+    cond (hasEfficiency labelled unlabelled allowed) (done (efficiencyOf labelled unlabelled allowed)) (refused 14 0)

@@ -1,16 +1,28 @@
--- What the exports for C return: structs of numbers that hold what the calls say. Assumes nothing.
+-- What the exports for C take and return: a record as four numbers, and structs of numbers that hold what the calls say. Assumes nothing.
 use Prim.Native.Nat.{ℕ}
-use mathlib.Core.Bool.{Bool, cond}
+use mathlib.Core.Bool.{Bool, cond, not}
+use lib.Dec.{eqb}
 use Rattle.store.specs.Refusals.{Said, done, refused}
 use Rattle.store.specs.declared.record.Record.{Record}
 use Rattle.symbreak.specs.declared.exports.CRecord.{CRecord}
 use Rattle.symbreak.specs.declared.exports.CAnswer.{CAnswer}
+use Rattle.symbreak.specs.declared.exports.CStored.{CStored}
 
--- a record as four numbers: open is 1, and 0 for closed
+-- the record that four numbers are: open is anything but 0
+abbrev pub recordOf : ℕ → ℕ → ℕ → ℕ → Record
+recordOf variables clauses rows is_open = record { variables = variables; clauses = clauses; rows = rows; is_open = not (eqb is_open 0) }
+
+-- and back: open is 1
 abbrev pub cRecord : Record → CRecord
 cRecord r = record { variables = r .variables; clauses = r .clauses; rows = r .rows; is_open = cond (r .is_open) 1 0 }
 
--- an answer as numbers: refusal 0 for none, then the value; or the refusal's number and its place
+-- an answer with one value: refusal 0 for none, and the value; or the refusal's number and its place
 abbrev pub cAnswer : Said ℕ → CAnswer
 cAnswer (done value) = record { refusal = 0; place = 0; value = value }
 cAnswer (refused number place) = record { refusal = number; place = place; value = 0 }
+
+-- an answer beside a record
+abbrev pub cStored : {Values : Type 0} → Said Values → Record → CStored
+cStored (done v) r = record { refusal = 0; place = 0; variables = r .variables; clauses = r .clauses; rows = r .rows; is_open = cond (r .is_open) 1 0 }
+cStored (refused number place) r =
+    record { refusal = number; place = place; variables = r .variables; clauses = r .clauses; rows = r .rows; is_open = cond (r .is_open) 1 0 }

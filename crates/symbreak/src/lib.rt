@@ -1,13 +1,28 @@
 // The public calls. Each takes any bytes, any numbers and any store, and answers as document 01 says or refuses with its number; none asks
 // anything of its caller. `exports` has them for C.
+use offering::Offered;
+use opening::Opened;
 use store::record::Record;
 use store::refusal::Refusal;
 ghost use mathlib.Core.Path.{_≡_};
-ghost use Rattle.store.specs.Stores.{closedRecord};
+ghost use mathlib.Core.List.{List, []};
+ghost use Rattle.store.specs.Stores.{lent, closedRecord};
 ghost use Rattle.packed.specs.Order.{part, lesserOf};
-ghost use Rattle.symbreak.specs.Calls.{compareSays, saidCompared, efficiencySays, saidFigure};
+ghost use Rattle.symbreak.specs.Calls.{saidOpened, openSays, openStore, saidOffered, offerSays, offerStore, saidCompared, compareSays, saidFigure, efficiencySays};
 
 pub mod exports;
+
+// What opening answers, with the record beside it.
+pub struct Opening {
+    pub answer: Opened,
+    pub counts: Record,
+}
+
+// What an offer answers, with the record beside it.
+pub struct Offering {
+    pub answer: Offered,
+    pub counts: Record,
+}
 
 // The variable at which two assignments first differ, 0 where they are equal.
 pub enum Compared {
@@ -28,6 +43,77 @@ pub fn new_record() -> Record
     ensures { λ r. ⌜ r ≡ closedRecord ⌝ }
 {
     Record::closed()
+}
+
+// Opens a formula: the text replaces what the store held, and its rows are dropped.
+pub fn open(counts: Record, text: &[u8], literals: &mut [u16], ends: &mut [u16]) -> Opening
+    ensures says { λ r. ⌜ saidOpened (r .answer) ≡ openSays (lent counts (now (literals .entry)) (now (ends .entry)) []) (now (text .entry)) ⌝ }
+    ensures leaves { λ r. ⌜ lent (r .counts) (now (literals .exit)) (now (ends .exit)) [] ≡ openStore (lent counts (now (literals .entry)) (now (ends .entry)) []) (now (text .entry)) ⌝ }
+{
+    let answer = opening::open(text, literals, ends);
+    let Opened::Open(n, m) = answer else {
+        return Opening {
+            answer: answer,
+            counts: counts,
+        };
+    };
+    Opening {
+        answer: answer,
+        counts: Record {
+            variables: n,
+            clauses: m,
+            rows: 0,
+            is_open: true,
+        },
+    }
+}
+
+// Offers a permutation, stated by a names line and a value line: a symmetry of the formula is held as one row more.
+pub fn offer(
+    counts: Record,
+    literals: &[u16],
+    ends: &[u16],
+    images: &mut [u16],
+    names: &[u8],
+    values: &[u8],
+) -> Offering
+    ensures says { λ r. ⌜ saidOffered (r .answer) ≡ offerSays (lent counts (now (literals .entry)) (now (ends .entry)) (now (images .entry))) (now (names .entry)) (now (values .entry)) ⌝ }
+    ensures leaves { λ r. ⌜ lent (r .counts) (now (literals .entry)) (now (ends .entry)) (now (images .exit)) ≡ offerStore (lent counts (now (literals .entry)) (now (ends .entry)) (now (images .entry))) (now (names .entry)) (now (values .entry)) ⌝ }
+{
+    if !counts.is_open {
+        return turned_back(Refusal::NotOpen, counts);
+    }
+    if !store::form::well_formed(counts, literals, ends, images) {
+        return turned_back(Refusal::BadlyFormed, counts);
+    }
+    if counts.rows == Record::MAX_ROWS {
+        return turned_back(Refusal::RowsFull, counts);
+    }
+    let answer = offering::offer(counts, literals, ends, images, names, values);
+    let Offered::Accepted = answer else {
+        return Offering {
+            answer: answer,
+            counts: counts,
+        };
+    };
+    Offering {
+        answer: answer,
+        counts: Record {
+            variables: counts.variables,
+            clauses: counts.clauses,
+            rows: counts.rows + 1,
+            is_open: counts.is_open,
+        },
+    }
+}
+
+fn turned_back(refusal: Refusal, counts: Record) -> Offering
+    ensures { λ r. ⌜ r ≡ record { answer = Offered.Refused refusal; counts = counts } ⌝ }
+{
+    Offering {
+        answer: Offered::Refused(refusal),
+        counts: counts,
+    }
 }
 
 // ---- assignments

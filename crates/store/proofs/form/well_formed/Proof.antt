@@ -7,7 +7,7 @@ use lib.ListN.{take}
 use lib.Seq.{length-take-le}
 use Rattle.lists.specs.Tests.{allOf}
 use Rattle.store.specs.Literals.{isLiteral}
-use Rattle.store.specs.Stores.{literalCount}
+use Rattle.store.specs.Stores.{literalCount, heldRows}
 use Rattle.store.proofs.Demands.{many-variables, many-clauses, many-rows, short-ends, falling-ends, many-literals, short-literals, bad-literal, short-images, rows-decide}
 use borrow.Author.Needs.{needs}
 use native.Mathlib.Omega.{arith}
@@ -74,6 +74,7 @@ rows-formed-requires : tie.Need-rows-formed-requires
 rows-formed-requires c κs = search needs
 
 returns-10 : tie.Need-returns-10
+unfolding heldRows
 returns-10 c =
     let e9 = c .before in
     let e8 = e9 .before in

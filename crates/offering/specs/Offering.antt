@@ -1,0 +1,43 @@
+-- An offer to a store that is open, well formed and not full (document 01, "Permutations", refusals 7 to 11 and 23). Assumes nothing.
+use Prim.Native.Nat.{ℕ, _+_, _*_}
+use mathlib.Core.Bool.{cond}
+use mathlib.Core.List.{List, _++_}
+use lib.ListN.{length, take, drop}
+use lib.Dec.{eqb, leb}
+use Rattle.store.specs.Stores.{Store, plainOf}
+use Rattle.store.specs.declared.refusal.Refusal.{Refusal}
+use Rattle.permutation.specs.Stated.{statedBy, rowStated}
+use Rattle.permutation.specs.declared.Stated.{Stated}
+use Rattle.symmetry.specs.Symmetry.{firstMissing}
+use Rattle.offering.specs.declared.Offered.{Offered}
+
+-- the row that two lines state for a store
+abbrev pub rowFor : Store → List ℕ → List ℕ → List ℕ
+rowFor s names values = rowStated (s .counts .variables) names values
+
+-- how many images the store holds with one row more
+abbrev pub imagesNeeded : Store → ℕ
+imagesNeeded s = (s .counts .rows + 1) * s .counts .variables
+
+-- 23: "an output slice too short (place: the length needed), tried last"
+unfoldable pub ifRoom : Store → Offered
+ifRoom s = cond (leb (imagesNeeded s) (length (s .images))) Offered.Accepted (Offered.Refused (Refusal.TooShort (imagesNeeded s)))
+
+-- 11: "no symmetry; the number, from 1, of the first clause whose image is missing"
+unfoldable pub ifSymmetry : ℕ → Store → Offered
+ifSymmetry missing s = cond (eqb missing 0) (ifRoom s) (Offered.Refused (Refusal.NoSymmetry missing))
+
+-- 7 to 10
+abbrev pub ifStated : Stated → ℕ → Store → Offered
+ifStated Stated.Permutation missing s = ifSymmetry missing s
+ifStated (Stated.Refused r) missing s = Offered.Refused r
+
+-- "An offer tries 7, 8, 9, 10, 11 in that order", then 23
+unfoldable pub offeredBy : Store → List ℕ → List ℕ → Offered
+offeredBy s names values =
+    ifStated (statedBy (s .counts .variables) names values) (firstMissing (rowFor s names values) (plainOf s)) s
+
+-- the images afterwards: the rows held, the new row, and what was past it; as they were where the offer is refused
+abbrev pub imagesAfter : Offered → Store → List ℕ → List ℕ
+imagesAfter Offered.Accepted s row = take (s .counts .rows * s .counts .variables) (s .images) ++ row ++ drop (imagesNeeded s) (s .images)
+imagesAfter (Offered.Refused r) s row = s .images

@@ -1,0 +1,65 @@
+// An offer: two lines are read as a permutation, which is checked to be a symmetry of the plain formula and then held as a row (document 01,
+// "Permutations"). The row is made in scratch memory, so that a refused offer writes nothing.
+use permutation::Stated;
+use store::record::Record;
+use store::refusal::Refusal;
+ghost use mathlib.Core.Path.{_≡_};
+ghost use mathlib.Core.Bool.{true};
+ghost use mathlib.Core.List.{_++_};
+ghost use Prim.Native.Nat.{_+_, _*_, _≤_, _<_};
+ghost use lib.ListN.{length, take, drop};
+ghost use Rattle.store.specs.Stores.{lent, wellFormed, maxVariables, maxRows};
+ghost use Rattle.offering.specs.Offering.{offeredBy, imagesAfter, rowFor};
+
+pub enum Offered {
+    Accepted,
+    Refused(Refusal),
+}
+
+// Tries an offer on a well-formed store that is not full, and appends its row to the images if it is accepted.
+pub fn offer(
+    counts: Record,
+    literals: &[u16],
+    ends: &[u16],
+    images: &mut [u16],
+    names: &[u8],
+    values: &[u8],
+) -> Offered
+    requires { ⌜ (wellFormed (lent counts (now literals) (now ends) (now images)) ≡ true) × (counts .rows < maxRows) ⌝ }
+    ensures answer { λ r. ⌜ r ≡ offeredBy (lent counts (now (literals .entry)) (now (ends .entry)) (now (images .entry))) (now (names .entry)) (now (values .entry)) ⌝ }
+    ensures images { λ r. ⌜ now (images .exit) ≡ imagesAfter r (lent counts (now (literals .entry)) (now (ends .entry)) (now (images .entry))) (rowFor (lent counts (now (literals .entry)) (now (ends .entry)) (now (images .entry))) (now (names .entry)) (now (values .entry))) ⌝ }
+{
+    let n = counts.variables;
+    let m = counts.clauses;
+    let rows = counts.rows;
+    let stated = permutation::check(names, values, n);
+    if let Stated::Refused(refusal) = stated {
+        return Offered::Refused(refusal);
+    }
+    let mut row = [0u16; 512];
+    permutation::fill_row(names, values, n, &mut row);
+    let used = store::form::literal_count(ends, m);
+    let missing = symmetry::first_missing(&literals[..used], &ends[..m], &row[..n]);
+    if missing != 0 {
+        return Offered::Refused(Refusal::NoSymmetry(missing));
+    }
+    let needed = (rows + 1) * n;
+    if images.len() < needed {
+        return Offered::Refused(Refusal::TooShort(needed));
+    }
+    append_row(images, rows, n, &row[..n]);
+    Offered::Accepted
+}
+
+// Writes a row of n images behind the rows held.
+fn append_row(images: &mut [u16], rows: usize, n: usize, row: &[u16])
+    requires { ⌜ (n ≤ maxVariables) × (rows < maxRows) × (length (now row) ≡ n) × (rows * n + n ≤ length (now images)) ⌝ }
+    ensures { λ _. ⌜ now (images .exit) ≡ take (rows * n) (now (images .entry)) ++ now (row .entry) ++ drop ((rows + 1) * n) (now (images .entry)) ⌝ }
+{
+    let at = rows * n;
+    let mut j = 0;
+    while j < n {
+        images[at + j] = row[j];
+        j += 1;
+    }
+}

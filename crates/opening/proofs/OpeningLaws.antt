@@ -1,0 +1,69 @@
+-- Opening as a whole: what a text that opens is known to hold. Assumes nothing.
+use mathlib.Core.Path.{_≡_, refl}
+use mathlib.Core.Bool.{Bool, true, false, cond}
+use mathlib.Core.List.{List}
+use Prim.Native.Nat.{ℕ, _≤_}
+use native.Mathlib.Omega.{arith}
+use borrow.Author.Tests.{leb-true}
+use lib.ListN.{length}
+use lib.Dec.{leb}
+use Rattle.dimacs.specs.Words.{wordsAt}
+use Rattle.store.specs.declared.refusal.Refusal.{Refusal}
+use Rattle.opening.specs.Problem.{problemOf}
+use Rattle.opening.specs.Clauses.{scanFrom}
+use Rattle.opening.specs.Opening.{bodyOf, wordsAfter, openedIf, openedAfter, openedBy}
+use Rattle.opening.specs.declared.Problem.{Problem}
+use Rattle.opening.specs.declared.Scanned.{Scanned}
+use Rattle.opening.specs.declared.Opened.{Opened}
+
+-- ---- by the problem line
+
+module _ (text : List ℕ) where
+  pub opened-by : (p : Problem) (literals ends : ℕ) → problemOf text ≡ p → openedBy text literals ends ≡ openedAfter p text literals ends
+  unfolding openedBy
+  opened-by p literals ends e = rw e
+
+  pub body-by : (p : Problem) → problemOf text ≡ p → bodyOf text ≡ wordsAfter p text
+  unfolding bodyOf
+  body-by p e = rw e
+
+-- ---- a scan that opens is done, and there is room
+
+pub record Room (s : Scanned) (m literals ends : ℕ) : Type 0 where
+  pub count : ℕ
+  pub done : s ≡ Scanned.Done count
+  pub literals-fit : count ≤ literals
+  pub ends-fit : m ≤ ends
+
+pub room : (s : Scanned) (n m literals ends a b : ℕ) → openedIf s n m literals ends ≡ Opened.Open a b → Room s m literals ends × (n ≡ a) × (m ≡ b)
+room (Scanned.Refused r) n m literals ends a b e = let f : _≡_ {A = ℕ} 0 1 = cc in absurd (omega arith)
+room (Scanned.Done count) n m literals ends a b e = by (leb count literals) refl (leb m ends) refl e
+  where
+    by : (t : Bool) → leb count literals ≡ t → (u : Bool) → leb m ends ≡ u
+        → cond t (cond u (Opened.Open n m) (Opened.Refused (Refusal.TooShort m))) (Opened.Refused (Refusal.TooShort count)) ≡ Opened.Open a b
+        → Room (Scanned.Done count) m literals ends × (n ≡ a) × (m ≡ b)
+    by true l true k q =
+        (record { count = count; done = refl; literals-fit = leb-true count literals l; ends-fit = leb-true m ends k }, cc, cc)
+    by true l false k q = let f : _≡_ {A = ℕ} 0 1 = cc in absurd (omega arith)
+    by false l u k q = let f : _≡_ {A = ℕ} 0 1 = cc in absurd (omega arith)
+
+-- ---- a text that opens
+
+pub record Opens (text : List ℕ) (literals ends n m : ℕ) : Type 0 where
+  pub start : ℕ
+  pub problem : problemOf text ≡ Problem.Line n m start
+  pub fits : Room (scanFrom (length text) n m 0 0 (bodyOf text)) m literals ends
+
+pub opens : (text : List ℕ) (literals ends n m : ℕ) → openedBy text literals ends ≡ Opened.Open n m → Opens text literals ends n m
+unfolding openedBy
+opens text literals ends n m e = by (problemOf text) refl e
+  where
+    by : (p : Problem) → problemOf text ≡ p → openedAfter p text literals ends ≡ Opened.Open n m → Opens text literals ends n m
+    by (Problem.Refused r) k q = let f : _≡_ {A = ℕ} 0 1 = cc in absurd (omega arith)
+    by (Problem.Line a b start) k q =
+        let r = room (scanFrom (length text) a b 0 0 (wordsAt text start)) a b literals ends n m q in
+        record {
+          start = start;
+          problem = rw (← r .1, ← r .2) k;
+          fits = rw (body-by text _ k, ← r .1, ← r .2) (r .0);
+        }

@@ -1,0 +1,110 @@
+-- `opening::open` meets its contract: the answer is that of the problem line, then of the scan, then of the room, and only then is anything
+-- written. Assumes nothing.
+use mathlib.Core.Path.{_≡_, refl, sym, ap, _∙_}
+use borrow.Author.Tests.{lt-leb, le-leb}
+use lib.ListN.{length}
+use Rattle.opening.specs.Problem.{problemOf}
+use Rattle.opening.specs.Opening.{openedIf, openedBy}
+use Rattle.opening.specs.declared.Problem.{Problem}
+use Rattle.opening.specs.declared.Scanned.{Scanned}
+use Rattle.opening.specs.declared.Opened.{Opened}
+use Rattle.opening.proofs.ProblemLaws.{line-limits}
+use Rattle.opening.proofs.OpeningLaws.{opened-by, body-by}
+use borrow.Author.Needs.{needs}
+use Rattle.opening.proofs.open.Statement.{statement}
+use Rattle.opening.proofs.open.Tie as tie
+
+-- the problem line, what the scan then decides, and that the text opens where there is room
+line : (c : tie.After-known-told2) → let n = c .before .n .given .0 in
+    problemOf (c .before .before .before .before .before .before .before .args .text .now) ≡ Problem.Line (n .0) (n .1 .0) (n .1 .1 .0)
+line c = sym (c .before .before .before .problem-of .ensures) ∙ c .before .n .given .1
+
+judged : (c : tie.After-scan) (s : Scanned) → let a = c .before .before .before .before .before .before .before .before .args in
+    let n = c .before .before .n .given .0 in
+    let literals = length (a .literals .now) in
+    let ends = length (a .ends .now) in
+    c .scan .result ≡ s → openedBy (a .text .now) literals ends ≡ openedIf s (n .0) (n .1 .0) literals ends
+judged c s e =
+    let a = c .before .before .before .before .before .before .before .before .args in
+    let n = c .before .before .n .given .0 in
+    opened-by _ _ _ _ (line (c .before))
+    ∙ ap (λ (t : Scanned). openedIf t (n .0) (n .1 .0) (length (a .literals .now)) (length (a .ends .now))) (sym (c .scan .ensures) ∙ e)
+
+opens : (c : tie.Else2) → let told = c .before .before .before .before .before .before .before in
+    let a = told .before .before .before .before .before .before .args in
+    openedBy (a .text .now) (length (a .literals .now)) (length (a .ends .now)) ≡ Opened.Open (told .n .given .0 .0) (told .n .given .0 .1 .0)
+opens c =
+    let told = c .before .before .before in
+    judged (told .before .before) _ (told .count .given .1) ∙ rw (le-leb _ _ (c .before .if1 .left), le-leb _ _ (c .if2 .left))
+
+problem-of-requires : tie.Need-problem-of-requires
+problem-of-requires c κs = search needs
+
+enum-known-refusal : tie.Need-enum-known-refusal
+enum-known-refusal c = search needs
+
+returns : tie.Need-returns
+returns c =
+    let told = c .before in
+    (sym (opened-by _ _ _ _ (sym (told .before .before .problem-of .ensures) ∙ told .refusal .given .1)), (refl, refl))
+
+enum-known-n : tie.Need-enum-known-n
+enum-known-n c = search needs
+
+scan-requires : tie.Need-scan-requires
+scan-requires c κs = search needs
+
+enum-known-refusal-2 : tie.Need-enum-known-refusal-2
+enum-known-refusal-2 c = search needs
+
+returns-2 : tie.Need-returns-2
+returns-2 c = (sym (judged (c .before .before .before) _ (c .before .refusal2 .given .1)), (refl, refl))
+
+enum-known-count : tie.Need-enum-known-count
+enum-known-count c = search needs
+
+returns-3 : tie.Need-returns-3
+returns-3 c =
+    let told = c .before .before in
+    (sym (judged (told .before .before) _ (told .count .given .1) ∙ rw (lt-leb _ _ (c .if1 .taken))), (refl, refl))
+
+returns-4 : tie.Need-returns-4
+returns-4 c =
+    let told = c .before .before .before in
+    (sym (judged (told .before .before) _ (told .count .given .1) ∙ rw (le-leb _ _ (c .before .if1 .left), lt-leb _ _ (c .if2 .taken))), (refl, refl))
+
+fill-requires : tie.Need-fill-requires
+fill-requires c κs =
+    let told = c .before .before .before .before .before .before .before .before in
+    (_, _, line-limits _ _ _ _ (line told) .variables, sym (opened-by _ _ _ _ (line told)) ∙ opens (c .before .before))
+
+same-length : tie.Need-same-length
+same-length c = search needs
+
+same-length-2 : tie.Need-same-length-2
+same-length-2 c = search needs
+
+returns-5 : tie.Need-returns-5
+returns-5 c =
+    let told = c .before .before .before .before .before .before .before .before .before .before .before .before .before in
+    let body = body-by _ _ (line told) in
+    (sym (opens (c .before .before .before .before .before .before .before)), (rw body (c .before .before .before .before .fill .ensures .0), rw body (c .before .before .before .before .fill .ensures .1)))
+
+pub open-spec : {M : Type 1} → statement M
+open-spec =
+    tie.close
+    (tie.spec
+    problem-of-requires
+    enum-known-refusal
+    returns
+    enum-known-n
+    scan-requires
+    enum-known-refusal-2
+    returns-2
+    enum-known-count
+    returns-3
+    returns-4
+    fill-requires
+    same-length
+    same-length-2
+    returns-5)

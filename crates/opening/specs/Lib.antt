@@ -1,0 +1,3 @@
+pub mod Problem
+pub mod Clauses
+pub mod Opening

@@ -1,0 +1,44 @@
+-- Opening a text (document 01, refusals 1 to 6, then 23). Assumes nothing.
+use Prim.Native.Nat.{ℕ}
+use mathlib.Core.Bool.{cond}
+use mathlib.Core.List.{List, [], _++_}
+use lib.ListN.{length, drop}
+use lib.Dec.{leb}
+use Rattle.dimacs.specs.Words.{Piece, wordsAt}
+use Rattle.store.specs.declared.refusal.Refusal.{Refusal}
+use Rattle.opening.specs.Problem.{problemOf}
+use Rattle.opening.specs.Clauses.{scanFrom, literalsIn, endsFrom, clausesFrom}
+use Rattle.opening.specs.declared.Problem.{Problem}
+use Rattle.opening.specs.declared.Scanned.{Scanned}
+use Rattle.opening.specs.declared.Opened.{Opened}
+
+-- the words after the problem line
+abbrev pub wordsAfter : Problem → List ℕ → List Piece
+wordsAfter (Problem.Line n m end) text = wordsAt text end
+wordsAfter (Problem.Refused r) text = []
+
+unfoldable pub bodyOf : List ℕ → List Piece
+bodyOf text = wordsAfter (problemOf text) text
+
+-- "23. An output slice too short (place: the length needed), tried last; opening tries literals before ends."
+abbrev pub openedIf : Scanned → ℕ → ℕ → ℕ → ℕ → Opened
+openedIf (Scanned.Done count) n m literals ends =
+    cond (leb count literals) (cond (leb m ends) (Opened.Open n m) (Opened.Refused (Refusal.TooShort m))) (Opened.Refused (Refusal.TooShort count))
+openedIf (Scanned.Refused r) n m literals ends = Opened.Refused r
+
+abbrev pub openedAfter : Problem → List ℕ → ℕ → ℕ → Opened
+openedAfter (Problem.Line n m end) text literals ends = openedIf (scanFrom (length text) n m 0 0 (wordsAt text end)) n m literals ends
+openedAfter (Problem.Refused r) text literals ends = Opened.Refused r
+
+-- what opening a text answers where the literals and ends slices have these lengths
+unfoldable pub openedBy : List ℕ → ℕ → ℕ → Opened
+openedBy text literals ends = openedAfter (problemOf text) text literals ends
+
+-- a slice afterwards: written over from its start where the text was opened, as it was where it was refused
+abbrev pub written : Opened → List ℕ → List ℕ → List ℕ
+written (Opened.Open n m) front old = front ++ drop (length front) old
+written (Opened.Refused r) front old = old
+
+-- the plain formula of a text
+unfoldable pub formulaOf : List ℕ → List (List ℕ)
+formulaOf text = clausesFrom [] (bodyOf text)

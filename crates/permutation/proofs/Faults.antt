@@ -1,0 +1,111 @@
+-- The faults of a line: one law for each way through the loops that look for them. Assumes nothing.
+use mathlib.Core.Path.{_≡_, refl, sym, _∙_}
+use mathlib.Core.Bool.{Bool, true, false, cond, not, _&&_, and-false}
+use mathlib.Core.List.{List, [], _∷_}
+use mathlib.Core.Logic.{⊎-elim}
+use Prim.Native.Nat.{ℕ, _≤_, _<_}
+use native.Mathlib.Omega.{arith}
+use borrow.Author.Tests.{lt-ltb, le-ltb}
+use lib.ListN.{length}
+use Rattle.lists.specs.Tests.{has}
+use Rattle.lists.proofs.Cases.{never, and-l, not-so, lt-or-le}
+use Rattle.dimacs.specs.Words.{Piece, isBlank, runEnd, wordsAt}
+use Rattle.dimacs.specs.Numbers.{readingAt}
+use Rattle.dimacs.specs.declared.Number.{Number}
+use Rattle.dimacs.specs.declared.Reading.{Reading}
+use Rattle.dimacs.proofs.WordLaws.{no-word}
+use Rattle.store.specs.Literals.{variableOf}
+use Rattle.store.specs.Stores.{isImage}
+use Rattle.store.specs.Numerals.{codeIn}
+use Rattle.permutation.specs.Lines.{notNumber, badNameAfter, badName, badValueAfter}
+use Rattle.permutation.specs.declared.Fault.{Fault}
+use Rattle.permutation.proofs.Walks.{Word, Stray, word-refused}
+use Rattle.permutation.proofs.Marks.{isFree}
+use Rattle.permutation.proofs.NameLaws.{nameIn, IsName, image-sign, name-some}
+use Rattle.permutation.proofs.InOrder.{Named, isValue, value-image}
+
+-- ---- 7 and 9
+
+pub number-end : {words : List Piece} → words ≡ [] → notNumber words ≡ Fault.Nowhere
+unfolding notNumber
+number-end e = rw e
+
+pub number-stray : {line : List ℕ} {at place : ℕ} → Stray line at place → notNumber (wordsAt line at) ≡ Fault.At place
+unfolding notNumber
+number-stray s = rw (s .words, s .number)
+
+pub number-on : {line : List ℕ} {at place next : ℕ} {x : Number} → Word line at place x next
+    → notNumber (wordsAt line at) ≡ notNumber (wordsAt line next)
+unfolding notNumber
+number-on w = rw (w .words, w .number)
+
+-- on a line of numbers `read` refuses only at the end
+pub all-read : (line : List ℕ) (at place p : ℕ) → place ≡ runEnd isBlank line at → notNumber (wordsAt line at) ≡ Fault.Nowhere
+    → readingAt line place ≡ Reading.Refused p → wordsAt line at ≡ []
+all-read line at place p found none e =
+    ⊎-elim
+    (λ h. let z : _≡_ {A = ℕ} 0 1 = cc (number-stray (word-refused line at place found h p e)) in absurd (omega arith))
+    (no-word line at place found)
+    (lt-or-le place (length line))
+
+-- ---- 8
+
+pub name-missing : (n end : ℕ) {words : List Piece} → words ≡ [] → badName n end words ≡ Fault.At end
+unfolding badName
+name-missing n end e = rw e
+
+pub name-first : (n end : ℕ) {words : List Piece} {w : Piece} {rest : List Piece} → words ≡ w ∷ rest → badName n end words ≡ badNameAfter n [] words
+unfolding badName
+name-first n end e = rw e
+
+module _ (n : ℕ) (seen : List ℕ) where
+  pub name-end : {words : List Piece} → words ≡ [] → badNameAfter n seen words ≡ Fault.Nowhere
+  unfolding badNameAfter
+  name-end e = rw e
+
+  module _ {words : List Piece} {w : Piece} {rest : List Piece} (e : words ≡ w ∷ rest) where
+    pub name-outside : isImage n (codeIn w) ≡ false → badNameAfter n seen words ≡ Fault.At (w .place)
+    unfolding badNameAfter
+    name-outside i = rw (e, i)
+
+    pub name-twice : (name : ℕ) → IsName n (codeIn w) name → has seen name ≡ true → badNameAfter n seen words ≡ Fault.At (w .place)
+    unfolding badNameAfter
+    name-twice name i h = rw (e, i .is, h, and-false (isImage n (codeIn w)))
+
+    pub name-on : (name : ℕ) → IsName n (codeIn w) name → has seen name ≡ false → badNameAfter n seen words ≡ badNameAfter n (name ∷ seen) rest
+    unfolding badNameAfter
+    name-on name i h = rw (e, i .is, h, i .image)
+
+-- ---- 10
+
+free-some : {n : ℕ} {names : List ℕ} → Named n names → (used : List ℕ) (v : ℕ) → isFree names used v ≡ true → v ≡ 0 → ⊥
+free-some {names = names} named used v f e = omega (arith, named .low v (and-l (has names v) (not (has used v)) f))
+
+pub zero-taken : {n : ℕ} {names : List ℕ} → Named n names → (used : List ℕ) → isFree names used 0 ≡ false
+zero-taken named used = not-so _ (λ f. free-some named used 0 f refl)
+
+module _ (names : List ℕ) (end : ℕ) (used : List ℕ) where
+  pub value-few : {words : List Piece} → words ≡ [] → length used < length names → badValueAfter names end used words ≡ Fault.At end
+  unfolding badValueAfter
+  value-few e h = rw (e, lt-ltb (length used) (length names) h)
+
+  pub value-end : {words : List Piece} → words ≡ [] → length names ≤ length used → badValueAfter names end used words ≡ Fault.Nowhere
+  unfolding badValueAfter
+  value-end e h = rw (e, le-ltb (length used) (length names) h)
+
+  module _ {words : List Piece} {w : Piece} {rest : List Piece} (e : words ≡ w ∷ rest)
+      (n name : ℕ) (is : name ≡ nameIn n (codeIn w)) (named : Named n names) where
+    pub value-stop : isFree names used name ≡ false → badValueAfter names end used words ≡ Fault.At (w .place)
+    unfolding badValueAfter
+    value-stop f = rw (e, not-free (isImage n (codeIn w)) refl is)
+      where
+        not-free : (t : Bool) → isImage n (codeIn w) ≡ t → name ≡ cond t (variableOf (codeIn w)) 0
+            → (isValue names (codeIn w) && not (has used (variableOf (codeIn w)))) ≡ false
+        not-free true i q = rw (image-sign n (codeIn w) i, ← q) f
+        not-free false i q = rw (not-so (isValue names (codeIn w)) (λ t. never (sym i ∙ value-image n names (codeIn w) named t)))
+
+    pub value-on : isFree names used name ≡ true → badValueAfter names end used words ≡ badValueAfter names end (name ∷ used) rest
+    unfolding badValueAfter
+    value-on f =
+        let i = name-some n (codeIn w) name is (free-some named used name f) in
+        rw (e, i .is, image-sign n (codeIn w) (i .image), f)

@@ -1,0 +1,170 @@
+-- What is known of lines without a fault. Assumes nothing.
+use mathlib.Core.Path.{_≡_, refl, sym, _∙_}
+use mathlib.Core.Bool.{Bool, true, false, cond, not, _&&_}
+use mathlib.Core.List.{List, [], _∷_, map, map-map}
+use Prim.Native.Nat.{ℕ, _+_, _%_, _≤_}
+use native.Mathlib.Omega.{arith}
+use borrow.Author.Tests.{not-true, eqb-true, eqb-false, ltb-false}
+use lib.ListN.{length, getD, length-map}
+use lib.Dec.{eqb, ltb}
+use Rattle.lists.specs.Tests.{anyOf, allOf, has, distinct}
+use Rattle.lists.proofs.Cases.{never, and-l, and-r, and-both, or-cases, or-r-false, not-so}
+use Rattle.lists.proofs.Members.{place, all-at, all-has}
+use Rattle.dimacs.specs.Words.{Piece, wordsAt}
+use Rattle.store.specs.Literals.{variableOf, isNegative}
+use Rattle.store.specs.Stores.{isImage}
+use Rattle.store.specs.declared.refusal.Refusal.{Refusal}
+use Rattle.store.proofs.FormLaws.{variables, variable-at, literal-low, literal-high, image-literal}
+use Rattle.store.specs.Numerals.{codeIn}
+use Rattle.permutation.specs.Lines.{notNumber, badNameAfter, badName, badValueAfter, namesOn, valuesOn}
+use Rattle.permutation.specs.Stated.{orElse, statedBy}
+use Rattle.permutation.specs.declared.Fault.{Fault}
+use Rattle.permutation.specs.declared.Stated.{Stated}
+use Rattle.permutation.proofs.Lists.{has-head, has-rest, rest-differ, no-longer}
+use Rattle.permutation.proofs.NameLaws.{is-image}
+
+-- ---- codes that pass a test, with variables that are new
+
+record Sifted (pass : ℕ → Bool) (seen codes : List ℕ) : Type 0 where
+  passes : allOf pass codes ≡ true
+  fresh : (v : ℕ) → has (variables codes) v ≡ true → has seen v ≡ false
+  differ : distinct (variables codes) ≡ true
+
+sifted-none : (pass : ℕ → Bool) (seen : List ℕ) → Sifted pass seen []
+unfolding allOf anyOf distinct
+sifted-none pass seen = record { passes = refl; fresh = λ v h. never h; differ = refl }
+
+sifted-more : (pass : ℕ → Bool) (seen : List ℕ) (code : ℕ) (codes : List ℕ) → (pass code && not (has seen (variableOf code))) ≡ true
+    → Sifted pass (variableOf code ∷ seen) codes → Sifted pass seen (code ∷ codes)
+unfolding allOf anyOf distinct
+sifted-more pass seen code codes e rest =
+    let v : ℕ = variableOf code in
+    let new : has seen v ≡ false = not-true (has seen v) (and-r (pass code) (not (has seen v)) e) in
+    let once : has (variables codes) v ≡ false = not-so _ (λ h. never (sym (rest .fresh v h) ∙ has-head v seen)) in
+    record {
+      passes = and-both (and-l (pass code) (not (has seen v)) e) (rest .passes);
+      fresh = λ u h. or-cases (eqb v u) (has (variables codes) u) h
+          (λ q. rw (← (eqb-true v u q)) new)
+          (λ k. or-r-false (eqb v u) (has seen u) (rest .fresh u k));
+      differ = rw once (rest .differ);
+    }
+
+-- a test that no fault comes of
+clear : (t : Bool) (next : Fault) (place : ℕ) → cond t next (Fault.At place) ≡ Fault.Nowhere → (t ≡ true) × (next ≡ Fault.Nowhere)
+clear true next place e = (refl, e)
+clear false next place e = let z : _≡_ {A = ℕ} 0 1 = cc in absurd (omega arith)
+
+names-sifted : (n : ℕ) (seen : List ℕ) (words : List Piece) → badNameAfter n seen words ≡ Fault.Nowhere → Sifted (isImage n) seen (map codeIn words)
+unfolding badNameAfter
+names-sifted n seen [] e = sifted-none (isImage n) seen
+names-sifted n seen (w ∷ words) e =
+    let p = clear _ _ (w .place) e in
+    sifted-more (isImage n) seen (codeIn w) (map codeIn words) (p .0) (names-sifted n _ words (p .1))
+
+-- ---- the names
+
+pub record Named (n : ℕ) (names : List ℕ) : Type 0 where
+  pub low : (v : ℕ) → has names v ≡ true → 1 ≤ v
+  pub high : (v : ℕ) → has names v ≡ true → v ≤ n
+  pub differ : distinct names ≡ true
+
+pub named-rest : {n a : ℕ} {names rest : List ℕ} → Named n names → names ≡ a ∷ rest → Named n rest
+named-rest {a = a} {rest = rest} m e = record {
+  low = λ v h. m .low v (rw e (has-rest a rest v h));
+  high = λ v h. m .high v (rw e (has-rest a rest v h));
+  differ = rest-differ a rest (rw e at (m .differ));
+}
+
+-- a variable of a list of codes is that of a code in the list
+variable-in : (pass : ℕ → Bool) (codes : List ℕ) (v : ℕ) → allOf pass codes ≡ true → has (variables codes) v ≡ true
+    → (code : ℕ) × (pass code ≡ true) × (variableOf code ≡ v)
+variable-in pass codes v e h =
+    let p = place (variables codes) v h in
+    let k : ℕ = p .0 in
+    (getD codes k 0, all-at pass codes 0 e k (rw (length-map codes variableOf) at (p .1)), sym (variable-at codes k) ∙ p .2)
+
+names-of : (n : ℕ) (codes : List ℕ) → Sifted (isImage n) [] codes → Named n (variables codes)
+names-of n codes s = record {
+  low = λ v h. let c = variable-in (isImage n) codes v (s .passes) h in omega (arith, literal-low n (c .0) (image-literal n (c .0) (c .1)), c .2);
+  high = λ v h. let c = variable-in (isImage n) codes v (s .passes) h in omega (arith, literal-high n (c .0) (image-literal n (c .0) (c .1)), c .2);
+  differ = s .differ;
+}
+
+pub named-on : (n end : ℕ) (line : List ℕ) → badName n end (wordsAt line 0) ≡ Fault.Nowhere → Named n (namesOn line)
+unfolding namesOn badName badNameAfter
+named-on n end line e =
+    rw (← (map-map variableOf codeIn (wordsAt line 0))) (names-of n _ (names-sifted n [] (wordsAt line 0) (after (wordsAt line 0) e)))
+  where
+    after : (words : List Piece) → badName n end words ≡ Fault.Nowhere → badNameAfter n [] words ≡ Fault.Nowhere
+    after [] q = refl
+    after (w ∷ words) q = q
+
+-- ---- the values
+
+-- a name itself, as a code
+abbrev pub isValue : List ℕ → ℕ → Bool
+isValue names code = not (isNegative code) && has names (variableOf code)
+
+value-among : (names : List ℕ) (code : ℕ) → isValue names code ≡ true → has names (variableOf code) ≡ true
+value-among names code e = and-r (not (isNegative code)) (has names (variableOf code)) e
+
+pub value-image : (n : ℕ) (names : List ℕ) (code : ℕ) → Named n names → isValue names code ≡ true → isImage n code ≡ true
+value-image n names code named e =
+    let sign : isNegative code ≡ false = not-true (isNegative code) (and-l (not (isNegative code)) (has names (variableOf code)) e) in
+    let name = value-among names code e in
+    is-image n code (named .low _ name) (named .high _ name) (omega (arith, eqb-false (code % 2) 1 sign))
+
+values-sifted : (names : List ℕ) (end : ℕ) (used : List ℕ) (words : List Piece) → badValueAfter names end used words ≡ Fault.Nowhere
+    → Sifted (isValue names) used (map codeIn words) × (length names ≤ length used + length words)
+unfolding badValueAfter
+values-sifted names end used [] e = (sifted-none (isValue names) used, by (ltb (length used) (length names)) refl e)
+  where
+    by : (t : Bool) → ltb (length used) (length names) ≡ t → cond t (Fault.At end) Fault.Nowhere ≡ Fault.Nowhere → length names ≤ length used + 0
+    by true q k = let z : _≡_ {A = ℕ} 0 1 = cc in absurd (omega arith)
+    by false q k = omega (arith, ltb-false (length used) (length names) q)
+values-sifted names end used (w ∷ words) e =
+    let p = clear _ _ (w .place) e in
+    let rest = values-sifted names end (variableOf (codeIn w) ∷ used) words (p .1) in
+    (sifted-more (isValue names) used (codeIn w) (map codeIn words) (p .0) (rest .0), omega (arith, rest .1))
+
+-- ---- both lines
+
+pub record InOrder (n : ℕ) (names values : List ℕ) : Type 0 where
+  pub name-numbers : notNumber (wordsAt names 0) ≡ Fault.Nowhere
+  pub value-numbers : notNumber (wordsAt values 0) ≡ Fault.Nowhere
+  pub named : Named n (namesOn names)
+  pub among : (code : ℕ) → has (valuesOn values) code ≡ true → has (namesOn names) (variableOf code) ≡ true
+  pub image : (code : ℕ) → has (valuesOn values) code ≡ true → isImage n code ≡ true
+  pub differ : distinct (variables (valuesOn values)) ≡ true
+  pub as-many : length (valuesOn values) ≡ length (namesOn names)
+
+-- a rule that no refusal comes of
+passed : (f : Fault) (refusal : ℕ → Refusal) (next : Stated) → orElse f refusal next ≡ Stated.Permutation
+    → (f ≡ Fault.Nowhere) × (next ≡ Stated.Permutation)
+passed (Fault.At place) refusal next e = let z : _≡_ {A = ℕ} 0 1 = cc in absurd (omega arith)
+passed Fault.Nowhere refusal next e = (refl, e)
+
+pub in-order : (n : ℕ) (names values : List ℕ) → statedBy n names values ≡ Stated.Permutation → InOrder n names values
+unfolding statedBy valuesOn
+in-order n names values e =
+    let first = passed _ _ _ e in
+    let second = passed _ _ _ (first .1) in
+    let third = passed _ _ _ (second .1) in
+    let fourth = passed _ _ _ (third .1) in
+    let words : List Piece = wordsAt values 0 in
+    let named : Named n (namesOn names) = named-on n (length names) names (second .0) in
+    let s = values-sifted (namesOn names) (length values) [] words (fourth .0) in
+    let value : (code : ℕ) → has (map codeIn words) code ≡ true → isValue (namesOn names) code ≡ true =
+    λ code h. all-has (isValue (namesOn names)) (map codeIn words) code (s .0 .passes) h in
+    let name : (v : ℕ) → has (variables (map codeIn words)) v ≡ true → has (namesOn names) v ≡ true =
+    λ v h. let c = variable-in (isValue (namesOn names)) (map codeIn words) v (s .0 .passes) h in rw (← (c .2)) (value-among (namesOn names) (c .0) (c .1)) in
+    let most = no-longer (variables (map codeIn words)) (namesOn names) (s .0 .differ) name in
+    record {
+      name-numbers = first .0;
+      value-numbers = third .0;
+      named = named;
+      among = λ code h. value-among (namesOn names) code (value code h);
+      image = λ code h. value-image n (namesOn names) code named (value code h);
+      differ = s .0 .differ;
+      as-many = omega (arith, s .1, most, length-map (map codeIn words) variableOf, length-map words codeIn);
+    }

@@ -1,0 +1,9 @@
+pub mod Lists
+pub mod Walks
+pub mod Marks
+pub mod NameLaws
+pub mod InOrder
+pub mod Faults
+pub mod RowLaws
+pub mod Theorem
+pub mod Examples

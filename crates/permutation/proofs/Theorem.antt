@@ -1,0 +1,116 @@
+-- Two lines in order state a permutation: each value stands in its name's place, and every other variable in its own. Assumes nothing.
+use mathlib.Core.Path.{_≡_, refl, sym, ap, _∙_}
+use mathlib.Core.Bool.{Bool, true, false}
+use mathlib.Core.List.{List}
+use mathlib.Core.Logic.{_⊎_, inl, inr, ⊎-elim}
+use Prim.Native.Nat.{ℕ, suc, _-_, _*_, _≤_, _<_}
+use native.Mathlib.Omega.{arith}
+use borrow.Author.Tests.{eq-eqb}
+use lib.ListN.{length, getD, length-map}
+use Rattle.lists.specs.Tests.{has}
+use Rattle.lists.proofs.Cases.{never}
+use Rattle.lists.proofs.Members.{place, placed, all-in}
+use Rattle.lists.proofs.Distinct.{distinct-inj}
+use Rattle.store.specs.Literals.{variableOf}
+use Rattle.store.specs.Stores.{isImage, isRow}
+use Rattle.store.proofs.FormLaws.{variables, variable-at}
+use Rattle.permutation.specs.Lines.{namesOn, valuesOn}
+use Rattle.permutation.specs.Stated.{statedBy, imageAmong, rowStated}
+use Rattle.permutation.specs.declared.Stated.{Stated}
+use Rattle.permutation.proofs.Lists.{all-differ}
+use Rattle.permutation.proofs.NameLaws.{is-image}
+use Rattle.permutation.proofs.InOrder.{InOrder, in-order}
+use Rattle.permutation.proofs.RowLaws.{among-elsewhere, among-at, row-length, row-at}
+
+-- the image of variable i at index i - 1
+row-of : (n : ℕ) (names values : List ℕ) (i : ℕ) → 1 ≤ i → i ≤ n
+    → getD (rowStated n names values) (i - 1) 0 ≡ imageAmong (namesOn names) (valuesOn values) i
+row-of n names values i low high =
+    let next : suc (i - 1) ≡ i = omega arith in
+    rw next at (row-at n names values (i - 1) (omega arith))
+
+pub row-elsewhere : (n : ℕ) (names values : List ℕ) (i : ℕ) → 1 ≤ i → i ≤ n → has (namesOn names) i ≡ false
+    → getD (rowStated n names values) (i - 1) 0 ≡ 2 * i
+row-elsewhere n names values i low high e = row-of n names values i low high ∙ among-elsewhere (namesOn names) (valuesOn values) i e
+
+module _ (n : ℕ) (names values : List ℕ) (o : InOrder n names values) where
+  abbrev named : List ℕ
+  named = namesOn names
+
+  abbrev stated : List ℕ
+  stated = valuesOn values
+
+  image-at : (k : ℕ) → k < length named → imageAmong named stated (getD named k 0) ≡ getD stated k 0
+  image-at k h = among-at named stated (o .named .differ) (omega (arith, o .as-many)) k h
+
+  -- a variable is named at some place, or it stays
+  record NamedAt (v : ℕ) : Type 0 where
+    k : ℕ
+    within : k < length stated
+    name : getD named k 0 ≡ v
+    value : imageAmong named stated v ≡ getD stated k 0
+
+  record Stays (v : ℕ) : Type 0 where
+    unnamed : has named v ≡ false
+    same : imageAmong named stated v ≡ 2 * v
+
+  image-of : (v : ℕ) → NamedAt v ⊎ Stays v
+  image-of v = by (has named v) refl
+    where
+      by : (t : Bool) → has named v ≡ t → NamedAt v ⊎ Stays v
+      by true e =
+          let p = place named v e in
+          inl (record { k = p .0; within = omega (arith, o .as-many, p .1); name = p .2; value = rw (p .2) at (image-at (p .0) (p .1)) })
+      by false e = inr (record { unnamed = e; same = among-elsewhere named stated v e })
+
+  stated-at : (k : ℕ) → k < length stated → has stated (getD stated k 0) ≡ true
+  stated-at k h = placed stated (getD stated k 0) k h refl
+
+  image-is : (v : ℕ) → 1 ≤ v → v ≤ n → isImage n (imageAmong named stated v) ≡ true
+  image-is v low high =
+      ⊎-elim (λ a. rw (a .value) (o .image _ (stated-at (a .k) (a .within))))
+      (λ s. rw (s .same) (is-image n (2 * v) (omega arith) (omega arith) (omega arith)))
+      (image-of v)
+
+  -- no value is a variable that stays
+  apart : (u v : ℕ) → NamedAt u → Stays v → variableOf (imageAmong named stated u) ≡ variableOf (imageAmong named stated v) → ⊥
+  apart u v a s e =
+      let same : variableOf (getD stated (a .k) 0) ≡ v = omega (arith, e, a .value, s .same) in
+      never (sym (s .unnamed) ∙ rw same at (o .among _ (stated-at (a .k) (a .within))))
+
+  one-place : (u v : ℕ) → variableOf (imageAmong named stated u) ≡ variableOf (imageAmong named stated v) → u ≡ v
+  one-place u v e =
+      ⊎-elim (λ a. ⊎-elim (both a) (λ s. absurd (apart u v a s e)) (image-of v))
+      (λ s. ⊎-elim (λ b. absurd (apart v u b s (sym e))) (λ t. omega (arith, e, s .same, t .same)) (image-of v))
+      (image-of u)
+    where
+      both : NamedAt u → NamedAt v → u ≡ v
+      both a b =
+          let same : variableOf (getD stated (a .k) 0) ≡ variableOf (getD stated (b .k) 0) = omega (arith, e, a .value, b .value) in
+          let size = length-map stated variableOf in
+          let place = distinct-inj (variables stated) (o .differ) (a .k) (b .k) (omega (arith, a .within, size)) (omega (arith, b .within, size))
+          (variable-at stated (a .k) ∙ same ∙ sym (variable-at stated (b .k))) in
+          sym (a .name) ∙ ap (λ (k : ℕ). getD named k 0) place ∙ b .name
+
+  row-is : isRow n (rowStated n names values) ≡ true
+  unfolding isRow
+  row-is =
+      let row : List ℕ = rowStated n names values in
+      let size : length row ≡ n = row-length n names values in
+      let images : (i : ℕ) → i < length row → isImage n (getD row i 0) ≡ true =
+      λ i h. rw (row-at n names values i (omega arith)) (image-is (suc i) (omega arith) (omega arith)) in
+      let many = length-map row variableOf in
+      let at : (i : ℕ) → i < length (variables row) → getD (variables row) i 0 ≡ variableOf (imageAmong named stated (suc i)) =
+      λ i h. variable-at row i ∙ rw (row-at n names values i (omega (arith, many))) in
+      let different = all-differ (variables row) (λ i j h k q. omega (arith, one-place (suc i) (suc j) (sym (at i h) ∙ q ∙ at j k))) in
+      rw (eq-eqb (length row) n size, all-in (isImage n) row 0 images, different)
+
+pub stated-row : (n : ℕ) (names values : List ℕ) → statedBy n names values ≡ Stated.Permutation → isRow n (rowStated n names values) ≡ true
+stated-row n names values e = row-is n names values (in-order n names values e)
+
+pub row-at-name : (n : ℕ) (names values : List ℕ) → statedBy n names values ≡ Stated.Permutation
+    → (k : ℕ) → k < length (namesOn names) → getD (rowStated n names values) (getD (namesOn names) k 0 - 1) 0 ≡ getD (valuesOn values) k 0
+row-at-name n names values e k h =
+    let o = in-order n names values e in
+    let name : has (namesOn names) (getD (namesOn names) k 0) ≡ true = placed (namesOn names) _ k h refl in
+    row-of n names values (getD (namesOn names) k 0) (o .named .low _ name) (o .named .high _ name) ∙ image-at n names values o k h

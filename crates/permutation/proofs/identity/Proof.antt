@@ -1,0 +1,74 @@
+-- `permutation::identity` meets its contract. The invariant: the first i images are written, and the rest is as it was. Assumes nothing.
+use mathlib.Core.Path.{_≡_, refl}
+use Prim.Native.Nat.{suc, _-_, _*_, _≤_}
+use mathlib.Core.List.{_++_}
+use lib.ListN.{length, drop, length-set}
+use Rattle.lists.specs.Tables.{table}
+use Rattle.permutation.proofs.RowLaws.{table-none, table-more}
+use borrow.Author.Needs.{needs}
+use native.Mathlib.Omega.{arith}
+use Rattle.permutation.proofs.identity.Statement.{statement}
+use Rattle.permutation.proofs.identity.Tie as tie
+
+abbrev Inv-loop : tie.InvT-loop
+Inv-loop n row₀ i₀ row i = (i ≤ n) × (length row ≡ length row₀) × (row ≡ table i (λ k. 2 * suc k) ++ drop i row₀)
+
+abbrev μ-loop : tie.MeasureT-loop
+μ-loop n row₀ i₀ row i = n - i
+
+loop-holds : tie.Need-loop-holds Inv-loop μ-loop
+loop-holds c = (omega arith, refl, table-none _ _)
+
+add-code : tie.Need-add-code Inv-loop μ-loop
+add-code c = omega arith
+
+cast-code : tie.Need-cast-code Inv-loop μ-loop
+cast-code c = omega arith
+
+code-requires : tie.Need-code-requires Inv-loop μ-loop
+code-requires c κs = search needs
+
+mul-row : tie.Need-mul-row Inv-loop μ-loop
+mul-row c = omega arith
+
+slice-write-row : tie.Need-slice-write-row Inv-loop μ-loop
+slice-write-row c = omega arith
+
+add-i : tie.Need-add-i Inv-loop μ-loop
+add-i c = omega arith
+
+loop-less : tie.Need-loop-less Inv-loop μ-loop
+loop-less c = omega arith
+
+loop-again : tie.Need-loop-again Inv-loop μ-loop
+loop-again c =
+    let at = c .before .before in
+    let inv = at .loop .inv in
+    let image : c .code .result ≡ 2 * suc (at .loop .i) = omega (arith, c .code .ensures) in
+    (omega arith, simp length-set (inv .1), rw (inv .2, image) (table-more _ _ (at .loop .i) (omega arith)))
+
+same-length : tie.Need-same-length Inv-loop μ-loop
+same-length c = c .before .loop .inv .1
+
+returns : tie.Need-returns Inv-loop μ-loop
+returns c =
+    let all : c .before .loop .i ≡ c .before .before .before .args .n = omega arith in
+    rw all at (c .before .loop .inv .2)
+
+pub identity-spec : {M : Type 1} → statement M
+identity-spec =
+    tie.close
+    (tie.spec
+    Inv-loop
+    μ-loop
+    loop-holds
+    add-code
+    cast-code
+    code-requires
+    mul-row
+    slice-write-row
+    add-i
+    loop-less
+    loop-again
+    same-length
+    returns)

@@ -1,0 +1,76 @@
+"""Random input for the tests: formulas that are symmetric by construction, texts and lines that are in order or damaged."""
+
+
+def permutation(chance, n):
+    """A permutation of 1..n as a list of images, more often one that moves little."""
+    images = list(range(1, n + 1))
+    moving = chance.sample(range(n), chance.randint(0, n)) if chance.random() < 0.5 else chance.sample(range(n), min(n, 2))
+    values = [images[i] for i in moving]
+    chance.shuffle(values)
+    for i, value in zip(moving, values):
+        images[i] = value
+    return images
+
+
+def image(clause, images):
+    return [images[abs(literal) - 1] * (1 if literal > 0 else -1) for literal in clause]
+
+
+def formula(chance, n, most):
+    """Clauses over 1..n, with repeats of literals and clauses and empty clauses, and permutations of which some keep them."""
+    clauses = [[chance.choice([-1, 1]) * chance.randint(1, n) for _ in range(chance.randrange(4))] if n else [] for _ in range(chance.randrange(4))]
+    rows = [permutation(chance, n) for _ in range(chance.randrange(4))]
+    if chance.random() < 0.8:
+        for _ in range(6):
+            sets = {frozenset(clause) for clause in clauses}
+            new = [image(clause, row) for row in rows for clause in clauses]
+            clauses += [clause for clause in new if frozenset(clause) not in sets][:most]
+    for clause in clauses:
+        chance.shuffle(clause)
+        if clause and chance.random() < 0.1:
+            clause.append(chance.choice(clause))
+    chance.shuffle(clauses)
+    return clauses[:most], rows
+
+
+def blank(chance):
+    return chance.choice([b" "] * 6 + [b"\t", b"  ", b" \t"])
+
+
+def text(chance, n, clauses):
+    """The text of a formula, with comment lines before it and clauses that span lines."""
+    lines = [chance.choice([b"c", b"cnf 1 1", b"comment x"]) + b"\n" for _ in range(chance.choice([0, 0, 0, 1, 2]))]
+    lines.append(b"p" + blank(chance) + b"cnf" + blank(chance) + b"%d" % n + blank(chance) + b"%d" % len(clauses) + chance.choice([b"", b" "]) + b"\n")
+    for clause in clauses:
+        between = chance.choice([b" ", b" ", b"\t", b"\n"])
+        lines.append(between.join(b"%d" % literal for literal in [*clause, 0]) + chance.choice([b"\n", b"\n", b" ", b"\n\n"]))
+    joined = b"".join(lines)
+    return joined.rstrip(b"\n") if chance.random() < 0.2 else joined
+
+
+def line(chance, numbers):
+    """A line of numbers, at times with blanks at its ends."""
+    joined = b"".join(b"%d" % number + blank(chance) for number in numbers)
+    return chance.choice([b"", b"", b" "]) + (joined if chance.random() < 0.2 else joined.rstrip())
+
+
+WORDS = [b"0", b"-0", b"00", b"01", b"+1", b"-", b"x", b"1\r", b"\x00", b"\xff", b"999999", b"1000000", b"-1", b"513", b"%", b"c", b"p"]
+
+
+def damaged(chance, data):
+    """The same bytes with a few bytes or words put in, taken out or changed."""
+    data = bytearray(data)
+    for _ in range(chance.choice([1, 1, 2, 3])):
+        at = chance.randrange(len(data) + 1)
+        kind = chance.randrange(5)
+        if kind == 0:
+            data[at:at] = b" " + chance.choice(WORDS) + b" "
+        elif kind == 1:
+            data[at:at + chance.randint(1, 3)] = b""
+        elif kind == 2:
+            data[at:at + 1] = bytes([chance.randrange(256)])
+        elif kind == 3:
+            data[at:at] = chance.choice([b" ", b"\t", b"\n", b"\r"])
+        else:
+            del data[at:]
+    return bytes(data)

@@ -10,7 +10,7 @@ use Rattle.symbreak.specs.declared.exports.CStored.{CStored}
 
 -- the record that four numbers are: open is anything but 0
 abbrev pub recordOf : ℕ → ℕ → ℕ → ℕ → Record
-recordOf variables clauses rows is_open = record { variables = variables; clauses = clauses; rows = rows; is_open = not (eqb is_open 0) }
+recordOf variables clauses rows flag = record { variables = variables; clauses = clauses; rows = rows; is_open = not (eqb flag 0) }
 
 -- and back: open is 1
 abbrev pub cRecord : Record → CRecord
@@ -21,8 +21,11 @@ abbrev pub cAnswer : Said ℕ → CAnswer
 cAnswer (done value) = record { refusal = 0; place = 0; value = value }
 cAnswer (refused number place) = record { refusal = number; place = place; value = 0 }
 
--- an answer beside a record
-abbrev pub cStored : {Values : Type 0} → Said Values → Record → CStored
-cStored (done v) r = record { refusal = 0; place = 0; variables = r .variables; clauses = r .clauses; rows = r .rows; is_open = cond (r .is_open) 1 0 }
-cStored (refused number place) r =
+-- an answer beside a record: refusal 0 for none, or the refusal's number and its place; and the record
+abbrev pub cStoredAt : ℕ → ℕ → Record → CStored
+cStoredAt number place r =
     record { refusal = number; place = place; variables = r .variables; clauses = r .clauses; rows = r .rows; is_open = cond (r .is_open) 1 0 }
+
+abbrev pub cStored : {Values : Type 0} → Said Values → Record → CStored
+cStored (done v) r = cStoredAt 0 0 r
+cStored (refused number place) r = cStoredAt number place r

@@ -1,17 +1,30 @@
 // The calls for C (include/symbreak.h): numbers and slices in, structs of numbers out. A slice passes as a pointer and a length.
 use crate::Compared;
 use crate::Figure;
+use offering::Offered;
+use opening::Opened;
 use store::record::Record;
 use store::refusal::Refusal;
 ghost use mathlib.Core.Path.{_≡_};
 ghost use mathlib.Core.Bool.{cond};
-ghost use Rattle.store.specs.Stores.{closedRecord};
+ghost use mathlib.Core.List.{List, []};
+ghost use Rattle.store.specs.Stores.{lent, closedRecord};
 ghost use Rattle.store.specs.Refusals.{done, saidRefused};
-ghost use Rattle.symbreak.specs.Calls.{compareSays, efficiencySays};
-ghost use Rattle.symbreak.specs.Exports.{cRecord, cAnswer};
+ghost use Rattle.symbreak.specs.Calls.{openSays, openStore, offerSays, offerStore, compareSays, efficiencySays};
+ghost use Rattle.symbreak.specs.Exports.{recordOf, cRecord, cAnswer, cStored, cStoredAt};
 
 #[repr(C)]
 pub struct CRecord {
+    pub variables: u64,
+    pub clauses: u64,
+    pub rows: u64,
+    pub is_open: u64,
+}
+
+#[repr(C)]
+pub struct CStored {
+    pub refusal: u32,
+    pub place: u64,
     pub variables: u64,
     pub clauses: u64,
     pub rows: u64,
@@ -30,6 +43,55 @@ pub extern "C" fn symbreak_new_record() -> CRecord
     ensures { λ r. ⌜ r ≡ cRecord closedRecord ⌝ }
 {
     c_record(crate::new_record())
+}
+
+#[no_mangle]
+pub extern "C" fn symbreak_open(
+    variables: u64,
+    clauses: u64,
+    rows: u64,
+    flag: u64,
+    text: &[u8],
+    literals: &mut [u16],
+    ends: &mut [u16],
+) -> CStored
+    ensures says { λ r. ⌜ r ≡ cStored (openSays (lent (recordOf variables clauses rows flag) (now (literals .entry)) (now (ends .entry)) []) (now (text .entry))) (openStore (lent (recordOf variables clauses rows flag) (now (literals .entry)) (now (ends .entry)) []) (now (text .entry)) .counts) ⌝ }
+    ensures literals { λ _. ⌜ now (literals .exit) ≡ openStore (lent (recordOf variables clauses rows flag) (now (literals .entry)) (now (ends .entry)) []) (now (text .entry)) .literals ⌝ }
+    ensures ends { λ _. ⌜ now (ends .exit) ≡ openStore (lent (recordOf variables clauses rows flag) (now (literals .entry)) (now (ends .entry)) []) (now (text .entry)) .ends ⌝ }
+{
+    let counts = record_of(variables, clauses, rows, flag);
+    let r = crate::open(counts, text, literals, ends);
+    let answer = r.answer;
+    let after = r.counts;
+    match answer {
+        Opened::Open(_, _) => stored(0, 0, after),
+        Opened::Refused(refusal) => stored(refusal.number(), refusal.place() as u64, after),
+    }
+}
+
+#[no_mangle]
+pub extern "C" fn symbreak_offer(
+    variables: u64,
+    clauses: u64,
+    rows: u64,
+    flag: u64,
+    literals: &[u16],
+    ends: &[u16],
+    images: &mut [u16],
+    names: &[u8],
+    values: &[u8],
+) -> CStored
+    ensures says { λ r. ⌜ r ≡ cStored (offerSays (lent (recordOf variables clauses rows flag) (now (literals .entry)) (now (ends .entry)) (now (images .entry))) (now (names .entry)) (now (values .entry))) (offerStore (lent (recordOf variables clauses rows flag) (now (literals .entry)) (now (ends .entry)) (now (images .entry))) (now (names .entry)) (now (values .entry)) .counts) ⌝ }
+    ensures images { λ _. ⌜ now (images .exit) ≡ offerStore (lent (recordOf variables clauses rows flag) (now (literals .entry)) (now (ends .entry)) (now (images .entry))) (now (names .entry)) (now (values .entry)) .images ⌝ }
+{
+    let counts = record_of(variables, clauses, rows, flag);
+    let r = crate::offer(counts, literals, ends, images, names, values);
+    let answer = r.answer;
+    let after = r.counts;
+    match answer {
+        Offered::Accepted => stored(0, 0, after),
+        Offered::Refused(refusal) => stored(refusal.number(), refusal.place() as u64, after),
+    }
 }
 
 #[no_mangle]
@@ -76,6 +138,30 @@ fn c_record(r: Record) -> CRecord
     ensures { λ c. ⌜ c ≡ cRecord r ⌝ }
 {
     CRecord {
+        variables: r.variables as u64,
+        clauses: r.clauses as u64,
+        rows: r.rows as u64,
+        is_open: flag(r.is_open),
+    }
+}
+
+fn record_of(variables: u64, clauses: u64, rows: u64, flag: u64) -> Record
+    ensures { λ r. ⌜ r ≡ recordOf variables clauses rows flag ⌝ }
+{
+    Record {
+        variables: variables as usize,
+        clauses: clauses as usize,
+        rows: rows as usize,
+        is_open: flag != 0,
+    }
+}
+
+fn stored(refusal: u32, place: u64, r: Record) -> CStored
+    ensures { λ c. ⌜ c ≡ cStoredAt refusal place r ⌝ }
+{
+    CStored {
+        refusal: refusal,
+        place: place,
         variables: r.variables as u64,
         clauses: r.clauses as u64,
         rows: r.rows as u64,

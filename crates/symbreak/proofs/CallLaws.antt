@@ -1,0 +1,106 @@
+-- Opening and offers: one law for each way out of the calls, for what is said and for what the store then is. Assumes nothing.
+use mathlib.Core.Path.{_≡_, refl, sym, ap, _∙_}
+use mathlib.Core.Bool.{Bool, true, false, cond, not}
+use mathlib.Core.List.{List}
+use Prim.Native.Nat.{ℕ, _+_}
+use borrow.Author.Tests.{eq-eqb, ne-eqb}
+use lib.ListN.{length}
+use lib.Dec.{eqb}
+use Rattle.store.specs.Refusals.{Said, done, refused, numberOf, placeOf, saidRefused}
+use Rattle.store.specs.Stores.{Store, lent, wellFormed, maxRows}
+use Rattle.store.specs.declared.record.Record.{Record}
+use Rattle.store.specs.declared.refusal.Refusal.{Refusal}
+use Rattle.opening.specs.Clauses.{literalsIn, endsFrom}
+use Rattle.opening.specs.Opening.{bodyOf, openedBy, written}
+use Rattle.opening.specs.declared.Opened.{Opened}
+use Rattle.offering.specs.Offering.{rowFor, offeredBy, imagesAfter}
+use Rattle.offering.specs.declared.Offered.{Offered}
+use Rattle.symbreak.specs.Calls.{Accepted, accepted, countsOpened, saidOpened, openSays, openStore, saidOffered, offerSays, storeOffered, offerStore}
+use Rattle.symbreak.specs.Exports.{cStored, cStoredAt}
+use Rattle.symbreak.specs.declared.Offering.{Offering}
+use Rattle.symbreak.specs.declared.exports.CStored.{CStored}
+
+-- ---- open
+
+module _ (s : Store) (text literals ends : List ℕ) (a : Opened) (is : a ≡ openedBy text (length (s .literals)) (length (s .ends)))
+    (literals-are : literals ≡ written a (literalsIn (bodyOf text)) (s .literals)) (ends-are : ends ≡ written a (endsFrom 0 (bodyOf text)) (s .ends)) where
+  pub open-meets : (b : Opened) → a ≡ b → (counts : Record) → counts ≡ countsOpened a (s .counts)
+      → (saidOpened b ≡ openSays s text) × (lent counts literals ends (s .images) ≡ openStore s text)
+  unfolding openSays openStore
+  open-meets b told counts e = (ap saidOpened (sym told ∙ is), rw (← is, e, literals-are, ends-are))
+
+-- ---- offer
+
+module _ (s : Store) (names values : List ℕ) where
+  -- what an offer must answer, and what it must leave
+  abbrev pub Leaves : Offered → Record → List ℕ → Type 0
+  Leaves answer counts images =
+      (saidOffered answer ≡ offerSays s names values) × (lent counts (s .literals) (s .ends) images ≡ offerStore s names values)
+
+  -- what is said once the store is open, and once it is well formed
+  abbrev saidOpen : Said Accepted
+  saidOpen = cond (not (wellFormed s)) (refused 21 0) (cond (eqb (s .counts .rows) maxRows) (refused 22 0) (saidOffered (offeredBy s names values)))
+
+  abbrev saidFormed : Said Accepted
+  saidFormed = cond (eqb (s .counts .rows) maxRows) (refused 22 0) (saidOffered (offeredBy s names values))
+
+  by-open : (b : Bool) → s .counts .is_open ≡ b → offerSays s names values ≡ cond (not b) (refused 20 0) saidOpen
+  unfolding offerSays
+  by-open b e = ap (λ (c : Bool). cond (not c) (refused 20 0) saidOpen) e
+
+  by-form : (b : Bool) → wellFormed s ≡ b → saidOpen ≡ cond (not b) (refused 21 0) saidFormed
+  by-form b e = ap (λ (c : Bool). cond (not c) (refused 21 0) saidFormed) e
+
+  pub closed : s .counts .is_open ≡ false → offerSays s names values ≡ refused 20 0
+  closed e = by-open false e
+
+  module _ (opened : s .counts .is_open ≡ true) where
+    pub unformed : wellFormed s ≡ false → offerSays s names values ≡ refused 21 0
+    unformed e = by-open true opened ∙ by-form false e
+
+    module _ (formed : wellFormed s ≡ true) where
+      pub full : s .counts .rows ≡ maxRows → offerSays s names values ≡ refused 22 0
+      full e = by-open true opened ∙ by-form true formed ∙ rw (eq-eqb (s .counts .rows) maxRows e)
+
+      pub tried : (s .counts .rows ≡ maxRows → ⊥) → offerSays s names values ≡ saidOffered (offeredBy s names values)
+      tried n = by-open true opened ∙ by-form true formed ∙ rw (ne-eqb (s .counts .rows) maxRows n)
+
+  -- a refusal leaves the store as it was
+  pub turned-back : (refusal : Refusal) (r : Offering) → r ≡ record { answer = Offered.Refused refusal; counts = s .counts }
+      → offerSays s names values ≡ saidRefused refusal → Leaves (r .answer) (r .counts) (s .images)
+  unfolding offerStore
+  turned-back refusal r e q = rw (e, q) (refl, refl)
+
+  module _ (a : Offered) (is : a ≡ offeredBy s names values) (said : offerSays s names values ≡ saidOffered (offeredBy s names values))
+      (images : List ℕ) (images-are : images ≡ imagesAfter a s (rowFor s names values)) where
+    pub refuses : (refusal : Refusal) → a ≡ Offered.Refused refusal → Leaves a (s .counts) images
+    unfolding offerStore
+    refuses refusal e = rw (images-are, said, ← is, e) (refl, refl)
+
+    pub accepts : a ≡ Offered.Accepted
+        → Leaves a (record { variables = s .counts .variables; clauses = s .counts .clauses; rows = s .counts .rows + 1; is_open = s .counts .is_open }) images
+    unfolding offerStore
+    accepts e = rw (images-are, said, ← is, e) (refl, refl)
+
+-- ---- exports
+
+-- a store by its parts
+pub counts-of : {s t : Store} → s ≡ t → s .counts ≡ t .counts
+counts-of e = ap (λ (s : Store). s .counts) e
+
+pub literals-of : {s t : Store} → s ≡ t → s .literals ≡ t .literals
+literals-of e = ap (λ (s : Store). s .literals) e
+
+pub ends-of : {s t : Store} → s ≡ t → s .ends ≡ t .ends
+ends-of e = ap (λ (s : Store). s .ends) e
+
+pub images-of : {s t : Store} → s ≡ t → s .images ≡ t .images
+images-of e = ap (λ (s : Store). s .images) e
+
+-- what C is told where the call gave a value, and where it refused
+pub told-done : {Values : Type 0} (said : Said Values) (v : Values) (r counts : Record) (c : CStored) → c ≡ cStoredAt 0 0 r → done v ≡ said → r ≡ counts → c ≡ cStored said counts
+told-done said v r counts c e q k = rw (← q, ← k) e
+
+pub told-refused : {Values : Type 0} (said : Said Values) (refusal : Refusal) (number place : ℕ) (r counts : Record) (c : CStored)
+    → c ≡ cStoredAt number place r → number ≡ numberOf refusal → place ≡ placeOf refusal → saidRefused refusal ≡ said → r ≡ counts → c ≡ cStored said counts
+told-refused said refusal number place r counts c e n p q k = rw (← q, ← k, ← n, ← p) e

@@ -1,4 +1,5 @@
 """Random input for the tests: formulas that are symmetric by construction, texts and lines that are in order or damaged."""
+import re
 
 
 def permutation(chance, n):
@@ -54,7 +55,7 @@ def line(chance, numbers):
     return chance.choice([b"", b"", b" "]) + (joined if chance.random() < 0.2 else joined.rstrip())
 
 
-WORDS = [b"0", b"-0", b"00", b"01", b"+1", b"-", b"x", b"1\r", b"\x00", b"\xff", b"999999", b"1000000", b"-1", b"513", b"%", b"c", b"p"]
+WORDS = [b"512", b"4097", b"0", b"-0", b"00", b"01", b"+1", b"-", b"x", b"1\r", b"\x00", b"\xff", b"999999", b"1000000", b"-1", b"513", b"%", b"c", b"p"]
 
 
 def damaged(chance, data):
@@ -62,9 +63,12 @@ def damaged(chance, data):
     data = bytearray(data)
     for _ in range(chance.choice([1, 1, 2, 3])):
         at = chance.randrange(len(data) + 1)
-        kind = chance.randrange(5)
+        kind = chance.randrange(6)
         if kind == 0:
             data[at:at] = b" " + chance.choice(WORDS) + b" "
+        elif kind == 5 and data.split():
+            word = chance.choice(list(re.finditer(rb"[^ \t\n]+", data)))
+            data[word.start():word.end()] = chance.choice(WORDS)
         elif kind == 1:
             data[at:at + chance.randint(1, 3)] = b""
         elif kind == 2:

@@ -6,11 +6,11 @@ use Prim.Native.Nat.{ℕ, suc, _+_, _-_, _≤_, _<_}
 use native.Mathlib.Numerals.{add-one}
 use native.Mathlib.Omega.{arith}
 use lib.ListN.{length, take, drop, getD, length-drop}
-use lib.Seq.{slice, slice-empty, drop-cons, drop-append-le, take-suc, length-take-le}
+use lib.Seq.{drop-cons, slice, slice-empty, drop-append-le, take-suc, length-take-le}
 use lib.Dec.{eqb}
 use Rattle.dimacs.specs.Words.{Piece}
-use Rattle.store.specs.Numerals.{codeIn}
 use Rattle.store.specs.Stores.{literalCount, cut}
+use Rattle.store.specs.Numerals.{codeIn}
 use Rattle.store.proofs.FormLaws.{count-none, count-last}
 use Rattle.opening.specs.Clauses.{literalsIn, endsFrom, clausesFrom}
 use Rattle.opening.proofs.DoneLaws.{lastOr}

@@ -1,30 +1,27 @@
 -- A scan that is done: what it says of the literals and the ends, and of each turn of the pass that writes them. Assumes nothing.
-use mathlib.Core.Path.{_≡_, refl, sym, ap, _∙_}
+use mathlib.Core.Path.{_≡_, refl, ap, _∙_}
 use mathlib.Core.Bool.{Bool, true, false, cond, not}
-use mathlib.Core.List.{List, [], _∷_, _++_}
+use mathlib.Core.List.{List, [], _∷_}
 use Prim.Native.Nat.{ℕ, _+_, _/_, _≤_, _<_}
-use native.Mathlib.Nat.{zero-add}
-use native.Mathlib.Numerals.{add-one}
 use native.Mathlib.Omega.{arith}
-use borrow.Author.Tests.{eq-eqb, ne-eqb, eqb-true, eqb-false, ltb-false, le-leb}
-use lib.ListN.{length, drop, set}
-use lib.Seq.{sets, sets-eq}
+use borrow.Author.Tests.{eq-eqb, ne-eqb, le-leb, eqb-true, eqb-false, ltb-false}
+use lib.ListN.{length}
 use lib.Dec.{eqb, ltb}
 use Rattle.lists.specs.Tests.{allOf}
-use Rattle.lists.proofs.Cases.{and-both}
+use Rattle.lists.proofs.Cases.{never, and-both}
 use Rattle.dimacs.specs.Words.{Piece}
 use Rattle.dimacs.specs.Numbers.{numberOf}
 use Rattle.dimacs.specs.declared.Number.{Number}
 use Rattle.dimacs.specs.declared.Numeral.{Numeral}
-use Rattle.store.specs.Literals.{codeOf, isLiteral}
-use Rattle.store.proofs.FormLaws.{literal-high}
-use Rattle.store.specs.Numerals.{isNumeral, codeIn}
 use Rattle.store.specs.Stores.{maxLiterals, rising}
+use Rattle.store.specs.Literals.{codeOf, isLiteral}
+use Rattle.store.specs.Numerals.{codeIn, isNumeral}
 use Rattle.store.specs.declared.refusal.Refusal.{Refusal}
+use Rattle.store.proofs.FormLaws.{literal-high}
 use Rattle.opening.specs.Clauses.{scanFrom, literalsIn, endsFrom}
 use Rattle.opening.specs.declared.Scanned.{Scanned}
 use Rattle.opening.proofs.Next.{Missing, none, bad}
-use Rattle.opening.proofs.ScanLaws.{coded}
+use Rattle.opening.proofs.CodeLaws.{coded}
 
 -- ---- a word of a scan that is done: a 0 or a literal that fits, and the rest is done
 
@@ -54,12 +51,12 @@ passed-word end n m total closed count w ws e =
         (cond k (Scanned.Refused (Refusal.TooManyLiterals (w .place)))
         (scanFrom end n m closed (count + 1) ws))))) ≡ Scanned.Done total
         → WordPassed end n m total closed count w ws
-    by true ea p ep z ez l el k ek d = let f : _≡_ {A = ℕ} 0 1 = cc in absurd (omega arith)
-    by false ea Numeral.Not ep z ez l el k ek d = let f : _≡_ {A = ℕ} 0 1 = cc in absurd (omega arith)
+    by true ea p ep z ez l el k ek d = never (cc)
+    by false ea Numeral.Not ep z ez l el k ek d = never (cc)
     by false ea (Numeral.Is x) ep true ez l el k ek d =
         record { more = eqb-false closed m ea; number = x; is = ep; passed = closes (eqb-true (codeIn w) 0 ez) d }
-    by false ea (Numeral.Is x) ep false ez true el k ek d = let f : _≡_ {A = ℕ} 0 1 = cc in absurd (omega arith)
-    by false ea (Numeral.Is x) ep false ez false el true ek d = let f : _≡_ {A = ℕ} 0 1 = cc in absurd (omega arith)
+    by false ea (Numeral.Is x) ep false ez true el k ek d = never (cc)
+    by false ea (Numeral.Is x) ep false ez false el true ek d = never (cc)
     by false ea (Numeral.Is x) ep false ez false el false ek d =
         let other : codeIn w ≡ 0 → ⊥ = eqb-false (codeIn w) 0 ez in
         let literal : isLiteral n (codeIn w) ≡ true = and-both (le-leb 1 (codeIn w / 2) (coded w x ep .low other)) (le-leb (codeIn w / 2) n (ltb-false n (codeIn w / 2) el)) in
@@ -115,7 +112,7 @@ counted end n m total [] closed count e = by (eqb closed m) refl e
           rise = λ from h. refl;
           last = λ x h. h g ∙ f;
         }
-    by false k d = let f : _≡_ {A = ℕ} 0 1 = cc in absurd (omega arith)
+    by false k d = never (cc)
 counted end n m total (w ∷ ws) closed count e = by (passed-word end n m total closed count w ws e) (counted end n m total ws)
   where
     by : WordPassed end n m total closed count w ws
@@ -208,14 +205,4 @@ pub none-left : (end n m total closed count : ℕ) (ws : List Piece) → scanFro
 none-left end n m total closed count [] done none = refl
 none-left end n m total closed count (w ∷ ws) done (bad e) =
     let p = passed-word end n m total closed count w ws done in
-    let f : _≡_ {A = ℕ} 0 1 = cc (p .is, e) in
-    absurd (omega arith)
-
--- ---- writing a list of values from the front
-
--- what is still to be stored from i on: after the store of its first value, the rest from i + 1 on
-pub stored : (l : List ℕ) (i : ℕ) {whole now rest : List ℕ} {v w : ℕ} → whole ≡ sets l i now → now ≡ v ∷ rest → v ≡ w → whole ≡ sets (set l i w) (i + 1) rest
-stored l i p q r = p ∙ rw (q, r, add-one i)
-
-pub sets-front : (l vs : List ℕ) → length vs ≤ length l → vs ++ drop (length vs) l ≡ sets l 0 vs
-sets-front l vs h = sym (sets-eq vs l 0 (omega arith) ∙ rw (zero-add (length vs)))
+    never (cc (p .is, e))

@@ -1,7 +1,10 @@
 pub mod Next
+pub mod SizeLaws
 pub mod ProblemLaws
+pub mod CodeLaws
 pub mod ScanLaws
 pub mod DoneLaws
+pub mod Writing
 pub mod OpeningLaws
 pub mod CutLaws
 pub mod Theorem

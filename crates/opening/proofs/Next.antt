@@ -5,7 +5,7 @@ use mathlib.Core.Logic.{⊎-elim}
 use Prim.Native.Nat.{ℕ, _≤_, _<_}
 use native.Mathlib.Omega.{arith}
 use lib.ListN.{length}
-use Rattle.lists.proofs.Cases.{lt-or-le}
+use Rattle.lists.proofs.Cases.{never, lt-or-le}
 use Rattle.dimacs.specs.Words.{isBlank, isWordByte, runEnd, Piece, wordsAt}
 use Rattle.dimacs.specs.Numbers.{numberOf, wordAt, readingAt}
 use Rattle.dimacs.specs.declared.Number.{Number}
@@ -40,7 +40,7 @@ module _ (text : List ℕ) (at place : ℕ) (found : place ≡ runEnd isBlank te
       }
     where
       past : length text ≤ place → place < length text
-      past h = let z : _≡_ {A = ℕ} 0 1 = cc (e, read-past text place h) in absurd (omega arith)
+      past h = never (cc (e, read-past text place h))
 
   pub next-missing : (q : ℕ) → readingAt text place ≡ Reading.Refused q → Missing (wordsAt text at)
   next-missing q e = ⊎-elim here past (lt-or-le place (length text))

@@ -2,11 +2,11 @@
 use mathlib.Core.Path.{_≡_, refl}
 use mathlib.Core.Bool.{Bool, true, false, cond}
 use mathlib.Core.List.{List}
-use Prim.Native.Nat.{ℕ, _≤_}
-use native.Mathlib.Omega.{arith}
-use borrow.Author.Tests.{leb-true}
+use Prim.Native.Nat.{ℕ, _≤_, _<_}
+use borrow.Author.Tests.{le-leb, lt-leb, leb-true}
 use lib.ListN.{length}
 use lib.Dec.{leb}
+use Rattle.lists.proofs.Cases.{never}
 use Rattle.dimacs.specs.Words.{wordsAt}
 use Rattle.store.specs.declared.refusal.Refusal.{Refusal}
 use Rattle.opening.specs.Problem.{problemOf}
@@ -16,16 +16,33 @@ use Rattle.opening.specs.declared.Problem.{Problem}
 use Rattle.opening.specs.declared.Scanned.{Scanned}
 use Rattle.opening.specs.declared.Opened.{Opened}
 
--- ---- by the problem line
+-- ---- by the problem line, and by what the scan then says
 
 module _ (text : List ℕ) where
   pub opened-by : (p : Problem) (literals ends : ℕ) → problemOf text ≡ p → openedBy text literals ends ≡ openedAfter p text literals ends
   unfolding openedBy
   opened-by p literals ends e = rw e
 
+  pub opened-scan : (n m end : ℕ) (s : Scanned) (literals ends : ℕ) → problemOf text ≡ Problem.Line n m end → scanFrom (length text) n m 0 0 (wordsAt text end) ≡ s
+      → openedBy text literals ends ≡ openedIf s n m literals ends
+  unfolding openedBy
+  opened-scan n m end s literals ends e q = rw (e, q)
+
   pub body-by : (p : Problem) → problemOf text ≡ p → bodyOf text ≡ wordsAfter p text
   unfolding bodyOf
   body-by p e = rw e
+
+-- ---- by the room that there is
+
+module _ (n m count literals ends : ℕ) where
+  pub short-literals : literals < count → openedIf (Scanned.Done count) n m literals ends ≡ Opened.Refused (Refusal.TooShort count)
+  short-literals h = rw (lt-leb count literals h)
+
+  pub short-ends : count ≤ literals → ends < m → openedIf (Scanned.Done count) n m literals ends ≡ Opened.Refused (Refusal.TooShort m)
+  short-ends h k = rw (le-leb count literals h, lt-leb m ends k)
+
+  pub long-enough : count ≤ literals → m ≤ ends → openedIf (Scanned.Done count) n m literals ends ≡ Opened.Open n m
+  long-enough h k = rw (le-leb count literals h, le-leb m ends k)
 
 -- ---- a scan that opens is done, and there is room
 
@@ -36,7 +53,7 @@ pub record Room (s : Scanned) (m literals ends : ℕ) : Type 0 where
   pub ends-fit : m ≤ ends
 
 pub room : (s : Scanned) (n m literals ends a b : ℕ) → openedIf s n m literals ends ≡ Opened.Open a b → Room s m literals ends × (n ≡ a) × (m ≡ b)
-room (Scanned.Refused r) n m literals ends a b e = let f : _≡_ {A = ℕ} 0 1 = cc in absurd (omega arith)
+room (Scanned.Refused r) n m literals ends a b e = never (cc)
 room (Scanned.Done count) n m literals ends a b e = by (leb count literals) refl (leb m ends) refl e
   where
     by : (t : Bool) → leb count literals ≡ t → (u : Bool) → leb m ends ≡ u
@@ -44,8 +61,8 @@ room (Scanned.Done count) n m literals ends a b e = by (leb count literals) refl
         → Room (Scanned.Done count) m literals ends × (n ≡ a) × (m ≡ b)
     by true l true k q =
         (record { count = count; done = refl; literals-fit = leb-true count literals l; ends-fit = leb-true m ends k }, cc, cc)
-    by true l false k q = let f : _≡_ {A = ℕ} 0 1 = cc in absurd (omega arith)
-    by false l u k q = let f : _≡_ {A = ℕ} 0 1 = cc in absurd (omega arith)
+    by true l false k q = never (cc)
+    by false l u k q = never (cc)
 
 -- ---- a text that opens
 
@@ -59,7 +76,7 @@ unfolding openedBy
 opens text literals ends n m e = by (problemOf text) refl e
   where
     by : (p : Problem) → problemOf text ≡ p → openedAfter p text literals ends ≡ Opened.Open n m → Opens text literals ends n m
-    by (Problem.Refused r) k q = let f : _≡_ {A = ℕ} 0 1 = cc in absurd (omega arith)
+    by (Problem.Refused r) k q = never (cc)
     by (Problem.Line a b start) k q =
         let r = room (scanFrom (length text) a b 0 0 (wordsAt text start)) a b literals ends n m q in
         record {

@@ -10,7 +10,8 @@ use Rattle.store.specs.Stores.{maxVariables, maxLiterals}
 use Rattle.opening.specs.Clauses.{scanFrom, literalsIn, endsFrom}
 use Rattle.opening.specs.declared.Scanned.{Scanned}
 use Rattle.opening.proofs.Next.{Next, next-found, next-missing}
-use Rattle.opening.proofs.DoneLaws.{counted, ZeroTurn, zero-turn, LiteralTurn, literal-turn, none-left, stored, sets-front}
+use Rattle.opening.proofs.DoneLaws.{counted, ZeroTurn, zero-turn, LiteralTurn, literal-turn, none-left}
+use Rattle.opening.proofs.Writing.{stored, sets-front}
 use Rattle.opening.proofs.OpeningLaws.{room}
 use borrow.Author.Needs.{needs}
 use native.Mathlib.Omega.{arith}

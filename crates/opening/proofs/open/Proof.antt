@@ -1,7 +1,6 @@
 -- `opening::open` meets its contract: the answer is that of the problem line, then of the scan, then of the room, and only then is anything
 -- written. Assumes nothing.
-use mathlib.Core.Path.{_≡_, refl, sym, ap, _∙_}
-use borrow.Author.Tests.{lt-leb, le-leb}
+use mathlib.Core.Path.{_≡_, refl, sym, _∙_}
 use lib.ListN.{length}
 use Rattle.opening.specs.Problem.{problemOf}
 use Rattle.opening.specs.Opening.{openedIf, openedBy}
@@ -9,7 +8,7 @@ use Rattle.opening.specs.declared.Problem.{Problem}
 use Rattle.opening.specs.declared.Scanned.{Scanned}
 use Rattle.opening.specs.declared.Opened.{Opened}
 use Rattle.opening.proofs.ProblemLaws.{line-limits}
-use Rattle.opening.proofs.OpeningLaws.{opened-by, body-by}
+use Rattle.opening.proofs.OpeningLaws.{opened-by, opened-scan, body-by, short-literals, short-ends, long-enough}
 use borrow.Author.Needs.{needs}
 use Rattle.opening.proofs.open.Statement.{statement}
 use Rattle.opening.proofs.open.Tie as tie
@@ -24,18 +23,14 @@ judged : (c : tie.After-scan) (s : Scanned) → let a = c .before .before .befor
     let literals = length (a .literals .now) in
     let ends = length (a .ends .now) in
     c .scan .result ≡ s → openedBy (a .text .now) literals ends ≡ openedIf s (n .0) (n .1 .0) literals ends
-judged c s e =
-    let a = c .before .before .before .before .before .before .before .before .args in
-    let n = c .before .before .n .given .0 in
-    opened-by _ _ _ _ (line (c .before))
-    ∙ ap (λ (t : Scanned). openedIf t (n .0) (n .1 .0) (length (a .literals .now)) (length (a .ends .now))) (sym (c .scan .ensures) ∙ e)
+judged c s e = opened-scan _ _ _ _ _ _ _ (line (c .before)) (sym (c .scan .ensures) ∙ e)
 
 opens : (c : tie.Else2) → let told = c .before .before .before .before .before .before .before in
     let a = told .before .before .before .before .before .before .args in
     openedBy (a .text .now) (length (a .literals .now)) (length (a .ends .now)) ≡ Opened.Open (told .n .given .0 .0) (told .n .given .0 .1 .0)
 opens c =
     let told = c .before .before .before in
-    judged (told .before .before) _ (told .count .given .1) ∙ rw (le-leb _ _ (c .before .if1 .left), le-leb _ _ (c .if2 .left))
+    judged (told .before .before) _ (told .count .given .1) ∙ long-enough _ _ _ _ _ (c .before .if1 .left) (c .if2 .left)
 
 problem-of-requires : tie.Need-problem-of-requires
 problem-of-requires c κs = search needs
@@ -66,12 +61,14 @@ enum-known-count c = search needs
 returns-3 : tie.Need-returns-3
 returns-3 c =
     let told = c .before .before in
-    (sym (judged (told .before .before) _ (told .count .given .1) ∙ rw (lt-leb _ _ (c .if1 .taken))), (refl, refl))
+    let n = told .before .before .before .before .n .given .0 in
+    let ends = length (told .before .before .before .before .before .before .before .before .before .before .args .ends .now) in
+    (sym (judged (told .before .before) _ (told .count .given .1) ∙ short-literals (n .0) (n .1 .0) _ _ ends (c .if1 .taken)), (refl, refl))
 
 returns-4 : tie.Need-returns-4
 returns-4 c =
     let told = c .before .before .before in
-    (sym (judged (told .before .before) _ (told .count .given .1) ∙ rw (le-leb _ _ (c .before .if1 .left), lt-leb _ _ (c .if2 .taken))), (refl, refl))
+    (sym (judged (told .before .before) _ (told .count .given .1) ∙ short-ends _ _ _ _ _ (c .before .if1 .left) (c .if2 .taken)), (refl, refl))
 
 fill-requires : tie.Need-fill-requires
 fill-requires c κs =

@@ -1,11 +1,10 @@
 -- `opening::problem_of` meets its contract: the first line that is no comment decides, by what it says and by the limits. Assumes nothing.
 use mathlib.Core.Path.{_≡_, sym, ap, _∙_}
-use borrow.Author.Tests.{lt-leb, le-leb}
 use Rattle.dimacs.specs.Lines.{isLineByte}
 use Rattle.dimacs.proofs.Runs.{run-within}
 use Rattle.opening.specs.Problem.{problemOf, withinLimits}
 use Rattle.opening.specs.declared.Sizes.{Sizes}
-use Rattle.opening.proofs.ProblemLaws.{problem-none, problem-here}
+use Rattle.opening.proofs.ProblemLaws.{problem-none, problem-here, many-variables, many-clauses, within}
 use borrow.Author.Needs.{needs}
 use native.Mathlib.Omega.{arith}
 use Rattle.opening.proofs.problem_of.Statement.{statement}
@@ -61,17 +60,18 @@ cast-clauses c = search needs
 returns-3 : tie.Need-returns-3
 returns-3 c =
     let told = c .before .before in
-    sym (said (told .before .before) _ (told .n .given .1) ∙ rw (lt-leb _ _ (c .if2 .taken)))
+    let m = told .n .given .0 .1 .0 in
+    sym (said (told .before .before) _ (told .n .given .1) ∙ many-variables _ m _ (told .before .before .before .before .line-end .result) (c .if2 .taken))
 
 returns-4 : tie.Need-returns-4
 returns-4 c =
     let told = c .before .before .before in
-    sym (said (told .before .before) _ (told .n .given .1) ∙ rw (le-leb _ _ (c .before .if2 .left), lt-leb _ _ (c .if3 .taken)))
+    sym (said (told .before .before) _ (told .n .given .1) ∙ many-clauses _ _ _ _ (c .before .if2 .left) (c .if3 .taken))
 
 returns-5 : tie.Need-returns-5
 returns-5 c =
     let told = c .before .before .before in
-    sym (said (told .before .before) _ (told .n .given .1) ∙ rw (le-leb _ _ (c .before .if2 .left), le-leb _ _ (c .if3 .left)))
+    sym (said (told .before .before) _ (told .n .given .1) ∙ within _ _ _ _ (c .before .if2 .left) (c .if3 .left))
 
 pub problem-of-spec : {M : Type 1} → statement M
 problem-of-spec =

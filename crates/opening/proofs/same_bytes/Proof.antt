@@ -4,7 +4,7 @@ use mathlib.Core.Path.{_≡_, refl, sym, _∙_}
 use Prim.Native.Nat.{_-_}
 use lib.ListN.{length, drop}
 use Rattle.opening.specs.Problem.{sameBytes}
-use Rattle.opening.proofs.ProblemLaws.{same-lengths, same-miss, same-hit, same-end}
+use Rattle.opening.proofs.SizeLaws.{same-lengths, same-miss, same-hit, same-end}
 use borrow.Author.Needs.{needs}
 use native.Mathlib.Omega.{arith}
 use Rattle.opening.proofs.same_bytes.Statement.{statement}

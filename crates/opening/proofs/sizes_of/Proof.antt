@@ -6,7 +6,7 @@ use Rattle.dimacs.specs.Words.{isBlank, Piece}
 use Rattle.dimacs.proofs.Runs.{run-within}
 use Rattle.dimacs.proofs.WordLaws.{pieceAt}
 use Rattle.opening.specs.Problem.{fourWords}
-use Rattle.opening.proofs.ProblemLaws.{no-p, StartsP, starts-p, no-cnf, ThenCnf, then-cnf}
+use Rattle.opening.proofs.SizeLaws.{no-p, StartsP, starts-p, no-cnf, ThenCnf, then-cnf}
 use borrow.Author.Needs.{needs}
 use native.Mathlib.Omega.{arith}
 use Rattle.opening.proofs.sizes_of.Statement.{statement}

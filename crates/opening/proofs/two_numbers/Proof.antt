@@ -7,7 +7,7 @@ use Rattle.dimacs.proofs.WordLaws.{pieceAt, no-word, next-word}
 use Rattle.opening.specs.Problem.{sameBytes, fourWords}
 use Rattle.opening.specs.declared.Sizes.{Sizes}
 use Rattle.opening.proofs.Next.{Next, next-found, next-missing}
-use Rattle.opening.proofs.ProblemLaws.{first-missing, second-missing, two-numbers, five-words}
+use Rattle.opening.proofs.SizeLaws.{first-missing, second-missing, two-numbers, five-words}
 use borrow.Author.Needs.{needs}
 use Rattle.opening.proofs.two_numbers.Statement.{statement}
 use Rattle.opening.proofs.two_numbers.Tie as tie

@@ -1,0 +1,124 @@
+-- Demand 2, first half: a permutation is accepted exactly when it turns the formula's set of clauses into itself, the input rules and limits
+-- permitting, and the row that is then held is the one that the two lines state. Assumes nothing.
+use mathlib.Core.Path.{_≡_, refl, sym, ap, _∙_}
+use mathlib.Core.Bool.{Bool, true, false, cond, not}
+use mathlib.Core.List.{List, [], _∷_, _++_}
+use mathlib.Core.Logic.{_↔_}
+use Prim.Native.Nat.{ℕ, _+_, _*_, _≤_, _<_}
+use native.Mathlib.Omega.{arith}
+use borrow.Author.Tests.{eqb-true, eqb-false, leb-true}
+use lib.Arith.{lt-of-le-ne}
+use lib.ListN.{length}
+use lib.Dec.{eqb, leb}
+use Rattle.store.specs.Refusals.{Said, done, refused, saidRefused}
+use Rattle.store.specs.Stores.{Store, wellFormed, plainOf, heldRows, isRow, maxRows}
+use Rattle.store.specs.declared.refusal.Refusal.{Refusal}
+use Rattle.store.proofs.Demands.{rest-of}
+use Rattle.store.proofs.Formed.{formed, row-of}
+use Rattle.store.proofs.Append.{withRow, with-row-held, with-row-formed}
+use Rattle.permutation.specs.Stated.{statedBy}
+use Rattle.permutation.specs.declared.Stated.{Stated}
+use Rattle.permutation.proofs.RowLaws.{row-length}
+use Rattle.permutation.proofs.Theorem.{stated-row}
+use Rattle.symmetry.specs.Symmetry.{IsSymmetry, firstMissing}
+use Rattle.symmetry.proofs.Facts.{literals-within}
+use Rattle.symmetry.proofs.Theorem.{none-missing-iff}
+use Rattle.offering.specs.Offering.{rowFor, imagesNeeded, ifRoom, ifSymmetry, ifStated, offeredBy}
+use Rattle.offering.specs.declared.Offered.{Offered}
+use Rattle.offering.proofs.OfferLaws.{held}
+use Rattle.symbreak.specs.Calls.{Accepted, accepted, saidOffered, offerSays, offerStore}
+use Rattle.symbreak.proofs.CallLaws.{tried}
+
+module _ (s : Store) (names values : List ℕ) where
+  -- everything that an acceptance rests on
+  pub record Accepts : Type 0 where
+    pub opened : s .counts .is_open ≡ true
+    pub formed : wellFormed s ≡ true
+    pub few : s .counts .rows < maxRows
+    pub stated : statedBy (s .counts .variables) names values ≡ Stated.Permutation
+    pub none-missing : firstMissing (rowFor s names values) (plainOf s) ≡ 0
+    pub room : imagesNeeded s ≤ length (s .images)
+
+  never : {A : Type 0} {number place : ℕ} → _≡_ {A = Said Accepted} (refused number place) (done accepted) → A
+  never e = let z : _≡_ {A = ℕ} 0 1 = cc in absurd (omega arith)
+
+  -- the first clause whose image is missing
+  abbrev missing : ℕ
+  missing = firstMissing (rowFor s names values) (plainOf s)
+
+  pub accepts-of : offerSays s names values ≡ done accepted → Accepts
+  unfolding offerSays offeredBy ifSymmetry ifRoom
+  accepts-of said =
+      store (s .counts .is_open) refl (wellFormed s) refl (eqb (s .counts .rows) maxRows) refl (statedBy (s .counts .variables) names values) refl said
+    where
+      found : s .counts .is_open ≡ true → wellFormed s ≡ true → eqb (s .counts .rows) maxRows ≡ false
+          → statedBy (s .counts .variables) names values ≡ Stated.Permutation
+          → (e : Bool) → eqb missing 0 ≡ e → (f : Bool) → leb (imagesNeeded s) (length (s .images)) ≡ f
+          → saidOffered (cond e (cond f Offered.Accepted (Offered.Refused (Refusal.TooShort (imagesNeeded s)))) (Offered.Refused (Refusal.NoSymmetry missing))) ≡ done accepted
+          → Accepts
+      found qa qb qc qd false qe f qf q = never q
+      found qa qb qc qd true qe false qf q = never q
+      found qa qb qc qd true qe true qf q = record {
+        opened = qa;
+        formed = qb;
+        few = lt-of-le-ne (rest-of s qb .rows-fit) (eqb-false _ _ qc);
+        stated = qd;
+        none-missing = eqb-true _ _ qe;
+        room = leb-true _ _ qf;
+      }
+
+      store : (a : Bool) → s .counts .is_open ≡ a → (b : Bool) → wellFormed s ≡ b → (c : Bool) → eqb (s .counts .rows) maxRows ≡ c
+          → (d : Stated) → statedBy (s .counts .variables) names values ≡ d
+          → cond (not a) (refused 20 0) (cond (not b) (refused 21 0) (cond c (refused 22 0) (saidOffered (ifStated d missing s)))) ≡ done accepted → Accepts
+      store false qa b qb c qc d qd q = never q
+      store true qa false qb c qc d qd q = never q
+      store true qa true qb true qc d qd q = never q
+      store true qa true qb false qc (Stated.Refused r) qd q = never q
+      store true qa true qb false qc Stated.Permutation qd q = found qa qb qc qd (eqb missing 0) refl (leb (imagesNeeded s) (length (s .images))) refl q
+
+  pub accepts-said : Accepts → offerSays s names values ≡ done accepted
+  accepts-said a =
+      tried s names values (a .opened) (a .formed) (λ e. omega (arith, a .few))
+      ∙ ap saidOffered (held s names values (a .stated) _ refl (a .none-missing) (a .room))
+
+  -- Demand 2: of an open, well-formed store that is not full and has room, two lines that state a permutation by the rules are accepted exactly when the
+  -- set of images equals the set of clauses.
+  pub accepted-iff-symmetry : s .counts .is_open ≡ true → wellFormed s ≡ true → s .counts .rows < maxRows → imagesNeeded s ≤ length (s .images)
+      → statedBy (s .counts .variables) names values ≡ Stated.Permutation
+      → (offerSays s names values ≡ done accepted) ↔ IsSymmetry (rowFor s names values) (plainOf s)
+  accepted-iff-symmetry qo qf few room stated = (
+    λ said. symmetry .0 (accepts-of said .none-missing),
+    λ sym. accepts-said (record { opened = qo; formed = qf; few = few; stated = stated; none-missing = symmetry .1 sym; room = room }),
+  )
+    where
+      symmetry : (missing ≡ 0) ↔ IsSymmetry (rowFor s names values) (plainOf s)
+      symmetry =
+          none-missing-iff (s .counts .variables) (rowFor s names values) (plainOf s)
+          (row-of (s .counts .variables) (rowFor s names values) (stated-row (s .counts .variables) names values stated)) (literals-within s (formed s qf))
+
+  -- ---- what an offer leaves
+
+  pub store-refused : (number place : ℕ) → offerSays s names values ≡ refused number place → offerStore s names values ≡ s
+  unfolding offerStore
+  store-refused number place e = rw e
+
+  module _ (said : offerSays s names values ≡ done accepted) where
+    pub store-accepted : offerStore s names values ≡ withRow s (rowFor s names values)
+    unfolding offerStore
+    store-accepted = rw said
+
+    pub accepted-symmetry : IsSymmetry (rowFor s names values) (plainOf s)
+    accepted-symmetry = let a = accepts-of said in accepted-iff-symmetry (a .opened) (a .formed) (a .few) (a .room) (a .stated) .0 said
+
+    pub accepted-row : isRow (s .counts .variables) (rowFor s names values) ≡ true
+    accepted-row = stated-row (s .counts .variables) names values (accepts-of said .stated)
+
+    -- the rows held afterwards are those held before and the one that the lines state, and the store stays well formed
+    pub accepted-held : heldRows (offerStore s names values) ≡ heldRows s ++ (rowFor s names values ∷ [])
+    accepted-held = ap heldRows store-accepted ∙ with-row-held s (rowFor s names values) (row-length (s .counts .variables) names values) (accepts-of said .room)
+
+    pub accepted-formed : wellFormed (offerStore s names values) ≡ true
+    accepted-formed =
+        let a = accepts-of said in
+        ap wellFormed store-accepted
+        ∙ with-row-formed s (rowFor s names values) (row-length (s .counts .variables) names values) (a .room) (a .formed) accepted-row (a .few)

@@ -1,2 +1,4 @@
 pub mod CallLaws
 pub mod Acceptance
+pub mod AfterCalls
+pub mod Starred

@@ -20,11 +20,26 @@ extern "C" {
 #define SYMBREAK_MAX_LITERALS 12288
 #define SYMBREAK_MAX_ROWS 64
 
-/* Refusals. The place is 0 where nothing else is said. */
+/* Refusals, each with its place: a byte offset from 0 in the text or line where nothing else is said, and 0 where a refusal has no place. */
 enum symbreak_refusal {
     SYMBREAK_NO_REFUSAL = 0,
-    SYMBREAK_BAD_ASSIGNMENT = 12, /* assignments of unequal lengths, or of more than 519 words */
-    SYMBREAK_NO_FIGURE = 14       /* not unlabelled <= allowed <= labelled, labelled = unlabelled, or labelled over 10^12 */
+    SYMBREAK_NO_PROBLEM_LINE = 1,   /* text: no problem line `p cnf n m`; the first line that is no comment, or the text's length */
+    SYMBREAK_SIZE_OVER_LIMIT = 2,   /* text: n or m over its limit; the problem line */
+    SYMBREAK_NOT_NUMBER = 3,        /* text: a word that is no number */
+    SYMBREAK_LITERAL_BEYOND = 4,    /* text: a literal beyond n */
+    SYMBREAK_TOO_MANY_LITERALS = 5, /* text: literal 12,289 */
+    SYMBREAK_CLAUSE_COUNT = 6,      /* text: a word after m clauses are closed, or the end before that (place: length) */
+    SYMBREAK_NAME_NOT_NUMBER = 7,   /* names line: a word that is no number */
+    SYMBREAK_BAD_NAME = 8,          /* names line: a name outside 1..n or repeated, or no name (place: length) */
+    SYMBREAK_VALUE_NOT_NUMBER = 9,  /* value line: a word that is no number */
+    SYMBREAK_BAD_VALUE = 10,        /* value line: a value that is no name or repeated, or too few (place: length) */
+    SYMBREAK_NO_SYMMETRY = 11,      /* no symmetry; the number, from 1, of the first clause whose image is missing */
+    SYMBREAK_BAD_ASSIGNMENT = 12,   /* assignments of unequal lengths, or of more than 519 words */
+    SYMBREAK_NO_FIGURE = 14,        /* not unlabelled <= allowed <= labelled, labelled = unlabelled, or labelled over 10^12 */
+    SYMBREAK_NOT_OPEN = 20,         /* the store is not open */
+    SYMBREAK_BADLY_FORMED = 21,     /* the store is badly formed */
+    SYMBREAK_ROWS_FULL = 22,        /* an offer with 64 rows held */
+    SYMBREAK_TOO_SHORT = 23         /* a slice too short; the length needed */
 };
 
 /* The record of a store: is_open is 0 for closed, and anything else for open. */
@@ -35,6 +50,17 @@ typedef struct {
     uint64_t is_open;
 } symbreak_record;
 
+/* What a call that may change the store answers: refusal 0, or the number of a refusal and its place; and the record to lend at the next call, which
+ * a refusal leaves as it was. */
+typedef struct {
+    uint32_t refusal;
+    uint64_t place;
+    uint64_t variables;
+    uint64_t clauses;
+    uint64_t rows;
+    uint64_t is_open;
+} symbreak_stored;
+
 /* What a call with one value answers: refusal 0 and the value, or the number of a refusal and its place. */
 typedef struct {
     uint32_t refusal;
@@ -44,6 +70,23 @@ typedef struct {
 
 /* A new store's record: closed, and all counts 0. */
 symbreak_record symbreak_new_record(void);
+
+/* The store is what the host lends at every call: the record, as four numbers, and three slices.
+ *   literals  the clauses' literals in order, as codes: 2 * i for variable i, 2 * i + 1 for its negation; SYMBREAK_MAX_LITERALS entries are always enough
+ *   ends      for each clause the count of literals up to its end; SYMBREAK_MAX_CLAUSES entries are always enough
+ *   images    one row of n codes for each accepted permutation, the image of variable i at index i - 1; SYMBREAK_MAX_ROWS * n entries are always enough
+ * Entries past those in use are never looked at and never changed. */
+
+/* Opens a formula, DIMACS CNF text as document 01 narrows it: it replaces what the store held and drops its rows. The record lent is not looked at.
+ * Refusals 1 to 6; then 23 for literals, then 23 for ends. */
+symbreak_stored symbreak_open(uint64_t variables, uint64_t clauses, uint64_t rows, uint64_t is_open, const uint8_t *text, size_t text_len,
+                              uint16_t *literals, size_t literals_len, uint16_t *ends, size_t ends_len);
+
+/* Offers a permutation: a line of names and a line of values in that order, without line feeds. A symmetry of the formula is held as one row more.
+ * Refusals 20, 21, 22, 7, 8, 9, 10, 11, 23, in this order. */
+symbreak_stored symbreak_offer(uint64_t variables, uint64_t clauses, uint64_t rows, uint64_t is_open, const uint16_t *literals, size_t literals_len,
+                               const uint16_t *ends, size_t ends_len, uint16_t *images, size_t images_len, const uint8_t *names, size_t names_len,
+                               const uint8_t *values, size_t values_len);
 
 /* Assignments are 64-bit words: variable 1 is the highest bit of the first word, 1 is true.
  * The value is the variable at which a and b first differ, or 0 where they are equal; words of any value. Refusal 12. */

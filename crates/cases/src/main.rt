@@ -1,0 +1,87 @@
+// Document 01's unstarred cases ("Tried on both edges"), run: each line is a case, its refusal (0 for none) and its place.
+use offering::Offered;
+use opening::Opened;
+use store::record::Record;
+
+fn main() {
+    opened(b"512 variables: ", b"p cnf 512 0");
+    opened(b"513 variables: ", b"p cnf 513 0");
+    opened(b"nothing at all: ", b"p cnf 0 0");
+    opened(b"minus zero: ", b"p cnf 1 1\n-0 0\n");
+    rows();
+}
+
+fn opened(name: &[u8], text: &[u8]) {
+    let mut literals = [0u16; 8];
+    let mut ends = [0u16; 8];
+    let r = symbreak::open(symbreak::new_record(), text, &mut literals, &mut ends);
+    let answer = r.answer;
+    match answer {
+        Opened::Open(_, _) => show(name, 0, 0),
+        Opened::Refused(refusal) => show(name, refusal.number(), refusal.place()),
+    }
+}
+
+// Row 64 is held, the next is 22.
+fn rows() {
+    let mut literals = [0u16; 8];
+    let mut ends = [0u16; 8];
+    let mut images = [0u16; 130];
+    let r = symbreak::open(
+        symbreak::new_record(),
+        b"p cnf 2 1\n1 2 0\n",
+        &mut literals,
+        &mut ends,
+    );
+    let counts = offers(r.counts, 63, &literals, &ends, &mut images);
+    let full = offered(b"row 64: ", counts, &literals, &ends, &mut images);
+    held(offered(b"row 65: ", full, &literals, &ends, &mut images));
+}
+
+// The record after some offers of the same exchange.
+fn offers(
+    counts: Record,
+    some: usize,
+    literals: &[u16],
+    ends: &[u16],
+    images: &mut [u16],
+) -> Record {
+    let mut after = counts;
+    let mut i = 0;
+    while i < some {
+        let r = symbreak::offer(after, literals, ends, images, b"1 2", b"2 1");
+        after = r.counts;
+        i += 1;
+    }
+    after
+}
+
+fn offered(
+    name: &[u8],
+    counts: Record,
+    literals: &[u16],
+    ends: &[u16],
+    images: &mut [u16],
+) -> Record {
+    let r = symbreak::offer(counts, literals, ends, images, b"1 2", b"2 1");
+    let answer = r.answer;
+    match answer {
+        Offered::Accepted => show(name, 0, 0),
+        Offered::Refused(refusal) => show(name, refusal.number(), refusal.place()),
+    }
+    r.counts
+}
+
+fn held(counts: Record) {
+    io::write_all(1, b"rows: ");
+    io::print_decimal(1, counts.rows as u64);
+    io::write_all(1, b"\n");
+}
+
+fn show(name: &[u8], refusal: u32, place: usize) {
+    io::write_all(1, name);
+    io::print_decimal(1, refusal as u64);
+    io::write_all(1, b" ");
+    io::print_decimal(1, place as u64);
+    io::write_all(1, b"\n");
+}

@@ -39,9 +39,12 @@ def blank(chance):
 
 
 def text(chance, n, clauses):
-    """The text of a formula, with comment lines before it and clauses that span lines."""
+    """The text of a formula, with comment lines before it and clauses that span lines; at times a size is over its limit."""
     lines = [chance.choice([b"c", b"cnf 1 1", b"comment x"]) + b"\n" for _ in range(chance.choice([0, 0, 0, 1, 2]))]
-    lines.append(b"p" + blank(chance) + b"cnf" + blank(chance) + b"%d" % n + blank(chance) + b"%d" % len(clauses) + chance.choice([b"", b" "]) + b"\n")
+    sizes = [n, len(clauses)]
+    if chance.random() < 0.03:
+        sizes[chance.randrange(2)] += 5000
+    lines.append(b"p" + blank(chance) + b"cnf" + blank(chance) + b"%d" % sizes[0] + blank(chance) + b"%d" % sizes[1] + chance.choice([b"", b" "]) + b"\n")
     for clause in clauses:
         between = chance.choice([b" ", b" ", b"\t", b"\n"])
         lines.append(between.join(b"%d" % literal for literal in [*clause, 0]) + chance.choice([b"\n", b"\n", b" ", b"\n\n"]))

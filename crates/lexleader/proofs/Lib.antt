@@ -1,0 +1,12 @@
+pub mod Tests
+pub mod Truth
+pub mod Images
+pub mod Values
+pub mod Pairs
+pub mod Moved
+pub mod Settings
+pub mod Completed
+pub mod Order
+pub mod Descent
+pub mod Theorems
+pub mod Examples

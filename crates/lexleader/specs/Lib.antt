@@ -1,0 +1,5 @@
+pub mod Models
+pub mod Rows
+pub mod Made
+pub mod Kept
+pub mod Descent

@@ -1,0 +1,121 @@
+-- The decimal digits of a number: the last one and those before it, how many they are, and how they are written, the last first. Assumes nothing.
+use mathlib.Core.Path.{_≡_, refl, sym, ap, _∙_}
+use mathlib.Core.List.{List, [], _∷_, _++_}
+use mathlib.Core.Logic.{⊎-elim}
+use Prim.Native.Nat.{ℕ, zero, suc, _+_, _-_, _*_, _/_, _%_, _^_, _≤_, _<_}
+use native.Mathlib.Nat.{pow-suc, one-le-pow}
+use native.Mathlib.Omega.{arith}
+use borrow.Author.Tests.{lt-ltb, le-ltb}
+use lib.Dec.{lit<}
+use lib.ListN.{length, set, length-append, length-set}
+use Rattle.lists.proofs.Cases.{lt-or-le}
+use Rattle.render.specs.Text.{decimalIn, decimal, writtenAt}
+use Rattle.render.proofs.Writing.{written-last, stores}
+
+module _ (f x : ℕ) where
+  in-one : x < 10 → decimalIn (suc f) x ≡ (x + 48) ∷ []
+  unfolding decimalIn
+  in-one h = rw (lt-ltb x 10 h)
+
+  in-more : 10 ≤ x → decimalIn (suc f) x ≡ decimalIn f (x / 10) ++ ((x % 10 + 48) ∷ [])
+  unfolding decimalIn
+  in-more h = rw (le-ltb x 10 h)
+
+  -- one digit, or one more than there are before the last
+  length-in : {C : Type 0} → (x < 10 → length (decimalIn (suc f) x) ≡ 1 → C) → (10 ≤ x → length (decimalIn (suc f) x) ≡ length (decimalIn f (x / 10)) + 1 → C) → C
+  length-in one more =
+      ⊎-elim (λ l. one l (ap length (in-one l)))
+      (λ l. more l (ap length (in-more l) ∙ length-append (decimalIn f (x / 10)) ((x % 10 + 48) ∷ [])))
+      (lt-or-le x 10)
+
+-- more digits than are needed change nothing
+in-enough : (f x : ℕ) → x < 10 ^ suc f → decimalIn (suc (suc f)) x ≡ decimalIn (suc f) x
+in-enough zero x h = in-one 1 x (omega arith) ∙ sym (in-one 0 x (omega arith))
+in-enough (suc f) x h =
+    ⊎-elim (λ l. in-one (suc (suc f)) x l ∙ sym (in-one (suc f) x l))
+    (λ l. in-more (suc (suc f)) x l ∙ ap (λ (ds : List ℕ). ds ++ ((x % 10 + 48) ∷ [])) (in-enough f (x / 10) (omega (arith, pow-suc 10 (suc f)))) ∙ sym (in-more (suc f) x l))
+    (lt-or-le x 10)
+
+-- the last digit, and those before it
+decimal-one : (x : ℕ) → x < 10 → decimal x ≡ (x + 48) ∷ []
+unfolding decimal
+decimal-one x h = in-one 9 x h
+
+decimal-more : (x : ℕ) → x < 2 ^ 32 → 10 ≤ x → decimal x ≡ decimal (x / 10) ++ ((x % 10 + 48) ∷ [])
+unfolding decimal
+decimal-more x b h = in-more 9 x h ∙ ap (λ (ds : List ℕ). ds ++ ((x % 10 + 48) ∷ [])) (sym (in-enough 8 (x / 10) (omega arith)))
+
+-- at least one, and at most ten
+some-in : (f x : ℕ) → 0 < length (decimalIn (suc f) x)
+some-in f x = length-in f x (λ l e. omega arith) (λ l e. omega arith)
+
+most-in : (f x : ℕ) → length (decimalIn f x) ≤ f
+unfolding decimalIn
+most-in zero x = omega arith
+most-in (suc f) x = length-in f x (λ l e. omega arith) (λ l e. omega (arith, most-in f (x / 10)))
+
+pub digits-some : (x : ℕ) → 0 < length (decimal x)
+unfolding decimal
+digits-some x = some-in 9 x
+
+pub digits-most : (x : ℕ) → length (decimal x) ≤ 10
+unfolding decimal
+digits-most x = most-in 10 x
+
+-- a number from 10 ^ n on has more than n, and one below 10 ^ n at most n
+above-in : (f n x : ℕ) → 10 ^ n ≤ x → x < 10 ^ f → n < length (decimalIn f x)
+above-in zero n x h k = absurd (omega (arith, one-le-pow n 10 (lit< tt)))
+above-in (suc f) zero x h k = some-in f x
+above-in (suc f) (suc n) x h k =
+    let power = pow-suc 10 n in
+    length-in f x (λ l e. absurd (omega (arith, one-le-pow n 10 (lit< tt)))) (λ l e. omega (arith, above-in f n (x / 10) (omega arith) (omega (arith, pow-suc 10 f))))
+
+within-in : (f n x : ℕ) → x < 10 ^ suc n → length (decimalIn f x) ≤ suc n
+unfolding decimalIn
+within-in zero n x h = omega arith
+within-in (suc f) zero x h = length-in f x (λ l e. omega arith) (λ l e. absurd (omega arith))
+within-in (suc f) (suc n) x h =
+    length-in f x (λ l e. omega arith) (λ l e. omega (arith, within-in f n (x / 10) (omega (arith, pow-suc 10 (suc n)))))
+
+pub digits-above : (n x : ℕ) → x < 2 ^ 32 → 10 ^ n ≤ x → n < length (decimal x)
+unfolding decimal
+digits-above n x b h = above-in 10 n x h (omega arith)
+
+pub digits-within : (n x : ℕ) → 0 < n → x < 10 ^ n → length (decimal x) ≤ n
+unfolding decimal
+digits-within zero x p h = absurd (omega arith)
+digits-within (suc n) x p h = within-in 10 n x h
+
+-- the digits of x from `at` on: those of y are still to be written, up to k, and those after k are written
+pub record Left (x at : ℕ) (buffer out : List ℕ) (k y : ℕ) : Type 0 where
+  pub low : y < 2 ^ 32
+  pub place : k ≡ at + length (decimal y)
+  pub room : k ≤ length out
+  pub size : length out ≡ length buffer
+  pub bytes : writtenAt at (decimal x) buffer ≡ writtenAt at (decimal y) out
+
+pub left-start : {x at k : ℕ} {buffer : List ℕ} → x < 2 ^ 32 → k ≡ at + length (decimal x) → at + length (decimal x) ≤ length buffer → Left x at buffer buffer k x
+left-start low e h = record { low = low; place = e; room = omega arith; size = refl; bytes = refl }
+
+module _ {x at : ℕ} {buffer out : List ℕ} {k y : ℕ} (g : Left x at buffer out k y) where
+  pub left-more : 10 ≤ y → Left x at buffer (set out (k - 1) (y - y / 10 * 10 + 48)) (k - 1) (y / 10)
+  left-more h =
+      let ds : List ℕ = decimal (y / 10) in
+      let split : decimal y ≡ ds ++ ((y % 10 + 48) ∷ []) = decimal-more y (g .low) h in
+      let l : length (decimal y) ≡ length ds + 1 = ap length split ∙ length-append ds ((y % 10 + 48) ∷ []) in
+      let e : k - 1 ≡ at + length ds = omega (arith, g .place) in
+      let d : y - y / 10 * 10 + 48 ≡ y % 10 + 48 = omega arith in
+      let s = length-set out (k - 1) (y - y / 10 * 10 + 48) in
+      record {
+        low = omega (arith, g .low);
+        place = e;
+        room = omega (arith, g .room);
+        size = omega (arith, g .size);
+        bytes = g .bytes ∙ ap (λ (bytes : List ℕ). writtenAt at bytes out) split ∙ sym (rw (d, e) (written-last at (y % 10 + 48) ds out (omega (arith, g .room, g .place))));
+      }
+
+  pub left-last : y < 10 → set out at (y + 48) ≡ writtenAt at (decimal x) buffer
+  left-last h =
+      let one : decimal y ≡ (y + 48) ∷ [] = decimal-one y h in
+      let l : length (decimal y) ≡ 1 = ap length one in
+      sym (g .bytes ∙ ap (λ (bytes : List ℕ). writtenAt at bytes out) one ∙ stores at ((y + 48) ∷ []) out (omega (arith, g .room, g .place)))

@@ -1,0 +1,137 @@
+-- Literals, clauses and the header as bytes: their lengths, and how a loop over a clause measures and writes its line. Assumes nothing.
+use mathlib.Core.Path.{_≡_, refl, sym, ap, _∙_}
+use mathlib.Core.List.{List, [], _∷_, _++_, append-assoc}
+use mathlib.Core.Logic.{⊎-elim}
+use Prim.Native.Nat.{ℕ, suc, _+_, _*_, _/_, _%_, _^_, _≤_, _<_, zero-le, suc-le-suc}
+use native.Mathlib.Nat.{mul-suc}
+use native.Mathlib.Omega.{arith}
+use borrow.Author.Tests.{eq-eqb, ne-eqb}
+use lib.ListN.{length, getD, drop, length-append, drop-of-length-le}
+use Rattle.lists.proofs.Cases.{eq-or-ne}
+use Rattle.lists.proofs.Steps.{drop-step}
+use Rattle.render.specs.Text.{decimal, literalText, clauseLine, headerLine, writtenAt}
+use Rattle.render.proofs.DigitLaws.{digits-most, digits-within}
+use Rattle.render.proofs.Writing.{Wrote, length-written, written-written}
+
+-- ---- a literal
+
+pub text-negative : (code : ℕ) → code % 2 ≡ 1 → literalText code ≡ 45 ∷ decimal (code / 2)
+unfolding literalText
+text-negative code h = rw (eq-eqb (code % 2) 1 h)
+
+pub text-plain : (code : ℕ) → (code % 2 ≡ 1 → ⊥) → literalText code ≡ decimal (code / 2)
+unfolding literalText
+text-plain code h = rw (ne-eqb (code % 2) 1 h)
+
+pub length-text : (code : ℕ) → length (literalText code) ≡ length (decimal (code / 2)) + code % 2
+length-text code =
+    ⊎-elim (λ h. omega (arith, ap length (text-negative code h))) (λ h. omega (arith, ap length (text-plain code h))) (eq-or-ne (code % 2) 1)
+
+-- ---- the header
+
+pub length-header : (variables clauses : ℕ) → length (headerLine variables clauses) ≡ length (decimal variables) + length (decimal clauses) + 8
+unfolding headerLine
+length-header variables clauses = simp length-append (omega arith)
+
+-- ---- a clause's line, from the literal i on
+
+abbrev pub wordText : ℕ → List ℕ
+wordText code = literalText code ++ 32 ∷ []
+
+module _ (clause : List ℕ) (i : ℕ) where
+  -- its code's word, and the rest
+  module _ (h : i < length clause) {code : ℕ} (e : code ≡ getD clause i 0) where
+    line-at : clauseLine (drop i clause) ≡ wordText code ++ clauseLine (drop (i + 1) clause)
+    unfolding clauseLine
+    line-at = rw (e, drop-step clause i 0 h) (sym (append-assoc (literalText (getD clause i 0)) (32 ∷ []) (clauseLine (drop (i + 1) clause))))
+
+    length-at : length (clauseLine (drop i clause)) ≡ length (wordText code) + length (clauseLine (drop (i + 1) clause))
+    length-at = ap length line-at ∙ length-append (wordText code) (clauseLine (drop (i + 1) clause))
+
+  -- or the line's end
+  line-end : length clause ≤ i → clauseLine (drop i clause) ≡ clauseLine []
+  line-end h = ap clauseLine (drop-of-length-le clause h)
+
+-- at most k bytes to a literal make a line of at most k + 1 bytes to a literal, and 2
+line-most : (k : ℕ) (clause : List ℕ) → ((i : ℕ) → i < length clause → length (literalText (getD clause i 0)) ≤ k)
+    → length (clauseLine clause) ≤ (k + 1) * length clause + 2
+unfolding clauseLine
+line-most k [] f = omega arith
+line-most k (code ∷ clause) f =
+    omega (
+      arith,
+      f 0 (suc-le-suc zero-le),
+      line-most k clause (λ i h. f (suc i) (suc-le-suc h)),
+      length-append (literalText code) (32 ∷ clauseLine clause),
+      mul-suc (k + 1) (length clause),
+    )
+
+-- a variable below 100000 has at most 5 digits
+pub clause-line-most : (clause : List ℕ) → ((i : ℕ) → i < length clause → getD clause i 0 < 2 * 100000) → length (clauseLine clause) ≤ 7 * length clause + 2
+clause-line-most clause f =
+    line-most 6 clause (λ i h. omega (arith, f i h, length-text (getD clause i 0), digits-within 5 (getD clause i 0 / 2) (omega arith) (omega (arith, f i h))))
+
+-- ---- a clause's line measured: n bytes for the literals before i and the line's end
+
+pub record Measured (clause : List ℕ) (i n : ℕ) : Type 0 where
+  pub few : length clause ≤ 12288
+  pub sum : n + length (clauseLine (drop i clause)) ≡ length (clauseLine clause) + 2
+
+pub measured-start : (clause : List ℕ) → length clause ≤ 12288 → Measured clause 0 2
+measured-start clause h = record { few = h; sum = omega arith }
+
+module _ {clause : List ℕ} {i n : ℕ} (g : Measured clause i n) where
+  -- w bytes for the literal i
+  module _ (h : i < length clause) {code w : ℕ} (e : code ≡ getD clause i 0) (d : w ≡ length (literalText code)) where
+    pub measured-more : Measured clause (i + 1) (n + (w + 1))
+    measured-more = record { few = g .few; sum = omega (arith, g .sum, length-at clause i h e, length-append (literalText code) (32 ∷ [])) }
+
+    pub measured-fits : n + (w + 1) < 2 ^ 32
+    measured-fits =
+        let most = line-most 11 clause (λ k _. omega (arith, length-text (getD clause k 0), digits-most (getD clause k 0 / 2))) in
+        omega (arith, g .few, measured-more .sum)
+
+  pub measured-all : length clause ≤ i → n ≡ length (clauseLine clause)
+  unfolding clauseLine
+  measured-all h = omega (arith, g .sum, ap length (line-end clause i h))
+
+-- ---- a clause's line written: the bytes from the literal i on are still to be written, from `next` on
+
+pub record Line (clause : List ℕ) (at : ℕ) (buffer : List ℕ) (i next : ℕ) (out : List ℕ) : Type 0 where
+  pub place : at + length (clauseLine clause) ≡ next + length (clauseLine (drop i clause))
+  pub room : next + length (clauseLine (drop i clause)) ≤ length out
+  pub size : length out ≡ length buffer
+  pub bytes : writtenAt at (clauseLine clause) buffer ≡ writtenAt next (clauseLine (drop i clause)) out
+
+pub line-start : (clause : List ℕ) (at : ℕ) (buffer : List ℕ) → at + length (clauseLine clause) ≤ length buffer → Line clause at buffer 0 at buffer
+line-start clause at buffer h = record { place = refl; room = h; size = refl; bytes = refl }
+
+module _ {clause : List ℕ} {at : ℕ} {buffer : List ℕ} {i next : ℕ} {out : List ℕ} (g : Line clause at buffer i next out) where
+  -- the word of the literal i
+  module _ (h : i < length clause) {code : ℕ} (e : code ≡ getD clause i 0) where
+    pub word-room : next + length (wordText code) ≤ length out
+    word-room = omega (arith, g .room, length-at clause i h e)
+
+    pub line-more : {end : ℕ} {made : List ℕ} → Wrote next (wordText code) out end made → Line clause at buffer (i + 1) end made
+    line-more {end} {made} p =
+        let same : length made ≡ length out = ap length (p .1) ∙ length-written next (wordText code) out word-room in
+        let l = length-at clause i h e in
+        record {
+          place = omega (arith, g .place, p .0);
+          room = omega (arith, g .room, p .0);
+          size = same ∙ g .size;
+          bytes = g .bytes
+              ∙ ap (λ (bytes : List ℕ). writtenAt next bytes out) (line-at clause i h e)
+              ∙ sym (rw (p .0, p .1) (written-written next (wordText code) (clauseLine (drop (i + 1) clause)) out (omega (arith, g .room))));
+        }
+
+  -- the line's end
+  module _ (h : length clause ≤ i) where
+    pub end-room : next + length (clauseLine []) ≤ length out
+    end-room = omega (arith, g .room, ap length (line-end clause i h))
+
+    pub line-last : {end : ℕ} {made : List ℕ} → Wrote next (clauseLine []) out end made → Wrote at (clauseLine clause) buffer end made
+    line-last {end} {made} p = (
+      omega (arith, g .place, p .0, ap length (line-end clause i h)),
+      p .1 ∙ sym (g .bytes ∙ ap (λ (bytes : List ℕ). writtenAt next bytes out) (line-end clause i h)),
+    )

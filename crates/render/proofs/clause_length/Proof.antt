@@ -1,0 +1,62 @@
+-- `render::clause_length` meets its contract. The invariant: n bytes for the line's end and the literals before i. Assumes nothing.
+use mathlib.Core.Path.{refl}
+use Prim.Native.Nat.{_-_}
+use lib.ListN.{length}
+use Rattle.render.proofs.LineLaws.{Measured, measured-start, measured-more, measured-fits, measured-all}
+use borrow.Author.Needs.{needs}
+use native.Mathlib.Omega.{arith}
+use Rattle.render.proofs.clause_length.Statement.{statement}
+use Rattle.render.proofs.clause_length.Tie as tie
+
+abbrev Inv-loop : tie.InvT-loop
+Inv-loop clause n₀ i₀ n i = Measured clause i n
+
+abbrev μ-loop : tie.MeasureT-loop
+μ-loop clause n₀ i₀ n i = length clause - i
+
+loop-holds : tie.Need-loop-holds Inv-loop μ-loop
+loop-holds c = measured-start _ (c .before .pre)
+
+mul-literal-length : tie.Need-mul-literal-length Inv-loop μ-loop
+mul-literal-length c = omega arith
+
+shared-slice-read-literal-length : tie.Need-shared-slice-read-literal-length Inv-loop μ-loop
+shared-slice-read-literal-length c = omega arith
+
+literal-length-requires : tie.Need-literal-length-requires Inv-loop μ-loop
+literal-length-requires c κs = search needs
+
+add-length : tie.Need-add-length Inv-loop μ-loop
+add-length c = omega (arith, measured-fits (c .before .before .before .loop .inv) (c .before .before .loop-test .taken) refl (c .literal-length .ensures))
+
+add-length-2 : tie.Need-add-length-2 Inv-loop μ-loop
+add-length-2 c = omega (arith, measured-fits (c .before .before .before .loop .inv) (c .before .before .loop-test .taken) refl (c .literal-length .ensures))
+
+add-i : tie.Need-add-i Inv-loop μ-loop
+add-i c = omega arith
+
+loop-less : tie.Need-loop-less Inv-loop μ-loop
+loop-less c = omega arith
+
+loop-again : tie.Need-loop-again Inv-loop μ-loop
+loop-again c = measured-more (c .before .before .before .loop .inv) (c .before .before .loop-test .taken) refl (c .literal-length .ensures)
+
+returns : tie.Need-returns Inv-loop μ-loop
+returns c = measured-all (c .before .loop .inv) (c .loop-test .left)
+
+pub clause-length-spec : {M : Type 1} → statement M
+clause-length-spec =
+    tie.close
+    (tie.spec
+    Inv-loop
+    μ-loop
+    loop-holds
+    mul-literal-length
+    shared-slice-read-literal-length
+    literal-length-requires
+    add-length
+    add-length-2
+    add-i
+    loop-less
+    loop-again
+    returns)

@@ -1,0 +1,66 @@
+-- `render::put_stored` meets its contract. The invariant: the line from the literal i on is still to be written, from `next` on. Assumes nothing.
+use mathlib.Core.Path.{_∙_}
+use Prim.Native.Nat.{_-_}
+use lib.ListN.{length}
+use Rattle.render.proofs.LineLaws.{Line, line-start, word-room, line-more, end-room, line-last}
+use borrow.Author.Needs.{needs}
+use native.Mathlib.Omega.{arith}
+use Rattle.render.proofs.put_stored.Statement.{statement}
+use Rattle.render.proofs.put_stored.Tie as tie
+
+abbrev Inv-loop : tie.InvT-loop
+Inv-loop out₀ at clause next₀ i₀ out next i = Line clause at out₀ i next out
+
+abbrev μ-loop : tie.MeasureT-loop
+μ-loop out₀ at clause next₀ i₀ out next i = length clause - i
+
+loop-holds : tie.Need-loop-holds Inv-loop μ-loop
+loop-holds c = line-start _ _ _ (c .before .before .pre)
+
+mul-wide : tie.Need-mul-wide Inv-loop μ-loop
+mul-wide c = omega arith
+
+shared-slice-read-wide : tie.Need-shared-slice-read-wide Inv-loop μ-loop
+shared-slice-read-wide c = omega arith
+
+wide-requires : tie.Need-wide-requires Inv-loop μ-loop
+wide-requires c κs = search needs
+
+put-word-requires : tie.Need-put-word-requires Inv-loop μ-loop
+put-word-requires c κs = word-room (c .before .before .before .before .loop .inv) (c .before .before .before .loop-test .taken) (c .wide .ensures)
+
+add-i : tie.Need-add-i Inv-loop μ-loop
+add-i c = omega arith
+
+loop-less : tie.Need-loop-less Inv-loop μ-loop
+loop-less c = omega arith
+
+loop-again : tie.Need-loop-again Inv-loop μ-loop
+loop-again c = line-more (c .before .before .before .before .before .before .before .loop .inv) (c .before .before .before .before .before .before .loop-test .taken) (c .before .before .before .wide .ensures) (c .before .before .put-word .ensures)
+
+put-end-requires : tie.Need-put-end-requires Inv-loop μ-loop
+put-end-requires c κs = end-room (c .before .before .loop .inv) (c .before .loop-test .left)
+
+same-length : tie.Need-same-length Inv-loop μ-loop
+same-length c = c .before .before .put-end .kept .0 ∙ c .before .before .before .before .before .loop .inv .size
+
+returns : tie.Need-returns Inv-loop μ-loop
+returns c = line-last (c .before .before .before .before .before .loop .inv) (c .before .before .before .before .loop-test .left) (c .before .before .put-end .ensures)
+
+pub put-stored-spec : {M : Type 1} → statement M
+put-stored-spec =
+    tie.close
+    (tie.spec
+    Inv-loop
+    μ-loop
+    loop-holds
+    mul-wide
+    shared-slice-read-wide
+    wide-requires
+    put-word-requires
+    add-i
+    loop-less
+    loop-again
+    put-end-requires
+    same-length
+    returns)

@@ -2,4 +2,5 @@ pub mod FormLaws
 pub mod Demands
 pub mod Formed
 pub mod Append
+pub mod StandingLaws
 pub mod Examples

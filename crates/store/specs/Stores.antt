@@ -8,7 +8,9 @@ use lib.Seq.{slice}
 use lib.Dec.{eqb, leb}
 use Rattle.lists.specs.Tests.{allOf, distinct}
 use Rattle.store.specs.Literals.{variableOf, isNegative, isLiteral}
+use Rattle.store.specs.declared.form.Standing.{Standing}
 use Rattle.store.specs.declared.record.Record.{Record}
+use Rattle.store.specs.declared.refusal.Refusal.{Refusal}
 
 -- "At most 512 variables, 4,096 clauses and 12,288 literals", and 64 rows
 abbrev pub maxVariables : ℕ
@@ -94,3 +96,7 @@ demands s =
 
 unfoldable pub wellFormed : Store → Bool
 wellFormed s = allOf (λ b. b) (demands s)
+
+-- "20. Not open. 21. Badly formed .. These have place 0 and come first, in this order."
+unfoldable pub standingOf : Store → Standing
+standingOf s = cond (not (s .counts .is_open)) (Standing.Refused Refusal.NotOpen) (cond (not (wellFormed s)) (Standing.Refused Refusal.BadlyFormed) Standing.Ready)

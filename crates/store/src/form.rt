@@ -5,8 +5,28 @@ ghost use Prim.Native.Nat.{_*_, _≤_};
 ghost use lib.ListN.{length};
 ghost use Rattle.lists.specs.Tests.{allOf};
 ghost use Rattle.store.specs.Literals.{isLiteral};
-ghost use Rattle.store.specs.Stores.{lent, wellFormed, rising, literalCount, isImage, isRow, rowsOf, maxVariables};
+ghost use Rattle.store.specs.Stores.{lent, wellFormed, standingOf, rising, literalCount, isImage, isRow, rowsOf, maxVariables};
 use crate::record::Record;
+use crate::refusal::Refusal;
+
+// What a call that needs an open store finds first.
+pub enum Standing {
+    Ready,
+    Refused(Refusal),
+}
+
+// Whether a store is open and well formed: 20, then 21.
+pub fn admit(counts: Record, literals: &[u16], ends: &[u16], images: &[u16]) -> Standing
+    ensures { λ r. ⌜ r ≡ standingOf (lent counts (now (literals .entry)) (now (ends .entry)) (now (images .entry))) ⌝ }
+{
+    if !counts.is_open {
+        return Standing::Refused(Refusal::NotOpen);
+    }
+    if !well_formed(counts, literals, ends, images) {
+        return Standing::Refused(Refusal::BadlyFormed);
+    }
+    Standing::Ready
+}
 
 pub fn well_formed(counts: Record, literals: &[u16], ends: &[u16], images: &[u16]) -> bool
     ensures { λ r. ⌜ r ≡ wellFormed (lent counts (now (literals .entry)) (now (ends .entry)) (now (images .entry))) ⌝ }

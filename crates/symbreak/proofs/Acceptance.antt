@@ -1,7 +1,7 @@
 -- Demand 2, first half: a permutation is accepted exactly when it turns the formula's set of clauses into itself, the input rules and limits
 -- permitting, and the row that is then held is the one that the two lines state. Assumes nothing.
 use mathlib.Core.Path.{_≡_, refl, sym, ap, _∙_}
-use mathlib.Core.Bool.{Bool, true, false, cond, not}
+use mathlib.Core.Bool.{Bool, true, false, cond}
 use mathlib.Core.List.{List, [], _∷_, _++_}
 use mathlib.Core.Logic.{_↔_}
 use Prim.Native.Nat.{ℕ, _+_, _*_, _≤_, _<_}
@@ -10,11 +10,13 @@ use borrow.Author.Tests.{eqb-true, eqb-false, leb-true}
 use lib.Arith.{lt-of-le-ne}
 use lib.ListN.{length}
 use lib.Dec.{eqb, leb}
-use Rattle.store.specs.Refusals.{Said, done, refused, saidRefused}
-use Rattle.store.specs.Stores.{Store, wellFormed, plainOf, heldRows, isRow, maxRows}
+use Rattle.store.specs.Refusals.{Said, done, refused}
+use Rattle.store.specs.Stores.{Store, wellFormed, standingOf, plainOf, heldRows, isRow, maxRows}
+use Rattle.store.specs.declared.form.Standing.{Standing}
 use Rattle.store.specs.declared.refusal.Refusal.{Refusal}
 use Rattle.store.proofs.Demands.{rest-of}
 use Rattle.store.proofs.Formed.{formed, row-of}
+use Rattle.store.proofs.StandingLaws.{ready-of, ready}
 use Rattle.store.proofs.Append.{withRow, with-row-held, with-row-formed}
 use Rattle.permutation.specs.Stated.{statedBy}
 use Rattle.permutation.specs.declared.Stated.{Stated}
@@ -26,7 +28,7 @@ use Rattle.symmetry.proofs.Theorem.{none-missing-iff}
 use Rattle.offering.specs.Offering.{rowFor, imagesNeeded, ifRoom, ifSymmetry, ifStated, offeredBy}
 use Rattle.offering.specs.declared.Offered.{Offered}
 use Rattle.offering.proofs.OfferLaws.{held}
-use Rattle.symbreak.specs.Calls.{Accepted, accepted, saidOffered, offerSays, offerStore}
+use Rattle.symbreak.specs.Calls.{Accepted, accepted, onStore, saidOffered, offerSays, offerStore}
 use Rattle.symbreak.proofs.CallLaws.{tried}
 
 module _ (s : Store) (names values : List ℕ) where
@@ -48,37 +50,35 @@ module _ (s : Store) (names values : List ℕ) where
 
   pub accepts-of : offerSays s names values ≡ done accepted → Accepts
   unfolding offerSays offeredBy ifSymmetry ifRoom
-  accepts-of said =
-      store (s .counts .is_open) refl (wellFormed s) refl (eqb (s .counts .rows) maxRows) refl (statedBy (s .counts .variables) names values) refl said
+  accepts-of said = store (standingOf s) refl (eqb (s .counts .rows) maxRows) refl (statedBy (s .counts .variables) names values) refl said
     where
-      found : s .counts .is_open ≡ true → wellFormed s ≡ true → eqb (s .counts .rows) maxRows ≡ false
-          → statedBy (s .counts .variables) names values ≡ Stated.Permutation
+      found : standingOf s ≡ Standing.Ready → eqb (s .counts .rows) maxRows ≡ false → statedBy (s .counts .variables) names values ≡ Stated.Permutation
           → (e : Bool) → eqb missing 0 ≡ e → (f : Bool) → leb (imagesNeeded s) (length (s .images)) ≡ f
           → saidOffered (cond e (cond f Offered.Accepted (Offered.Refused (Refusal.TooShort (imagesNeeded s)))) (Offered.Refused (Refusal.NoSymmetry missing))) ≡ done accepted
           → Accepts
-      found qa qb qc qd false qe f qf q = never q
-      found qa qb qc qd true qe false qf q = never q
-      found qa qb qc qd true qe true qf q = record {
-        opened = qa;
-        formed = qb;
-        few = lt-of-le-ne (rest-of s qb .rows-fit) (eqb-false _ _ qc);
-        stated = qd;
-        none-missing = eqb-true _ _ qe;
-        room = leb-true _ _ qf;
-      }
+      found qa qc qd false qe f qf q = never q
+      found qa qc qd true qe false qf q = never q
+      found qa qc qd true qe true qf q =
+          let r = ready s qa in
+          record {
+            opened = r .0;
+            formed = r .1;
+            few = lt-of-le-ne (rest-of s (r .1) .rows-fit) (eqb-false _ _ qc);
+            stated = qd;
+            none-missing = eqb-true _ _ qe;
+            room = leb-true _ _ qf;
+          }
 
-      store : (a : Bool) → s .counts .is_open ≡ a → (b : Bool) → wellFormed s ≡ b → (c : Bool) → eqb (s .counts .rows) maxRows ≡ c
-          → (d : Stated) → statedBy (s .counts .variables) names values ≡ d
-          → cond (not a) (refused 20 0) (cond (not b) (refused 21 0) (cond c (refused 22 0) (saidOffered (ifStated d missing s)))) ≡ done accepted → Accepts
-      store false qa b qb c qc d qd q = never q
-      store true qa false qb c qc d qd q = never q
-      store true qa true qb true qc d qd q = never q
-      store true qa true qb false qc (Stated.Refused r) qd q = never q
-      store true qa true qb false qc Stated.Permutation qd q = found qa qb qc qd (eqb missing 0) refl (leb (imagesNeeded s) (length (s .images))) refl q
+      store : (a : Standing) → standingOf s ≡ a → (c : Bool) → eqb (s .counts .rows) maxRows ≡ c → (d : Stated) → statedBy (s .counts .variables) names values ≡ d
+          → onStore a (cond c (refused 22 0) (saidOffered (ifStated d missing s))) ≡ done accepted → Accepts
+      store (Standing.Refused r) qa c qc d qd q = never q
+      store Standing.Ready qa true qc d qd q = never q
+      store Standing.Ready qa false qc (Stated.Refused r) qd q = never q
+      store Standing.Ready qa false qc Stated.Permutation qd q = found qa qc qd (eqb missing 0) refl (leb (imagesNeeded s) (length (s .images))) refl q
 
   pub accepts-said : Accepts → offerSays s names values ≡ done accepted
   accepts-said a =
-      tried s names values (a .opened) (a .formed) (λ e. omega (arith, a .few))
+      tried s names values (ready-of s (a .opened) (a .formed)) (λ e. omega (arith, a .few))
       ∙ ap saidOffered (held s names values (a .stated) _ refl (a .none-missing) (a .room))
 
   -- Demand 2: of an open, well-formed store that is not full and has room, two lines that state a permutation by the rules are accepted exactly when the

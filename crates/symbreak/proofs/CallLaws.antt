@@ -1,13 +1,12 @@
 -- Opening and offers: one law for each way out of the calls, for what is said and for what the store then is. Assumes nothing.
 use mathlib.Core.Path.{_≡_, refl, sym, ap, _∙_}
-use mathlib.Core.Bool.{Bool, true, false, cond, not}
 use mathlib.Core.List.{List}
 use Prim.Native.Nat.{ℕ, _+_}
 use borrow.Author.Tests.{eq-eqb, ne-eqb}
 use lib.ListN.{length}
-use lib.Dec.{eqb}
 use Rattle.store.specs.Refusals.{Said, done, refused, numberOf, placeOf, saidRefused}
-use Rattle.store.specs.Stores.{Store, lent, wellFormed, maxRows}
+use Rattle.store.specs.Stores.{Store, lent, standingOf, maxRows}
+use Rattle.store.specs.declared.form.Standing.{Standing}
 use Rattle.store.specs.declared.record.Record.{Record}
 use Rattle.store.specs.declared.refusal.Refusal.{Refusal}
 use Rattle.opening.specs.Clauses.{literalsIn, endsFrom}
@@ -37,33 +36,18 @@ module _ (s : Store) (names values : List ℕ) where
   Leaves answer counts images =
       (saidOffered answer ≡ offerSays s names values) × (lent counts (s .literals) (s .ends) images ≡ offerStore s names values)
 
-  -- what is said once the store is open, and once it is well formed
-  abbrev saidOpen : Said Accepted
-  saidOpen = cond (not (wellFormed s)) (refused 21 0) (cond (eqb (s .counts .rows) maxRows) (refused 22 0) (saidOffered (offeredBy s names values)))
-
-  abbrev saidFormed : Said Accepted
-  saidFormed = cond (eqb (s .counts .rows) maxRows) (refused 22 0) (saidOffered (offeredBy s names values))
-
-  by-open : (b : Bool) → s .counts .is_open ≡ b → offerSays s names values ≡ cond (not b) (refused 20 0) saidOpen
+  pub unready : (refusal : Refusal) → standingOf s ≡ Standing.Refused refusal → offerSays s names values ≡ saidRefused refusal
   unfolding offerSays
-  by-open b e = ap (λ (c : Bool). cond (not c) (refused 20 0) saidOpen) e
+  unready refusal e = rw e
 
-  by-form : (b : Bool) → wellFormed s ≡ b → saidOpen ≡ cond (not b) (refused 21 0) saidFormed
-  by-form b e = ap (λ (c : Bool). cond (not c) (refused 21 0) saidFormed) e
+  module _ (ready : standingOf s ≡ Standing.Ready) where
+    pub full : s .counts .rows ≡ maxRows → offerSays s names values ≡ refused 22 0
+    unfolding offerSays
+    full e = rw (ready, eq-eqb (s .counts .rows) maxRows e)
 
-  pub closed : s .counts .is_open ≡ false → offerSays s names values ≡ refused 20 0
-  closed e = by-open false e
-
-  module _ (opened : s .counts .is_open ≡ true) where
-    pub unformed : wellFormed s ≡ false → offerSays s names values ≡ refused 21 0
-    unformed e = by-open true opened ∙ by-form false e
-
-    module _ (formed : wellFormed s ≡ true) where
-      pub full : s .counts .rows ≡ maxRows → offerSays s names values ≡ refused 22 0
-      full e = by-open true opened ∙ by-form true formed ∙ rw (eq-eqb (s .counts .rows) maxRows e)
-
-      pub tried : (s .counts .rows ≡ maxRows → ⊥) → offerSays s names values ≡ saidOffered (offeredBy s names values)
-      tried n = by-open true opened ∙ by-form true formed ∙ rw (ne-eqb (s .counts .rows) maxRows n)
+    pub tried : (s .counts .rows ≡ maxRows → ⊥) → offerSays s names values ≡ saidOffered (offeredBy s names values)
+    unfolding offerSays
+    tried n = rw (ready, ne-eqb (s .counts .rows) maxRows n)
 
   -- a refusal leaves the store as it was
   pub turned-back : (refusal : Refusal) (r : Offering) → r ≡ record { answer = Offered.Refused refusal; counts = s .counts }

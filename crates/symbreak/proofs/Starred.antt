@@ -12,7 +12,7 @@ use Rattle.quality.specs.Efficiency.{hasEfficiency, efficiencyOf}
 use Rattle.store.specs.Literals.{isLiteral}
 use Rattle.store.specs.Numerals.{codeIn}
 use Rattle.store.specs.Refusals.{Said, done, refused}
-use Rattle.store.specs.Stores.{Store, lent, closedRecord, rising, literalCount, rowsOf, cut, plainOf, isImage, isRow, demands, wellFormed}
+use Rattle.store.specs.Stores.{Store, lent, closedRecord, rising, literalCount, rowsOf, cut, plainOf, isImage, isRow, demands, wellFormed, standingOf}
 use Rattle.opening.specs.Problem.{afterComments, sameBytes, fourWords, sizesOf, problemIn, problemOf}
 use Rattle.opening.specs.Clauses.{scanFrom, literalsIn, endsFrom}
 use Rattle.opening.specs.Opening.{bodyOf, openedBy}
@@ -47,7 +47,7 @@ offers :
     ∷ []
 unfolding
     listing openStore offerSays anyOf allOf distinct table isBlank run wordsFrom linesFrom isDigit decimalFrom digitsOf sizeOf numberOf isLiteral codeIn rising literalCount
-    rowsOf cut plainOf isImage isRow demands wellFormed afterComments sameBytes fourWords sizesOf problemIn problemOf scanFrom literalsIn endsFrom bodyOf openedBy notNumber
+    rowsOf cut plainOf isImage isRow demands wellFormed standingOf afterComments sameBytes fourWords sizesOf problemIn problemOf scanFrom literalsIn endsFrom bodyOf openedBy notNumber
     badNameAfter badName badValueAfter namesOn valuesOn statedBy imageAmong rowStated within sameSet imageOf clauseImage hasImage missingFrom ifRoom ifSymmetry offeredBy
 offers = refl
 

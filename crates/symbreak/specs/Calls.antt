@@ -1,7 +1,7 @@
 -- What each public call says, in document 01's numbers, and what the lent store holds afterwards. For each answer enum of the code a definition gives
 -- the numbers and the values of its cases. Assumes nothing.
 use Prim.Native.Nat.{ℕ, _+_}
-use mathlib.Core.Bool.{Bool, true, false, cond, not, _&&_}
+use mathlib.Core.Bool.{Bool, true, false, cond, _&&_}
 use mathlib.Core.List.{List}
 use lib.ListN.{length}
 use lib.Dec.{eqb, leb}
@@ -9,7 +9,8 @@ use Rattle.packed.specs.Words.{maxWords}
 use Rattle.packed.specs.Order.{allBits, firstDifference}
 use Rattle.quality.specs.Efficiency.{hasEfficiency, efficiencyOf}
 use Rattle.store.specs.Refusals.{Said, done, refused, saidRefused}
-use Rattle.store.specs.Stores.{Store, lent, wellFormed, maxRows}
+use Rattle.store.specs.Stores.{Store, lent, standingOf, maxRows}
+use Rattle.store.specs.declared.form.Standing.{Standing}
 use Rattle.store.specs.declared.record.Record.{Record}
 use Rattle.opening.specs.Clauses.{literalsIn, endsFrom}
 use Rattle.opening.specs.Opening.{bodyOf, openedBy, written}
@@ -22,6 +23,11 @@ use Rattle.symbreak.specs.declared.Figure.{Figure}
 -- a call that answers without a value
 pub data Accepted : Type 0 where
   accepted : Accepted
+
+-- what a call that needs an open store says: 20 and 21 come first
+abbrev pub onStore : {Values : Type 0} → Standing → Said Values → Said Values
+onStore Standing.Ready said = said
+onStore (Standing.Refused r) said = saidRefused r
 
 -- ---- open: 1 to 6 by place, then 23. It looks at no old store, replaces it and drops its rows; a refused opening changes nothing.
 
@@ -53,11 +59,7 @@ saidOffered Offered.Accepted = done accepted
 saidOffered (Offered.Refused r) = saidRefused r
 
 unfoldable pub offerSays : Store → List ℕ → List ℕ → Said Accepted
-offerSays s names values =
-    cond (not (s .counts .is_open)) (refused 20 0)
-    (cond (not (wellFormed s)) (refused 21 0)
-    (cond (eqb (s .counts .rows) maxRows) (refused 22 0)
-    (saidOffered (offeredBy s names values))))
+offerSays s names values = onStore (standingOf s) (cond (eqb (s .counts .rows) maxRows) (refused 22 0) (saidOffered (offeredBy s names values)))
 
 -- the store with one row more, or as it was where the offer is refused
 abbrev pub storeOffered : Said Accepted → Store → List ℕ → Store

@@ -2,6 +2,7 @@
 // anything of its caller. `exports` has them for C.
 use offering::Offered;
 use opening::Opened;
+use store::form::Standing;
 use store::record::Record;
 use store::refusal::Refusal;
 ghost use mathlib.Core.Path.{_≡_};
@@ -80,11 +81,8 @@ pub fn offer(
     ensures says { λ r. ⌜ saidOffered (r .answer) ≡ offerSays (lent counts (now (literals .entry)) (now (ends .entry)) (now (images .entry))) (now (names .entry)) (now (values .entry)) ⌝ }
     ensures leaves { λ r. ⌜ lent (r .counts) (now (literals .entry)) (now (ends .entry)) (now (images .exit)) ≡ offerStore (lent counts (now (literals .entry)) (now (ends .entry)) (now (images .entry))) (now (names .entry)) (now (values .entry)) ⌝ }
 {
-    if !counts.is_open {
-        return turned_back(Refusal::NotOpen, counts);
-    }
-    if !store::form::well_formed(counts, literals, ends, images) {
-        return turned_back(Refusal::BadlyFormed, counts);
+    if let Standing::Refused(refusal) = store::form::admit(counts, literals, ends, images) {
+        return turned_back(refusal, counts);
     }
     if counts.rows == Record::MAX_ROWS {
         return turned_back(Refusal::RowsFull, counts);

@@ -1,0 +1,22 @@
+-- `store::form::admit` meets its contract. Assumes nothing.
+use mathlib.Core.Path.{sym, _∙_}
+use borrow.Author.Tests.{not-true, not-false}
+use Rattle.store.proofs.StandingLaws.{not-open, badly-formed, ready-of}
+use borrow.Author.Needs.{needs}
+use Rattle.store.proofs.form.admit.Statement.{statement}
+use Rattle.store.proofs.form.admit.Tie as tie
+
+returns : tie.Need-returns
+returns c = sym (not-open _ (not-true _ (c .if1 .taken)))
+
+well-formed-requires : tie.Need-well-formed-requires
+well-formed-requires c κs = search needs
+
+returns-2 : tie.Need-returns-2
+returns-2 c = sym (badly-formed _ (not-false _ (c .before .before .if1 .left)) (sym (c .before .well-formed .ensures) ∙ not-true _ (c .if2 .taken)))
+
+returns-3 : tie.Need-returns-3
+returns-3 c = sym (ready-of _ (not-false _ (c .before .before .if1 .left)) (sym (c .before .well-formed .ensures) ∙ not-false _ (c .if2 .left)))
+
+pub admit-spec : {M : Type 1} → statement M
+admit-spec = tie.close (tie.spec returns well-formed-requires returns-2 returns-3)

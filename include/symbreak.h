@@ -35,6 +35,7 @@ enum symbreak_refusal {
     SYMBREAK_BAD_VALUE = 10,        /* value line: a value that is no name or repeated, or too few (place: length) */
     SYMBREAK_NO_SYMMETRY = 11,      /* no symmetry; the number, from 1, of the first clause whose image is missing */
     SYMBREAK_BAD_ASSIGNMENT = 12,   /* assignments of unequal lengths, or of more than 519 words */
+    SYMBREAK_NO_SUCH_CLAUSE = 13,   /* clause number 0 or above M */
     SYMBREAK_NO_FIGURE = 14,        /* not unlabelled <= allowed <= labelled, labelled = unlabelled, or labelled over 10^12 */
     SYMBREAK_NOT_OPEN = 20,         /* the store is not open */
     SYMBREAK_BADLY_FORMED = 21,     /* the store is badly formed */
@@ -87,6 +88,17 @@ symbreak_stored symbreak_open(uint64_t variables, uint64_t clauses, uint64_t row
 symbreak_stored symbreak_offer(uint64_t variables, uint64_t clauses, uint64_t rows, uint64_t is_open, const uint16_t *literals, size_t literals_len,
                                const uint16_t *ends, size_t ends_len, uint16_t *images, size_t images_len, const uint8_t *names, size_t names_len,
                                const uint8_t *values, size_t values_len);
+
+/* The made formula: the plain clauses, then those of each row. Header and clauses are written one line at a time, each with its line feed; the value is
+ * the line's length in bytes, and bytes past it stay. A header has at most 19 bytes; a line of L literals has at most 7 * L + 2.
+ * Refusals 20, 21, 23. */
+symbreak_answer symbreak_header(uint64_t variables, uint64_t clauses, uint64_t rows, uint64_t is_open, const uint16_t *literals, size_t literals_len,
+                                const uint16_t *ends, size_t ends_len, const uint16_t *images, size_t images_len, uint8_t *out, size_t out_len);
+
+/* Clause q, from 1 to the M of the header. Refusals 20, 21, 13, 23. */
+symbreak_answer symbreak_clause(uint64_t variables, uint64_t clauses, uint64_t rows, uint64_t is_open, const uint16_t *literals, size_t literals_len,
+                                const uint16_t *ends, size_t ends_len, const uint16_t *images, size_t images_len, uint64_t q, uint8_t *out,
+                                size_t out_len);
 
 /* Assignments are 64-bit words: variable 1 is the highest bit of the first word, 1 is true.
  * The value is the variable at which a and b first differ, or 0 where they are equal; words of any value. Refusal 12. */

@@ -26,6 +26,8 @@ EXPORTS = {
     "symbreak_new_record": (Record, []),
     "symbreak_open": (Stored, NUMBER * 4 + SLICE * 3),
     "symbreak_offer": (Stored, NUMBER * 4 + SLICE * 5),
+    "symbreak_header": (Answer, NUMBER * 4 + SLICE * 4),
+    "symbreak_clause": (Answer, NUMBER * 4 + SLICE * 3 + NUMBER + SLICE),
     "symbreak_compare": (Answer, SLICE * 2),
     "symbreak_efficiency": (Answer, NUMBER * 3),
 }
@@ -89,3 +91,15 @@ class Host:
         answer = self.library.symbreak_offer(*self._numbers(), *(part for each in slices for part in (each, len(each))))
         assert (bytes(lent[0]), bytes(lent[1])) == (names, values)
         return self._told(answer, lambda record: ("done",))
+
+    def _written(self, function, out, *before_out):
+        lent = lend(ctypes.c_uint8, out)
+        slices = [part for each in (self.literals, self.ends, self.images) for part in (each, len(each))]
+        answer = function(*self._numbers(), *slices, *before_out, lent, len(lent))
+        return said(answer), bytes(lent)
+
+    def header(self, out):
+        return self._written(self.library.symbreak_header, out)
+
+    def clause(self, q, out):
+        return self._written(self.library.symbreak_clause, out, q)

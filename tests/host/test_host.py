@@ -35,6 +35,20 @@ class Stores(unittest.TestCase):
         self.assertEqual((answer, *host.parts()), (expected, record, before[1], before[2], images), (before, names, values))
         return answer
 
+    def written(self, host, chance):
+        """The header and some clauses, into buffers that are long enough or not."""
+        before = host.parts()
+        text = b"" if reference.badly_formed(*before) or not before[0].open else reference.made_text(*before)
+        lines = text.split(b"\n")
+        for q in [None, 0, 1, len(lines) - 2, len(lines) - 1, chance.randrange(len(lines) + 1), TOP]:
+            out = bytes(chance.randrange(256) for _ in range(chance.choice([64, 64, chance.randrange(24)])))
+            if q is None:
+                answer, expected = host.header(out), reference.header(*before, out)
+            else:
+                answer, expected = host.clause(q, out), reference.clause(*before, q, out)
+            self.assertEqual(answer, expected, (before, q, out))
+            self.assertEqual(host.parts(), before)
+
     def test_new_record(self):
         record = LIBRARY.symbreak_new_record()
         self.assertEqual((record.variables, record.clauses, record.rows, bool(record.is_open)), tuple(reference.new_record()))
@@ -102,6 +116,7 @@ class Stores(unittest.TestCase):
                 if chance.random() < 0.2:
                     self.damage(chance, host)
                 self.count(answers, self.offer(host, names, values))
+            self.written(host, chance)
         for refusal in [None, 1, 2, 3, 4, 6, 7, 8, 9, 10, 11, 20, 21, 23]:
             self.assertGreater(answers.get(refusal, 0), 5, refusal)
 

@@ -10,3 +10,7 @@ pub mod Order
 pub mod Descent
 pub mod Theorems
 pub mod Examples
+pub mod Walk
+pub mod Numbers
+pub mod Table
+pub mod Left

@@ -14,7 +14,9 @@ use Rattle.opening.specs.Opening.{bodyOf, openedBy, written}
 use Rattle.opening.specs.declared.Opened.{Opened}
 use Rattle.offering.specs.Offering.{rowFor, offeredBy, imagesAfter}
 use Rattle.offering.specs.declared.Offered.{Offered}
-use Rattle.symbreak.specs.Calls.{Accepted, accepted, countsOpened, saidOpened, openSays, openStore, saidOffered, offerSays, storeOffered, offerStore}
+use Rattle.emit.specs.Emit.{bufferAfter}
+use Rattle.emit.specs.declared.Written.{Written}
+use Rattle.symbreak.specs.Calls.{Accepted, accepted, onStore, saidWritten, bufferLeft, countsOpened, saidOpened, openSays, openStore, saidOffered, offerSays, storeOffered, offerStore}
 use Rattle.symbreak.specs.Exports.{cStored, cStoredAt}
 use Rattle.symbreak.specs.declared.Offering.{Offering}
 use Rattle.symbreak.specs.declared.exports.CStored.{CStored}
@@ -65,6 +67,22 @@ module _ (s : Store) (names values : List ℕ) where
         → Leaves a (record { variables = s .counts .variables; clauses = s .counts .clauses; rows = s .counts .rows + 1; is_open = s .counts .is_open }) images
     unfolding offerStore
     accepts e = rw (images-are, said, ← is, e) (refl, refl)
+
+-- ---- header and clause
+
+-- what is left of a buffer, by what the call says
+buffer-left : (w : Written) (line out : List ℕ) → bufferLeft (saidWritten w) line out ≡ bufferAfter w line out
+buffer-left (Written.Bytes k) line out = refl
+buffer-left (Written.Refused r) line out = refl
+
+module _ (s : Store) (w : Written) (line out : List ℕ) where
+  pub unready-written : (r : Refusal) → standingOf s ≡ Standing.Refused r
+      → (saidRefused r ≡ onStore (standingOf s) (saidWritten w)) × (out ≡ bufferLeft (onStore (standingOf s) (saidWritten w)) line out)
+  unready-written r e = rw e (refl, refl)
+
+  pub ready-written : standingOf s ≡ Standing.Ready → (a : Written) (after : List ℕ) → a ≡ w → after ≡ bufferAfter a line out
+      → (saidWritten a ≡ onStore (standingOf s) (saidWritten w)) × (after ≡ bufferLeft (onStore (standingOf s) (saidWritten w)) line out)
+  ready-written e a after is left = rw (e, ← is) (refl, left ∙ sym (buffer-left a line out))
 
 -- ---- exports
 

@@ -2,8 +2,8 @@
 -- the numbers and the values of its cases. Assumes nothing.
 use Prim.Native.Nat.{ℕ, _+_}
 use mathlib.Core.Bool.{Bool, true, false, cond, _&&_}
-use mathlib.Core.List.{List}
-use lib.ListN.{length}
+use mathlib.Core.List.{List, _++_}
+use lib.ListN.{length, drop}
 use lib.Dec.{eqb, leb}
 use Rattle.packed.specs.Words.{maxWords}
 use Rattle.packed.specs.Order.{allBits, firstDifference}
@@ -17,6 +17,8 @@ use Rattle.opening.specs.Opening.{bodyOf, openedBy, written}
 use Rattle.opening.specs.declared.Opened.{Opened}
 use Rattle.offering.specs.Offering.{rowFor, offeredBy, imagesAfter}
 use Rattle.offering.specs.declared.Offered.{Offered}
+use Rattle.emit.specs.Emit.{headerOf, lineOf, headerBy, clauseBy}
+use Rattle.emit.specs.declared.Written.{Written}
 use Rattle.symbreak.specs.declared.Compared.{Compared}
 use Rattle.symbreak.specs.declared.Figure.{Figure}
 
@@ -70,6 +72,29 @@ storeOffered (refused number place) s row = s
 
 unfoldable pub offerStore : Store → List ℕ → List ℕ → Store
 offerStore s names values = storeOffered (offerSays s names values) s (rowFor s names values)
+
+-- ---- header and clause q: "each returning its byte length; bytes past it stay". 20, 21, then 13 for a clause, then 23
+
+abbrev pub saidWritten : Written → Said ℕ
+saidWritten (Written.Bytes length) = done length
+saidWritten (Written.Refused r) = saidRefused r
+
+-- the buffer afterwards: the line in front of what was past it, or as it was where the call refuses
+abbrev pub bufferLeft : Said ℕ → List ℕ → List ℕ → List ℕ
+bufferLeft (done k) line out = line ++ drop (length line) out
+bufferLeft (refused number place) line out = out
+
+unfoldable pub headerSays : Store → ℕ → Said ℕ
+headerSays s room = onStore (standingOf s) (saidWritten (headerBy s room))
+
+unfoldable pub headerLeaves : Store → List ℕ → List ℕ
+headerLeaves s out = bufferLeft (headerSays s (length out)) (headerOf s) out
+
+unfoldable pub clauseSays : Store → ℕ → ℕ → Said ℕ
+clauseSays s q room = onStore (standingOf s) (saidWritten (clauseBy s q room))
+
+unfoldable pub clauseLeaves : Store → ℕ → List ℕ → List ℕ
+clauseLeaves s q out = bufferLeft (clauseSays s q (length out)) (lineOf s q) out
 
 -- ---- compare: "one call gives that variable, or 0 when equal, and refuses unequal lengths or more than 519 words .. with 12", place 0
 

@@ -1,6 +1,7 @@
 // The calls for C (include/symbreak.h): numbers and slices in, structs of numbers out. A slice passes as a pointer and a length.
 use crate::Compared;
 use crate::Figure;
+use emit::Written;
 use offering::Offered;
 use opening::Opened;
 use store::record::Record;
@@ -8,9 +9,10 @@ use store::refusal::Refusal;
 ghost use mathlib.Core.Path.{_≡_};
 ghost use mathlib.Core.Bool.{cond};
 ghost use mathlib.Core.List.{List, []};
+ghost use lib.ListN.{length};
 ghost use Rattle.store.specs.Stores.{lent, closedRecord};
 ghost use Rattle.store.specs.Refusals.{done, saidRefused};
-ghost use Rattle.symbreak.specs.Calls.{openSays, openStore, offerSays, offerStore, compareSays, efficiencySays};
+ghost use Rattle.symbreak.specs.Calls.{openSays, openStore, offerSays, offerStore, headerSays, headerLeaves, clauseSays, clauseLeaves, compareSays, efficiencySays};
 ghost use Rattle.symbreak.specs.Exports.{recordOf, cRecord, cAnswer, cStored, cStoredAt};
 
 #[repr(C)]
@@ -91,6 +93,49 @@ pub extern "C" fn symbreak_offer(
     match answer {
         Offered::Accepted => stored(0, 0, after),
         Offered::Refused(refusal) => stored(refusal.number(), refusal.place() as u64, after),
+    }
+}
+
+#[no_mangle]
+pub extern "C" fn symbreak_header(
+    variables: u64,
+    clauses: u64,
+    rows: u64,
+    flag: u64,
+    literals: &[u16],
+    ends: &[u16],
+    images: &[u16],
+    out: &mut [u8],
+) -> CAnswer
+    ensures says { λ r. ⌜ r ≡ cAnswer (headerSays (lent (recordOf variables clauses rows flag) (now (literals .entry)) (now (ends .entry)) (now (images .entry))) (length (now (out .entry)))) ⌝ }
+    ensures leaves { λ _. ⌜ now (out .exit) ≡ headerLeaves (lent (recordOf variables clauses rows flag) (now (literals .entry)) (now (ends .entry)) (now (images .entry))) (now (out .entry)) ⌝ }
+{
+    let counts = record_of(variables, clauses, rows, flag);
+    match crate::header(counts, literals, ends, images, out) {
+        Written::Bytes(length) => answer(length as u64),
+        Written::Refused(r) => refusal(r),
+    }
+}
+
+#[no_mangle]
+pub extern "C" fn symbreak_clause(
+    variables: u64,
+    clauses: u64,
+    rows: u64,
+    flag: u64,
+    literals: &[u16],
+    ends: &[u16],
+    images: &[u16],
+    q: u64,
+    out: &mut [u8],
+) -> CAnswer
+    ensures says { λ r. ⌜ r ≡ cAnswer (clauseSays (lent (recordOf variables clauses rows flag) (now (literals .entry)) (now (ends .entry)) (now (images .entry))) q (length (now (out .entry)))) ⌝ }
+    ensures leaves { λ _. ⌜ now (out .exit) ≡ clauseLeaves (lent (recordOf variables clauses rows flag) (now (literals .entry)) (now (ends .entry)) (now (images .entry))) q (now (out .entry)) ⌝ }
+{
+    let counts = record_of(variables, clauses, rows, flag);
+    match crate::clause(counts, literals, ends, images, q as usize, out) {
+        Written::Bytes(length) => answer(length as u64),
+        Written::Refused(r) => refusal(r),
     }
 }
 

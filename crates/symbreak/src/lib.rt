@@ -1,5 +1,6 @@
 // The public calls. Each takes any bytes, any numbers and any store, and answers as document 01 says or refuses with its number; none asks
 // anything of its caller. `exports` has them for C.
+use emit::Written;
 use offering::Offered;
 use opening::Opened;
 use store::form::Standing;
@@ -7,9 +8,10 @@ use store::record::Record;
 use store::refusal::Refusal;
 ghost use mathlib.Core.Path.{_≡_};
 ghost use mathlib.Core.List.{List, []};
+ghost use lib.ListN.{length};
 ghost use Rattle.store.specs.Stores.{lent, closedRecord};
 ghost use Rattle.packed.specs.Order.{part, lesserOf};
-ghost use Rattle.symbreak.specs.Calls.{saidOpened, openSays, openStore, saidOffered, offerSays, offerStore, saidCompared, compareSays, saidFigure, efficiencySays};
+ghost use Rattle.symbreak.specs.Calls.{saidOpened, openSays, openStore, saidOffered, offerSays, offerStore, saidWritten, headerSays, headerLeaves, clauseSays, clauseLeaves, saidCompared, compareSays, saidFigure, efficiencySays};
 
 pub mod exports;
 
@@ -112,6 +114,43 @@ fn turned_back(refusal: Refusal, counts: Record) -> Offering
         answer: Offered::Refused(refusal),
         counts: counts,
     }
+}
+
+// ---- the made formula
+
+// Writes the made formula's header line.
+pub fn header(
+    counts: Record,
+    literals: &[u16],
+    ends: &[u16],
+    images: &[u16],
+    out: &mut [u8],
+) -> Written
+    ensures says { λ r. ⌜ saidWritten r ≡ headerSays (lent counts (now (literals .entry)) (now (ends .entry)) (now (images .entry))) (length (now (out .entry))) ⌝ }
+    ensures leaves { λ _. ⌜ now (out .exit) ≡ headerLeaves (lent counts (now (literals .entry)) (now (ends .entry)) (now (images .entry))) (now (out .entry)) ⌝ }
+{
+    if let Standing::Refused(refusal) = store::form::admit(counts, literals, ends, images) {
+        return Written::Refused(refusal);
+    }
+    emit::header(counts, literals, ends, images, out)
+}
+
+// Writes the line of the made formula's clause q, from 1.
+pub fn clause(
+    counts: Record,
+    literals: &[u16],
+    ends: &[u16],
+    images: &[u16],
+    q: usize,
+    out: &mut [u8],
+) -> Written
+    ensures says { λ r. ⌜ saidWritten r ≡ clauseSays (lent counts (now (literals .entry)) (now (ends .entry)) (now (images .entry))) q (length (now (out .entry))) ⌝ }
+    ensures leaves { λ _. ⌜ now (out .exit) ≡ clauseLeaves (lent counts (now (literals .entry)) (now (ends .entry)) (now (images .entry))) q (now (out .entry)) ⌝ }
+{
+    if let Standing::Refused(refusal) = store::form::admit(counts, literals, ends, images) {
+        return Written::Refused(refusal);
+    }
+    emit::clause(counts, literals, ends, images, q, out)
 }
 
 // ---- assignments

@@ -1,0 +1,4 @@
+pub mod MadeLaws
+pub mod Ranges
+pub mod WrittenLaws
+pub mod Text

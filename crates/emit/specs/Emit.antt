@@ -1,0 +1,55 @@
+-- The made formula of a store, and its text (document 01, "Made formula"). Assumes nothing.
+use Prim.Native.Nat.{ℕ, _-_}
+use mathlib.Core.Bool.{cond}
+use mathlib.Core.List.{List, [], _∷_, _++_}
+use lib.ListN.{length, getD, drop}
+use lib.Dec.{eqb, leb, ltb}
+use Rattle.store.specs.Stores.{Store, plainOf, heldRows}
+use Rattle.store.specs.declared.refusal.Refusal.{Refusal}
+use Rattle.lexleader.specs.Made.{made, madeVariables}
+use Rattle.render.specs.Text.{clauseLine, headerLine}
+use Rattle.emit.specs.declared.Written.{Written}
+
+-- the made formula, N and M
+unfoldable pub madeOf : Store → List (List ℕ)
+madeOf s = made (s .counts .variables) (plainOf s) (heldRows s)
+
+unfoldable pub variablesOf : Store → ℕ
+variablesOf s = madeVariables (s .counts .variables) (heldRows s)
+
+unfoldable pub clausesOf : Store → ℕ
+clausesOf s = length (madeOf s)
+
+-- the header line, and the line of clause q, from 1
+unfoldable pub headerOf : Store → List ℕ
+headerOf s = headerLine (variablesOf s) (clausesOf s)
+
+unfoldable pub lineOf : Store → ℕ → List ℕ
+lineOf s q = clauseLine (getD (madeOf s) (q - 1) [])
+
+-- the whole text: "the plain formula followed by the documented clauses"
+unfoldable pub linesOf : List (List ℕ) → List ℕ
+linesOf [] = []
+linesOf (clause ∷ clauses) = clauseLine clause ++ linesOf clauses
+
+unfoldable pub textOf : Store → List ℕ
+textOf s = headerOf s ++ linesOf (madeOf s)
+
+-- 23: "an output slice too short (place: the length needed)"
+unfoldable pub writtenIf : List ℕ → ℕ → Written
+writtenIf line room = cond (leb (length line) room) (Written.Bytes (length line)) (Written.Refused (Refusal.TooShort (length line)))
+
+-- the header, and clause q: 13, "clause number 0 or above M", before 23
+unfoldable pub headerBy : Store → ℕ → Written
+headerBy s room = writtenIf (headerOf s) room
+
+unfoldable pub clauseBy : Store → ℕ → ℕ → Written
+clauseBy s q room =
+    cond (eqb q 0) (Written.Refused Refusal.NoSuchClause)
+    (cond (ltb (clausesOf s) q) (Written.Refused Refusal.NoSuchClause)
+    (writtenIf (lineOf s q) room))
+
+-- the buffer afterwards: the line in front, and the bytes past it as they were
+abbrev pub bufferAfter : Written → List ℕ → List ℕ → List ℕ
+bufferAfter (Written.Bytes k) line out = line ++ drop (length line) out
+bufferAfter (Written.Refused r) line out = out

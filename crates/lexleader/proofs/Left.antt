@@ -1,0 +1,177 @@
+-- A loop over the rows: what is left is row r and those after it, and what that means for the counts and for the clause looked for. Assumes nothing.
+use mathlib.Core.Path.{_≡_, ap, subst, _∙_}
+use mathlib.Core.Bool.{true}
+use mathlib.Core.Logic.{_⊎_, inl, inr}
+use mathlib.Core.List.{List, [], _∷_, _++_}
+use Prim.Native.Nat.{ℕ, _+_, _-_, _*_, _≤_, _<_}
+use native.Mathlib.Nat.{mul-le-mul-right}
+use native.Mathlib.Omega.{arith}
+use lib.ListN.{length, getD, take, drop, length-append, length-drop, List·getD-append}
+use lib.Seq.{getD-append-add, length-take-le}
+use Rattle.lists.specs.Tests.{allOf}
+use Rattle.lists.proofs.Cases.{and-l, and-r, lt-or-le}
+use Rattle.store.specs.Stores.{isRow, rowsOf}
+use Rattle.store.proofs.FormLaws.{rows-step}
+use Rattle.store.proofs.Formed.{rowAt}
+use Rattle.lexleader.specs.Made.{rowClauses, auxiliaries, rowsClauses, allAuxiliaries}
+use Rattle.lexleader.proofs.Walk.{pairs-length}
+use Rattle.lexleader.proofs.Numbers.{row-most, rows-length}
+
+auxiliaries-most : (row : List ℕ) → auxiliaries row ≤ length row
+unfolding auxiliaries
+auxiliaries-most row = omega (arith, pairs-length row)
+
+clauses-most : (e : ℕ) (row : List ℕ) → length (rowClauses e row) ≤ 6 * length row
+clauses-most e row = omega (arith, pairs-length row, row-most e row)
+
+-- `&images[at..to]` is row r, where at is r·n and to is n more
+pub part-is : (n r : ℕ) (images : List ℕ) → take (r * n + n - r * n) (drop (r * n) images) ≡ rowAt n r images
+part-is n r images =
+    let size : r * n + n - r * n ≡ n = omega arith in
+    rw size
+
+-- x auxiliaries and y clauses are what a row adds
+abbrev pub Adds : ℕ → ℕ → List ℕ → Type 0
+Adds x y row = (x ≡ auxiliaries row) × ((e : ℕ) → y ≡ length (rowClauses e row))
+
+pub part-adds : (n r : ℕ) (images : List ℕ) (x y : ℕ) → Adds x y (take (r * n + n - r * n) (drop (r * n) images)) → Adds x y (rowAt n r images)
+part-adds n r images x y h = subst (Adds x y) (part-is n r images) h
+
+module _ (n rows : ℕ) (images : List ℕ) where
+  -- row r and those after it
+  abbrev left : ℕ → List (List ℕ)
+  left r = rowsOf n (rows - r) (drop (r * n) images)
+
+  left-all : left 0 ≡ rowsOf n rows images
+  left-all =
+      let all : rows - 0 ≡ rows = omega arith in
+      let none : 0 * n ≡ 0 = omega arith in
+      rw (all, none)
+
+  left-step : (r : ℕ) → r < rows → left r ≡ rowAt n r images ∷ left (r + 1)
+  left-step r h =
+      let on : r * n + n ≡ (r + 1) * n = omega arith in
+      rows-step n rows r (r * n) images h ∙ rw on
+
+  left-end : (r : ℕ) → rows ≤ r → left r ≡ []
+  unfolding rowsOf
+  left-end r h =
+      let none : rows - r ≡ 0 = omega arith in
+      rw none
+
+  module _ (fits : rows * n ≤ length images) (r : ℕ) (h : r < rows) where
+    pub room : r * n + n ≤ length images
+    room = let more : r + 1 ≤ rows = omega arith in omega (arith, mul-le-mul-right n more)
+
+    pub row-size : length (rowAt n r images) ≡ n
+    row-size = length-take-le n (drop (r * n) images) (omega (arith, room, length-drop (r * n) images))
+
+  -- The sums at row r: a auxiliaries and k clauses so far.
+  pub record Summed (a k r : ℕ) : Type 0 where
+    pub upto : r ≤ rows
+    pub few-auxiliaries : a ≤ 512 * r
+    pub few-clauses : k ≤ 3072 * r
+    pub all-auxiliaries : allAuxiliaries (rowsOf n rows images) ≡ a + allAuxiliaries (left r)
+    pub all-clauses : length (rowsClauses 0 (rowsOf n rows images)) ≡ k + length (rowsClauses 0 (left r))
+
+  pub summed-none : Summed 0 0 0
+  summed-none = record {
+    upto = omega arith;
+    few-auxiliaries = omega arith;
+    few-clauses = omega arith;
+    all-auxiliaries = omega (arith, ap allAuxiliaries left-all);
+    all-clauses = omega (arith, ap (λ (l : List (List ℕ)). length (rowsClauses 0 l)) left-all);
+  }
+
+  pub summed-more : {a k r x y : ℕ} → Summed a k r → r < rows → n ≤ 512 → rows * n ≤ length images
+      → Adds x y (rowAt n r images) → Summed (a + x) (k + y) (r + 1)
+  unfolding allAuxiliaries rowsClauses
+  summed-more {a} {k} {r} {x} {y} s h small fits (ax, ky) =
+      let row : List ℕ = rowAt n r images in
+      let rest : List (List ℕ) = left (r + 1) in
+      let size = row-size fits r h in
+      record {
+        upto = omega arith;
+        few-auxiliaries = omega (arith, s .few-auxiliaries, auxiliaries-most row);
+        few-clauses = omega (arith, s .few-clauses, ky 0, clauses-most 0 row);
+        all-auxiliaries = omega (arith, s .all-auxiliaries, ap allAuxiliaries (left-step r h));
+        all-clauses =
+            omega (
+              arith,
+              s .all-clauses,
+              ap (λ (l : List (List ℕ)). length (rowsClauses 0 l)) (left-step r h),
+              length-append (rowClauses 0 row) (rowsClauses (0 + auxiliaries row) rest),
+              rows-length (0 + auxiliaries row) 0 rest,
+              ky 0,
+            );
+      }
+
+  pub summed-all : {a k r : ℕ} → Summed a k r → rows ≤ r
+      → (a ≡ allAuxiliaries (rowsOf n rows images)) × ((e : ℕ) → k ≡ length (rowsClauses e (rowsOf n rows images)))
+  unfolding allAuxiliaries rowsClauses
+  summed-all {a} {k} {r} s h = (
+    omega (arith, s .all-auxiliaries, ap allAuxiliaries (left-end r h)),
+    λ e. omega (arith, s .all-clauses, ap (λ (l : List (List ℕ)). length (rowsClauses 0 l)) (left-end r h), rows-length 0 e (rowsOf n rows images)),
+  )
+
+  -- The search for clause q at row r, whose first auxiliary is e: it is clause k of what is left.
+  pub record Sought (q e k r : ℕ) : Type 0 where
+    pub low : e ≤ 513 + 512 * r
+    pub good : allOf (isRow n) (left r) ≡ true
+    pub inside : k < length (rowsClauses e (left r))
+    pub same : getD (rowsClauses (n + 1) (rowsOf n rows images)) q [] ≡ getD (rowsClauses e (left r)) k []
+
+  module _ (q : ℕ) where
+    pub sought-first : n ≤ 512 → allOf (isRow n) (rowsOf n rows images) ≡ true → q < length (rowsClauses (n + 1) (rowsOf n rows images)) → Sought q (n + 1) q 0
+    sought-first small good inside = record {
+      low = omega arith;
+      good = rw left-all good;
+      inside = rw left-all inside;
+      same = rw left-all;
+    }
+
+    module _ (e k r : ℕ) (s : Sought q e k r) where
+      pub sought-within : r < rows
+      unfolding rowsClauses
+      sought-within = go (lt-or-le r rows)
+        where
+          go : (r < rows) ⊎ (rows ≤ r) → r < rows
+          go (inl h) = h
+          go (inr h) = absurd (omega (arith, s .inside, ap (λ (l : List (List ℕ)). length (rowsClauses e l)) (left-end r h)))
+
+      both : allOf (isRow n) (rowAt n r images ∷ left (r + 1)) ≡ true
+      both = rw (left-step r sought-within) at (s .good)
+
+      pub sought-row : isRow n (rowAt n r images) ≡ true
+      unfolding allOf
+      sought-row = and-l (isRow n (rowAt n r images)) (allOf (isRow n) (left (r + 1))) both
+
+      apart : rowsClauses e (left r) ≡ rowClauses e (rowAt n r images) ++ rowsClauses (e + auxiliaries (rowAt n r images)) (left (r + 1))
+      unfolding rowsClauses
+      apart = ap (rowsClauses e) (left-step r sought-within)
+
+      pub sought-here : k < length (rowClauses e (rowAt n r images))
+          → getD (rowsClauses (n + 1) (rowsOf n rows images)) q [] ≡ getD (rowClauses e (rowAt n r images)) k []
+      sought-here h =
+          s .same
+          ∙ ap (λ (l : List (List ℕ)). getD l k []) apart
+          ∙ List·getD-append (rowClauses e (rowAt n r images)) (rowsClauses (e + auxiliaries (rowAt n r images)) (left (r + 1))) [] k h
+
+      pub sought-later : {x y : ℕ} → n ≤ 512 → rows * n ≤ length images → Adds x y (rowAt n r images) → y ≤ k → Sought q (e + x) (k - y) (r + 1)
+      unfolding allOf
+      sought-later {x} {y} small fits (ax, count) h =
+          let ky : y ≡ length (rowClauses e (rowAt n r images)) = count e in
+          let row : List ℕ = rowAt n r images in
+          let rest : List (List ℕ) = rowsClauses (e + x) (left (r + 1)) in
+          let cut : rowsClauses e (left r) ≡ rowClauses e row ++ rest = rw ax apart in
+          let number : k ≡ length (rowClauses e row) + (k - y) = omega arith in
+          record {
+            low = omega (arith, s .low, auxiliaries-most row, row-size fits r sought-within);
+            good = and-r (isRow n row) (allOf (isRow n) (left (r + 1))) both;
+            inside = omega (arith, s .inside, ap length cut, length-append (rowClauses e row) rest);
+            same =
+                s .same
+                ∙ ap (λ (l : List (List ℕ)). getD l k []) cut
+                ∙ ap (λ (i : ℕ). getD (rowClauses e row ++ rest) i []) number
+                ∙ getD-append-add (rowClauses e row) rest (k - y) [];
+          }

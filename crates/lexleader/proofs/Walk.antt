@@ -1,0 +1,63 @@
+-- A walk along a row: what one step finds, and that a row moves no more variables than it has. Assumes nothing.
+use mathlib.Core.Path.{_≡_, refl, sym, ap, _∙_}
+use mathlib.Core.Bool.{Bool, true, false, cond}
+use mathlib.Core.Logic.{_⊎_, inl, inr}
+use mathlib.Core.List.{List, [], _∷_}
+use Prim.Native.Nat.{ℕ, _+_, _-_, _*_, _≤_, _<_}
+use native.Mathlib.Omega.{arith}
+use borrow.Author.Tests.{eq-eqb, ne-eqb}
+use lib.Dec.{eqb}
+use lib.ListN.{length, getD, drop, drop-of-length-le, length-drop}
+use lib.Seq.{drop-drop}
+use Rattle.lists.proofs.Cases.{lt-or-le}
+use Rattle.lists.proofs.Steps.{drop-step}
+use Rattle.lexleader.specs.Rows.{Pair, pairsFrom, pairsOf}
+use Rattle.lexleader.specs.Clause.{pairAt, pairsAt, Next}
+
+pub pairs-start : (row : List ℕ) → pairsOf row ≡ pairsAt 0 row
+unfolding pairsOf pairsAt
+pairs-start row = refl
+
+module _ (row : List ℕ) (i : ℕ) where
+  pub walk-past : i < length row → getD row i 0 ≡ 2 * (i + 1) → pairsAt i row ≡ pairsAt (i + 1) row
+  unfolding pairsAt pairsFrom
+  walk-past h e = rw (drop-step row i 0 h, eq-eqb (getD row i 0) (2 * (i + 1)) e)
+
+  pub walk-moved : i < length row → (getD row i 0 ≡ 2 * (i + 1) → ⊥) → pairsAt i row ≡ pairAt row i ∷ pairsAt (i + 1) row
+  unfolding pairsAt pairsFrom
+  walk-moved h e = rw (drop-step row i 0 h, ne-eqb (getD row i 0) (2 * (i + 1)) e)
+
+  pub walk-end : length row ≤ i → pairsAt i row ≡ []
+  unfolding pairsAt pairsFrom
+  walk-end h = rw (drop-of-length-le row {i = i} h)
+
+from-length : (i : ℕ) (row : List ℕ) → length (pairsFrom i row) ≤ length row
+unfolding pairsFrom
+from-length i [] = omega arith
+from-length i (y ∷ row) = go (eqb y (2 * i)) (from-length (i + 1) row)
+  where
+    go : (b : Bool) → length (pairsFrom (i + 1) row) ≤ length row
+        → length (cond b (pairsFrom (i + 1) row) (record { x = 2 * i; y = y } ∷ pairsFrom (i + 1) row)) ≤ length (y ∷ row)
+    go true h = omega arith
+    go false h = omega arith
+
+pub pairs-length : (row : List ℕ) → length (pairsOf row) ≤ length row
+unfolding pairsOf
+pairs-length row = from-length 1 row
+
+-- where the pairs from number k on, from 0, are those at or after an index, the next moved variable is that of pair k
+pub next-found : (row : List ℕ) (k from r : ℕ) → Next row from r → drop k (pairsOf row) ≡ pairsAt from row → k < length (pairsOf row)
+    → (r < length row) × (drop k (pairsOf row) ≡ pairAt row r ∷ pairsAt (r + 1) row)
+next-found row k from r n e h = go (lt-or-le r (length row))
+  where
+    go : (r < length row) ⊎ (length row ≤ r) → (r < length row) × (drop k (pairsOf row) ≡ pairAt row r ∷ pairsAt (r + 1) row)
+    go (inl l) = (l, e ∙ n .same ∙ n .here l)
+    go (inr l) = absurd (omega (arith, length-drop k (pairsOf row), ap length (e ∙ n .same ∙ walk-end row r l)))
+
+-- the pairs after the first of those from number k on
+pub rest-found : (pairs : List Pair) (k : ℕ) (a : Pair) (rest : List Pair) → drop k pairs ≡ a ∷ rest → drop (k + 1) pairs ≡ rest
+rest-found pairs k a rest e = sym (drop-drop 1 k pairs) ∙ ap (drop 1) e
+
+-- the index found is the first at or after itself
+pub stays : {row : List ℕ} {from r : ℕ} → Next row from r → Next row r r
+stays n = record { within = n .within; onward = omega arith; same = refl; here = n .here }

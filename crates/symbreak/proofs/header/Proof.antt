@@ -1,0 +1,54 @@
+-- `symbreak::header` meets its contract: 20 and 21 are tried, and then the line is written. Assumes nothing.
+use mathlib.Core.Path.{_≡_, sym, _∙_}
+use mathlib.Core.Bool.{true}
+use lib.ListN.{length}
+use Rattle.store.specs.Stores.{Store, lent, wellFormed, standingOf}
+use Rattle.store.specs.declared.form.Standing.{Standing}
+use Rattle.store.proofs.StandingLaws.{ready}
+use Rattle.emit.specs.Emit.{headerOf, headerBy}
+use Rattle.symbreak.specs.Calls.{headerSays, headerLeaves}
+use Rattle.symbreak.proofs.CallLaws.{unready-written, ready-written}
+use borrow.Author.Needs.{needs}
+use Rattle.symbreak.proofs.header.Statement.{statement}
+use Rattle.symbreak.proofs.header.Tie as tie
+
+abbrev S : tie.Start → Store
+S c = lent (c .args .counts) (c .args .literals .now) (c .args .ends .now) (c .args .images .now)
+
+admitted : (c : tie.After-enum-told) → standingOf (S (c .before .before .before .before .before .before .before)) ≡ Standing.Ready
+admitted c = sym (c .before .before .admit .ensures) ∙ c .enum-told .given .1
+
+admit-requires : tie.Need-admit-requires
+admit-requires c κs = search needs
+
+enum-known-refusal : tie.Need-enum-known-refusal
+enum-known-refusal c = search needs
+
+returns : tie.Need-returns
+unfolding headerSays headerLeaves
+returns c = let s = c .before .before .before .before .before .before .before .before in unready-written (S s) (headerBy (S s) (length (s .args .out .now))) (headerOf (S s)) (s .args .out .now) _ (sym (c .before .before .before .admit .ensures) ∙ c .before .refusal .given .1)
+
+enum-told : tie.Need-enum-told
+enum-told c = search needs
+
+header-requires : tie.Need-header-requires
+header-requires c κs = ready (S (c .before .before .before .before .before .before .before .before)) (admitted (c .before)) .1
+
+same-length : tie.Need-same-length
+same-length c = search needs
+
+returns-2 : tie.Need-returns-2
+unfolding headerSays headerLeaves
+returns-2 c = let s = c .before .before .before .before .before .before .before .before .before .before .before in let w = c .before .before in ready-written (S s) (headerBy (S s) (length (s .args .out .now))) (headerOf (S s)) (s .args .out .now) (admitted (c .before .before .before .before)) (w .header .result) (w .header .last .1 .1 .1 .1 .0) (w .header .ensures .0) (w .header .ensures .1)
+
+pub header-spec : {M : Type 1} → statement M
+header-spec =
+    tie.close
+    (tie.spec
+    admit-requires
+    enum-known-refusal
+    returns
+    enum-told
+    header-requires
+    same-length
+    returns-2)

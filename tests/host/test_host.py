@@ -35,7 +35,7 @@ class Stores(unittest.TestCase):
         self.assertEqual((answer, *host.parts()), (expected, record, before[1], before[2], images), (before, names, values))
         return answer
 
-    def written(self, host, chance):
+    def written(self, host, chance, answers):
         """The header and some clauses, into buffers that are long enough or not."""
         before = host.parts()
         text = b"" if reference.badly_formed(*before) or not before[0].open else reference.made_text(*before)
@@ -48,6 +48,7 @@ class Stores(unittest.TestCase):
                 answer, expected = host.clause(q, out), reference.clause(*before, q, out)
             self.assertEqual(answer, expected, (before, q, out))
             self.assertEqual(host.parts(), before)
+            self.count(answers, answer[0])
 
     def test_new_record(self):
         record = LIBRARY.symbreak_new_record()
@@ -96,7 +97,7 @@ class Stores(unittest.TestCase):
 
     def test_random(self):
         chance = random.Random(4)
-        answers = {}
+        answers, lines = {}, {}
         for _ in range(2500):
             n = chance.choice([0, 1, 2, 3, 4, 5, 6, 9])
             clauses, rows = generate.formula(chance, n, 12)
@@ -116,9 +117,11 @@ class Stores(unittest.TestCase):
                 if chance.random() < 0.2:
                     self.damage(chance, host)
                 self.count(answers, self.offer(host, names, values))
-            self.written(host, chance)
+            self.written(host, chance, lines)
         for refusal in [None, 1, 2, 3, 4, 6, 7, 8, 9, 10, 11, 20, 21, 23]:
             self.assertGreater(answers.get(refusal, 0), 5, refusal)
+        for refusal in [None, 13, 20, 21, 23]:
+            self.assertGreater(lines.get(refusal, 0), 5, refusal)
 
     def count(self, answers, answer):
         number = answer[1] if answer[0] == "refused" else None

@@ -38,7 +38,7 @@ module _ (s : Store) (formed : wellFormed s ≡ true) where
   ends-length : length used-ends ≡ s .counts .clauses
   ends-length = length-take-le (s .counts .clauses) (s .ends) (rest-of s formed .ends-long)
 
-  plain-length : length (plainOf s) ≡ s .counts .clauses
+  pub plain-length : length (plainOf s) ≡ s .counts .clauses
   unfolding plainOf
   plain-length = length-cut 0 (s .literals) used-ends ∙ ends-length
 
@@ -57,15 +57,19 @@ module _ (s : Store) (formed : wellFormed s ≡ true) where
       let last : suc i - 1 ≡ i = omega arith in
       getD-take (s .counts .clauses) (s .ends) i 0 (omega arith) ∙ ap (λ (k : ℕ). getD (s .ends) k 0) (sym last) ∙ sym (count-last (suc i) (s .ends) (λ e. omega arith))
 
-  pub made-plain : (q : ℕ) → 1 ≤ q → q ≤ s .counts .clauses → getD (madeOf s) (q - 1) [] ≡ slice (literalCount (q - 1) (s .ends)) (literalCount q (s .ends)) (s .literals)
-  unfolding madeOf made plainOf
-  made-plain q low high =
+  -- a plain clause's literals
+  pub plain-at : (q : ℕ) → 1 ≤ q → q ≤ s .counts .clauses → getD (plainOf s) (q - 1) [] ≡ slice (literalCount (q - 1) (s .ends)) (literalCount q (s .ends)) (s .literals)
+  unfolding plainOf
+  plain-at q low high =
       let inside : q - 1 < length used-ends = omega (arith, ends-length) in
-      List·getD-append (plainOf s) addedOf [] (q - 1) (omega (arith, plain-length))
-      ∙ cut-at 0 (s .literals) used-ends (q - 1) inside
+      cut-at 0 (s .literals) used-ends (q - 1) inside
       ∙ ap (λ (a : ℕ). slice a (getD used-ends (q - 1) 0) (s .literals)) (start-is (q - 1) (omega arith))
       ∙ ap (λ (b : ℕ). slice (literalCount (q - 1) (s .ends)) b (s .literals))
       (getD-take (s .counts .clauses) (s .ends) (q - 1) 0 (omega arith) ∙ sym (count-last q (s .ends) (λ e. omega arith)))
+
+  pub made-plain : (q : ℕ) → 1 ≤ q → q ≤ s .counts .clauses → getD (madeOf s) (q - 1) [] ≡ slice (literalCount (q - 1) (s .ends)) (literalCount q (s .ends)) (s .literals)
+  unfolding madeOf made
+  made-plain q low high = List·getD-append (plainOf s) addedOf [] (q - 1) (omega (arith, plain-length)) ∙ plain-at q low high
 
   pub made-added : (q : ℕ) → s .counts .clauses < q → getD (madeOf s) (q - 1) [] ≡ getD addedOf (q - s .counts .clauses - 1) []
   unfolding madeOf made

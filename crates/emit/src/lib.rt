@@ -45,8 +45,8 @@ pub fn header(
     ensures buffer { λ r. ⌜ now (out .exit) ≡ bufferAfter r (headerOf (lent counts (now (literals .entry)) (now (ends .entry)) (now (images .entry)))) (now (out .entry)) ⌝ }
 {
     let total = totals_of(counts, literals, ends, images);
-    let variables = total.variables as u32;
-    let clauses = total.clauses as u32;
+    let variables = total.variables as u64;
+    let clauses = total.clauses as u64;
     let needed = render::header_length(variables, clauses);
     if out.len() < needed {
         return Written::Refused(Refusal::TooShort(needed));

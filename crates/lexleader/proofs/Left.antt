@@ -1,6 +1,5 @@
 -- A loop over the rows: what is left is row r and those after it, and what that means for the counts and for the clause looked for. Assumes nothing.
 use mathlib.Core.Path.{_≡_, ap, subst, _∙_}
-use mathlib.Core.Bool.{true}
 use mathlib.Core.Logic.{_⊎_, inl, inr}
 use mathlib.Core.List.{List, [], _∷_, _++_}
 use Prim.Native.Nat.{ℕ, _+_, _-_, _*_, _≤_, _<_}
@@ -8,16 +7,15 @@ use native.Mathlib.Nat.{mul-le-mul-right}
 use native.Mathlib.Omega.{arith}
 use lib.ListN.{length, getD, take, drop, length-append, length-drop, List·getD-append}
 use lib.Seq.{getD-append-add, length-take-le}
-use Rattle.lists.specs.Tests.{allOf}
-use Rattle.lists.proofs.Cases.{and-l, and-r, lt-or-le}
-use Rattle.store.specs.Stores.{isRow, rowsOf}
+use Rattle.lists.proofs.Cases.{lt-or-le}
+use Rattle.store.specs.Stores.{rowsOf}
 use Rattle.store.proofs.FormLaws.{rows-step}
 use Rattle.store.proofs.Formed.{rowAt}
 use Rattle.lexleader.specs.Made.{rowClauses, auxiliaries, rowsClauses, allAuxiliaries}
 use Rattle.lexleader.proofs.Walk.{pairs-length}
 use Rattle.lexleader.proofs.Numbers.{row-most, rows-length}
 
-auxiliaries-most : (row : List ℕ) → auxiliaries row ≤ length row
+pub auxiliaries-most : (row : List ℕ) → auxiliaries row ≤ length row
 unfolding auxiliaries
 auxiliaries-most row = omega (arith, pairs-length row)
 
@@ -39,21 +37,21 @@ part-adds n r images x y h = subst (Adds x y) (part-is n r images) h
 
 module _ (n rows : ℕ) (images : List ℕ) where
   -- row r and those after it
-  abbrev left : ℕ → List (List ℕ)
+  abbrev pub left : ℕ → List (List ℕ)
   left r = rowsOf n (rows - r) (drop (r * n) images)
 
-  left-all : left 0 ≡ rowsOf n rows images
+  pub left-all : left 0 ≡ rowsOf n rows images
   left-all =
       let all : rows - 0 ≡ rows = omega arith in
       let none : 0 * n ≡ 0 = omega arith in
       rw (all, none)
 
-  left-step : (r : ℕ) → r < rows → left r ≡ rowAt n r images ∷ left (r + 1)
+  pub left-step : (r : ℕ) → r < rows → left r ≡ rowAt n r images ∷ left (r + 1)
   left-step r h =
       let on : r * n + n ≡ (r + 1) * n = omega arith in
       rows-step n rows r (r * n) images h ∙ rw on
 
-  left-end : (r : ℕ) → rows ≤ r → left r ≡ []
+  pub left-end : (r : ℕ) → rows ≤ r → left r ≡ []
   unfolding rowsOf
   left-end r h =
       let none : rows - r ≡ 0 = omega arith in
@@ -117,15 +115,13 @@ module _ (n rows : ℕ) (images : List ℕ) where
   -- The search for clause q at row r, whose first auxiliary is e: it is clause k of what is left.
   pub record Sought (q e k r : ℕ) : Type 0 where
     pub low : e ≤ 513 + 512 * r
-    pub good : allOf (isRow n) (left r) ≡ true
     pub inside : k < length (rowsClauses e (left r))
     pub same : getD (rowsClauses (n + 1) (rowsOf n rows images)) q [] ≡ getD (rowsClauses e (left r)) k []
 
   module _ (q : ℕ) where
-    pub sought-first : n ≤ 512 → allOf (isRow n) (rowsOf n rows images) ≡ true → q < length (rowsClauses (n + 1) (rowsOf n rows images)) → Sought q (n + 1) q 0
-    sought-first small good inside = record {
+    pub sought-first : n ≤ 512 → q < length (rowsClauses (n + 1) (rowsOf n rows images)) → Sought q (n + 1) q 0
+    sought-first small inside = record {
       low = omega arith;
-      good = rw left-all good;
       inside = rw left-all inside;
       same = rw left-all;
     }
@@ -139,13 +135,6 @@ module _ (n rows : ℕ) (images : List ℕ) where
           go (inl h) = h
           go (inr h) = absurd (omega (arith, s .inside, ap (λ (l : List (List ℕ)). length (rowsClauses e l)) (left-end r h)))
 
-      both : allOf (isRow n) (rowAt n r images ∷ left (r + 1)) ≡ true
-      both = rw (left-step r sought-within) at (s .good)
-
-      pub sought-row : isRow n (rowAt n r images) ≡ true
-      unfolding allOf
-      sought-row = and-l (isRow n (rowAt n r images)) (allOf (isRow n) (left (r + 1))) both
-
       apart : rowsClauses e (left r) ≡ rowClauses e (rowAt n r images) ++ rowsClauses (e + auxiliaries (rowAt n r images)) (left (r + 1))
       unfolding rowsClauses
       apart = ap (rowsClauses e) (left-step r sought-within)
@@ -158,7 +147,6 @@ module _ (n rows : ℕ) (images : List ℕ) where
           ∙ List·getD-append (rowClauses e (rowAt n r images)) (rowsClauses (e + auxiliaries (rowAt n r images)) (left (r + 1))) [] k h
 
       pub sought-later : {x y : ℕ} → n ≤ 512 → rows * n ≤ length images → Adds x y (rowAt n r images) → y ≤ k → Sought q (e + x) (k - y) (r + 1)
-      unfolding allOf
       sought-later {x} {y} small fits (ax, count) h =
           let ky : y ≡ length (rowClauses e (rowAt n r images)) = count e in
           let row : List ℕ = rowAt n r images in
@@ -167,7 +155,6 @@ module _ (n rows : ℕ) (images : List ℕ) where
           let number : k ≡ length (rowClauses e row) + (k - y) = omega arith in
           record {
             low = omega (arith, s .low, auxiliaries-most row, row-size fits r sought-within);
-            good = and-r (isRow n row) (allOf (isRow n) (left (r + 1))) both;
             inside = omega (arith, s .inside, ap length cut, length-append (rowClauses e row) rest);
             same =
                 s .same

@@ -12,5 +12,6 @@ pub mod Theorems
 pub mod Examples
 pub mod Walk
 pub mod Numbers
+pub mod Places
 pub mod Table
 pub mod Left

@@ -47,11 +47,11 @@ pairs-length row = from-length 1 row
 
 -- where the pairs from number k on, from 0, are those at or after an index, the next moved variable is that of pair k
 pub next-found : (row : List ℕ) (k from r : ℕ) → Next row from r → drop k (pairsOf row) ≡ pairsAt from row → k < length (pairsOf row)
-    → (r < length row) × (drop k (pairsOf row) ≡ pairAt row r ∷ pairsAt (r + 1) row)
+    → (r < length row) × (drop k (pairsOf row) ≡ pairsAt r row) × (pairsAt r row ≡ pairAt row r ∷ pairsAt (r + 1) row)
 next-found row k from r n e h = go (lt-or-le r (length row))
   where
-    go : (r < length row) ⊎ (length row ≤ r) → (r < length row) × (drop k (pairsOf row) ≡ pairAt row r ∷ pairsAt (r + 1) row)
-    go (inl l) = (l, e ∙ n .same ∙ n .here l)
+    go : (r < length row) ⊎ (length row ≤ r) → (r < length row) × (drop k (pairsOf row) ≡ pairsAt r row) × (pairsAt r row ≡ pairAt row r ∷ pairsAt (r + 1) row)
+    go (inl l) = (l, e ∙ n .same, n .here l)
     go (inr l) = absurd (omega (arith, length-drop k (pairsOf row), ap length (e ∙ n .same ∙ walk-end row r l)))
 
 -- the pairs after the first of those from number k on

@@ -2,5 +2,6 @@ pub mod Models
 pub mod Rows
 pub mod Made
 pub mod Clause
+pub mod Places
 pub mod Kept
 pub mod Descent

@@ -2,21 +2,31 @@
 // 000, section 2). The code says what rows add, and finds the literals of one clause of that by its number: a row's moved variables are found by
 // walking it, and a table chooses the literals.
 ghost use mathlib.Core.Path.{_≡_};
-ghost use mathlib.Core.Bool.{true};
+ghost use mathlib.Core.Bool.{true, false};
 ghost use mathlib.Core.List.{_∷_, []};
 ghost use Prim.Native.Nat.{ℕ, _+_, _-_, _*_, _≤_, _<_};
 ghost use lib.ListN.{length, getD, drop};
-ghost use Rattle.lists.specs.Tests.{allOf};
 ghost use Rattle.store.specs.Literals.{oppositeOf};
-ghost use Rattle.store.specs.Stores.{isRow, rowsOf};
+ghost use Rattle.store.specs.Stores.{rowsOf};
 ghost use Rattle.lexleader.specs.Rows.{pairsOf};
 ghost use Rattle.lexleader.specs.Made.{rowClauses, auxiliaries, rowsClauses, allAuxiliaries};
 ghost use Rattle.lexleader.specs.Clause.{Holds, tableOf, pairAt, pairsAt, Next};
+ghost use Rattle.lexleader.specs.Places.{clausesOn, clausesAt, auxiliaryAfter, pastLast, Stands};
 
 // A clause that a row adds: at most four literals, as codes.
 pub struct Clause {
     pub count: usize,
     pub literals: [u32; 4],
+}
+
+// A place among the clauses that a row adds: clause r of an auxiliary, the indices of its pair's variable and of the next one, and whether it is the row's
+// first auxiliary. Past the last clause the index is the row's length and the auxiliary the next row's first.
+pub struct Place {
+    pub index: usize,
+    pub next: usize,
+    pub auxiliary: u32,
+    pub r: usize,
+    pub first: bool,
 }
 
 // What a row adds: its auxiliaries and its clauses.
@@ -79,29 +89,114 @@ pub fn added_by_rows(images: &[u16], rows: usize, n: usize) -> Added
     }
 }
 
-// Clause number q, from 0, of those that a row adds, its first auxiliary being e. Each auxiliary, j from 1, has six, r from 1 to 6. A row that moves
-// one variable only, which no permutation does, has the table's first clause and no auxiliary.
+// Clause number q, from 0, of those that a row adds, its first auxiliary being e. Each auxiliary, j from 1, has six, r from 1 to 6.
 pub fn row_clause(row: &[u16], e: u32, q: usize) -> Clause
-    requires { ⌜ (isRow (length (now row)) (now row) ≡ true) × (length (now row) ≤ 512) × (e ≤ 40000) × (q < length (rowClauses e (now row))) ⌝ }
+    requires { ⌜ (length (now row) ≤ 512) × (e ≤ 40000) × (q < length (rowClauses e (now row))) ⌝ }
     ensures { λ r. ⌜ Holds r (getD (rowClauses e (now (row .entry))) q []) ⌝ }
 {
-    let j = q / 6 + 1;
-    let r = q % 6 + 1;
-    let i = moved_at(row, j);
+    let before = q / 6;
+    let i = moved_at(row, before + 1);
+    let next = next_moved(row, i + 1);
+    let place = Place {
+        index: i,
+        next: next,
+        auxiliary: e + before as u32,
+        r: q % 6 + 1,
+        first: before == 0,
+    };
+    clause_at(row, place)
+}
+
+// The place of a row's first clause, its first auxiliary being e.
+pub fn first_place(row: &[u16], e: u32) -> Place
+    requires { ⌜ (length (now row) ≤ 512) × (e ≤ 40000) ⌝ }
+    ensures { λ r. ⌜ Stands (now (row .entry)) r × (clausesAt (now (row .entry)) r ≡ rowClauses e (now (row .entry))) × (auxiliaryAfter (now (row .entry)) r ≡ e + auxiliaries (now (row .entry))) ⌝ }
+{
+    let index = next_moved(row, 0);
+    if index == row.len() {
+        return no_place(row, e);
+    }
+    let next = next_moved(row, index + 1);
+    Place {
+        index: index,
+        next: next,
+        auxiliary: e,
+        r: 1,
+        first: true,
+    }
+}
+
+// The clause at a place. A row that moves one variable only, which no permutation does, has the table's first clause and no auxiliary.
+pub fn clause_at(row: &[u16], place: Place) -> Clause
+    requires { ⌜ (length (now row) ≤ 512) × Stands (now row) place × (place .index < length (now row)) ⌝ }
+    ensures { λ r. ⌜ Holds r (getD (clausesAt (now (row .entry)) place) 0 []) ⌝ }
+{
+    let i = place.index;
+    let next = place.next;
     let x = own_code(i);
     let y = wide(row[i]);
-    let next = next_moved(row, i + 1);
     if next == row.len() {
-        return table_clause(1, true, e, x, y, x, y);
+        return table_clause(1, true, place.auxiliary, x, y, x, y);
     }
     let x2 = own_code(next);
     let y2 = wide(row[next]);
-    table_clause(r, j == 1, e + (j - 1) as u32, x, y, x2, y2)
+    table_clause(place.r, place.first, place.auxiliary, x, y, x2, y2)
+}
+
+// The place after one at which a clause stands.
+pub fn next_place(row: &[u16], place: Place) -> Place
+    requires { ⌜ (length (now row) ≤ 512) × Stands (now row) place × (place .index < length (now row)) ⌝ }
+    ensures { λ r. ⌜ Stands (now (row .entry)) r × (clausesAt (now (row .entry)) place ≡ getD (clausesAt (now (row .entry)) place) 0 [] ∷ clausesAt (now (row .entry)) r) × (auxiliaryAfter (now (row .entry)) r ≡ auxiliaryAfter (now (row .entry)) place) ⌝ }
+{
+    if place.next == row.len() {
+        return no_place(row, place.auxiliary);
+    }
+    if place.r < 6 {
+        return Place {
+            index: place.index,
+            next: place.next,
+            auxiliary: place.auxiliary,
+            r: place.r + 1,
+            first: place.first,
+        };
+    }
+    later_place(row, place.next, place.auxiliary + 1)
+}
+
+// The place of the first clause of a later auxiliary e, whose pair is at an index.
+fn later_place(row: &[u16], index: usize, e: u32) -> Place
+    requires { ⌜ (length (now row) ≤ 512) × (index < length (now row)) × Next (now row) index index × (e + (length (pairsAt index (now row)) - 1) ≤ 80000) ⌝ }
+    ensures { λ r. ⌜ Stands (now (row .entry)) r × (clausesAt (now (row .entry)) r ≡ clausesOn false e (pairsAt index (now (row .entry)))) × (auxiliaryAfter (now (row .entry)) r ≡ e + (length (pairsAt index (now (row .entry))) - 1)) ⌝ }
+{
+    let next = next_moved(row, index + 1);
+    if next == row.len() {
+        return no_place(row, e);
+    }
+    Place {
+        index: index,
+        next: next,
+        auxiliary: e,
+        r: 1,
+        first: false,
+    }
+}
+
+// The place past a row's clauses, where e is the next row's first auxiliary.
+fn no_place(row: &[u16], e: u32) -> Place
+    ensures { λ r. ⌜ r ≡ pastLast (now (row .entry)) e ⌝ }
+{
+    Place {
+        index: row.len(),
+        next: row.len(),
+        auxiliary: e,
+        r: 1,
+        first: false,
+    }
 }
 
 // Clause number q, from 0, of those that all rows add.
 pub fn added_clause(images: &[u16], rows: usize, n: usize, q: usize) -> Clause
-    requires { ⌜ (n ≤ 512) × (rows ≤ 64) × (rows * n ≤ length (now images)) × (allOf (isRow n) (rowsOf n rows (now images)) ≡ true) × (q < length (rowsClauses (n + 1) (rowsOf n rows (now images)))) ⌝ }
+    requires { ⌜ (n ≤ 512) × (rows ≤ 64) × (rows * n ≤ length (now images)) × (q < length (rowsClauses (n + 1) (rowsOf n rows (now images)))) ⌝ }
     ensures { λ r. ⌜ Holds r (getD (rowsClauses (n + 1) (rowsOf n rows (now (images .entry)))) q []) ⌝ }
 {
     let mut e = n + 1;
@@ -210,7 +305,7 @@ fn opposite(code: u32) -> u32
 // The index of moved variable number j, from 1.
 fn moved_at(row: &[u16], j: usize) -> usize
     requires { ⌜ (length (now row) ≤ 512) × (1 ≤ j) × (j ≤ length (pairsOf (now row))) ⌝ }
-    ensures { λ r. ⌜ (r < length (now (row .entry))) × (drop (j - 1) (pairsOf (now (row .entry))) ≡ pairAt (now (row .entry)) r ∷ pairsAt (r + 1) (now (row .entry))) ⌝ }
+    ensures { λ r. ⌜ (r < length (now (row .entry))) × (drop (j - 1) (pairsOf (now (row .entry))) ≡ pairsAt r (now (row .entry))) × (pairsAt r (now (row .entry)) ≡ pairAt (now (row .entry)) r ∷ pairsAt (r + 1) (now (row .entry))) ⌝ }
 {
     let mut i = next_moved(row, 0);
     let mut k = 1;

@@ -3,10 +3,9 @@ use mathlib.Core.Path.{_≡_, refl, sym, ap, _∙_}
 use mathlib.Core.List.{List, [], _∷_, _++_}
 use mathlib.Core.Logic.{⊎-elim}
 use Prim.Native.Nat.{ℕ, zero, suc, _+_, _-_, _*_, _/_, _%_, _^_, _≤_, _<_}
-use native.Mathlib.Nat.{pow-suc, one-le-pow}
+use native.Mathlib.Nat.{pow-suc}
 use native.Mathlib.Omega.{arith}
 use borrow.Author.Tests.{lt-ltb, le-ltb}
-use lib.Dec.{lit<}
 use lib.ListN.{length, set, length-append, length-set}
 use Rattle.lists.proofs.Cases.{lt-or-le}
 use Rattle.render.specs.Text.{decimalIn, decimal, writtenAt}
@@ -39,13 +38,13 @@ in-enough (suc f) x h =
 -- the last digit, and those before it
 decimal-one : (x : ℕ) → x < 10 → decimal x ≡ (x + 48) ∷ []
 unfolding decimal
-decimal-one x h = in-one 9 x h
+decimal-one x h = in-one 19 x h
 
-decimal-more : (x : ℕ) → x < 2 ^ 32 → 10 ≤ x → decimal x ≡ decimal (x / 10) ++ ((x % 10 + 48) ∷ [])
+decimal-more : (x : ℕ) → x < 2 ^ 64 → 10 ≤ x → decimal x ≡ decimal (x / 10) ++ ((x % 10 + 48) ∷ [])
 unfolding decimal
-decimal-more x b h = in-more 9 x h ∙ ap (λ (ds : List ℕ). ds ++ ((x % 10 + 48) ∷ [])) (sym (in-enough 8 (x / 10) (omega arith)))
+decimal-more x b h = in-more 19 x h ∙ ap (λ (ds : List ℕ). ds ++ ((x % 10 + 48) ∷ [])) (sym (in-enough 18 (x / 10) (omega arith)))
 
--- at least one, and at most ten
+-- at least one, and at most twenty
 some-in : (f x : ℕ) → 0 < length (decimalIn (suc f) x)
 some-in f x = length-in f x (λ l e. omega arith) (λ l e. omega arith)
 
@@ -56,45 +55,39 @@ most-in (suc f) x = length-in f x (λ l e. omega arith) (λ l e. omega (arith, m
 
 pub digits-some : (x : ℕ) → 0 < length (decimal x)
 unfolding decimal
-digits-some x = some-in 9 x
+digits-some x = some-in 19 x
 
-pub digits-most : (x : ℕ) → length (decimal x) ≤ 10
+pub digits-most : (x : ℕ) → length (decimal x) ≤ 20
 unfolding decimal
-digits-most x = most-in 10 x
+digits-most x = most-in 20 x
 
--- a number from 10 ^ n on has more than n, and one below 10 ^ n at most n
-above-in : (f n x : ℕ) → 10 ^ n ≤ x → x < 10 ^ f → n < length (decimalIn f x)
-above-in zero n x h k = absurd (omega (arith, one-le-pow n 10 (lit< tt)))
-above-in (suc f) zero x h k = some-in f x
-above-in (suc f) (suc n) x h k =
-    let power = pow-suc 10 n in
-    length-in f x (λ l e. absurd (omega (arith, one-le-pow n 10 (lit< tt)))) (λ l e. omega (arith, above-in f n (x / 10) (omega arith) (omega (arith, pow-suc 10 f))))
+-- Counting the digits of x: n so far, with those of y for the last one.
+pub record Counted (x n y : ℕ) : Type 0 where
+  pub low : y < 2 ^ 64
+  pub count : length (decimal x) + 1 ≡ n + length (decimal y)
 
-within-in : (f n x : ℕ) → x < 10 ^ suc n → length (decimalIn f x) ≤ suc n
-unfolding decimalIn
-within-in zero n x h = omega arith
-within-in (suc f) zero x h = length-in f x (λ l e. omega arith) (λ l e. absurd (omega arith))
-within-in (suc f) (suc n) x h =
-    length-in f x (λ l e. omega arith) (λ l e. omega (arith, within-in f n (x / 10) (omega (arith, pow-suc 10 (suc n)))))
+pub counted-none : {x : ℕ} → x < 2 ^ 64 → Counted x 1 x
+counted-none low = record { low = low; count = omega arith }
 
-pub digits-above : (n x : ℕ) → x < 2 ^ 32 → 10 ^ n ≤ x → n < length (decimal x)
-unfolding decimal
-digits-above n x b h = above-in 10 n x h (omega arith)
+module _ {x n y : ℕ} (g : Counted x n y) where
+  pub counted-more : 10 ≤ y → Counted x (n + 1) (y / 10)
+  counted-more h =
+      let l : length (decimal y) ≡ length (decimal (y / 10)) + 1 =
+      ap length (decimal-more y (g .low) h) ∙ length-append (decimal (y / 10)) ((y % 10 + 48) ∷ []) in
+      record { low = omega (arith, g .low); count = omega (arith, g .count) }
 
-pub digits-within : (n x : ℕ) → 0 < n → x < 10 ^ n → length (decimal x) ≤ n
-unfolding decimal
-digits-within zero x p h = absurd (omega arith)
-digits-within (suc n) x p h = within-in 10 n x h
+  pub counted-all : y < 10 → n ≡ length (decimal x)
+  counted-all h = omega (arith, g .count, ap length (decimal-one y h))
 
 -- the digits of x from `at` on: those of y are still to be written, up to k, and those after k are written
 pub record Left (x at : ℕ) (buffer out : List ℕ) (k y : ℕ) : Type 0 where
-  pub low : y < 2 ^ 32
+  pub low : y < 2 ^ 64
   pub place : k ≡ at + length (decimal y)
   pub room : k ≤ length out
   pub size : length out ≡ length buffer
   pub bytes : writtenAt at (decimal x) buffer ≡ writtenAt at (decimal y) out
 
-pub left-start : {x at k : ℕ} {buffer : List ℕ} → x < 2 ^ 32 → k ≡ at + length (decimal x) → at + length (decimal x) ≤ length buffer → Left x at buffer buffer k x
+pub left-start : {x at k : ℕ} {buffer : List ℕ} → x < 2 ^ 64 → k ≡ at + length (decimal x) → at + length (decimal x) ≤ length buffer → Left x at buffer buffer k x
 left-start low e h = record { low = low; place = e; room = omega arith; size = refl; bytes = refl }
 
 module _ {x at : ℕ} {buffer out : List ℕ} {k y : ℕ} (g : Left x at buffer out k y) where

@@ -1,7 +1,7 @@
 -- Document 01's lines, by computation on the definitions. Assumes nothing.
 use mathlib.Core.Path.{_≡_, refl}
 use mathlib.Core.List.{[], _∷_, map}
-use Rattle.render.specs.Text.{decimalIn, decimal, literalText, clauseLine, headerLine}
+use Rattle.render.specs.Text.{decimalIn, decimal, literalText, clauseLine, headerLine, refusalLine, twoNumbers}
 
 -- `0`, `9`, `10` and `33216`
 numbers :
@@ -22,5 +22,10 @@ clause = refl
 
 -- four variables and eight clauses: `p cnf 4 8`
 header : headerLine 4 8 ≡ 112 ∷ 32 ∷ 99 ∷ 110 ∷ 102 ∷ 32 ∷ 52 ∷ 32 ∷ 56 ∷ 10 ∷ []
-unfolding decimalIn decimal headerLine
+unfolding decimalIn decimal twoNumbers headerLine
 header = refl
+
+-- `refused 15 0`
+refusal : refusalLine 15 0 ≡ 114 ∷ 101 ∷ 102 ∷ 117 ∷ 115 ∷ 101 ∷ 100 ∷ 32 ∷ 49 ∷ 53 ∷ 32 ∷ 48 ∷ 10 ∷ []
+unfolding decimalIn decimal twoNumbers refusalLine
+refusal = refl

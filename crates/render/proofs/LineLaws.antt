@@ -9,8 +9,8 @@ use borrow.Author.Tests.{eq-eqb, ne-eqb}
 use lib.ListN.{length, getD, drop, length-append, drop-of-length-le}
 use Rattle.lists.proofs.Cases.{eq-or-ne}
 use Rattle.lists.proofs.Steps.{drop-step}
-use Rattle.render.specs.Text.{decimal, literalText, clauseLine, headerLine, writtenAt}
-use Rattle.render.proofs.DigitLaws.{digits-most, digits-within}
+use Rattle.render.specs.Text.{decimal, literalText, clauseLine, twoNumbers, headerLine, refusalLine, writtenAt}
+use Rattle.render.proofs.DigitLaws.{digits-most}
 use Rattle.render.proofs.Writing.{Wrote, length-written, written-written}
 
 -- ---- a literal
@@ -27,11 +27,19 @@ pub length-text : (code : ℕ) → length (literalText code) ≡ length (decimal
 length-text code =
     ⊎-elim (λ h. omega (arith, ap length (text-negative code h))) (λ h. omega (arith, ap length (text-plain code h))) (eq-or-ne (code % 2) 1)
 
--- ---- the header
+-- ---- lines of two numbers
+
+pub length-two : (a b : ℕ) → length (twoNumbers a b) ≡ length (decimal a) + length (decimal b) + 2
+unfolding twoNumbers
+length-two a b = simp length-append (omega arith)
 
 pub length-header : (variables clauses : ℕ) → length (headerLine variables clauses) ≡ length (decimal variables) + length (decimal clauses) + 8
 unfolding headerLine
-length-header variables clauses = simp length-append (omega arith)
+length-header variables clauses = omega (arith, length-two variables clauses)
+
+pub refusal-short : (number place : ℕ) → length (refusalLine number place) ≤ 50
+unfolding refusalLine
+refusal-short number place = omega (arith, length-two number place, digits-most number, digits-most place)
 
 -- ---- a clause's line, from the literal i on
 
@@ -66,10 +74,14 @@ line-most k (code ∷ clause) f =
       mul-suc (k + 1) (length clause),
     )
 
--- a variable below 100000 has at most 5 digits
-pub clause-line-most : (clause : List ℕ) → ((i : ℕ) → i < length clause → getD clause i 0 < 2 * 100000) → length (clauseLine clause) ≤ 7 * length clause + 2
-clause-line-most clause f =
-    line-most 6 clause (λ i h. omega (arith, f i h, length-text (getD clause i 0), digits-within 5 (getD clause i 0 / 2) (omega arith) (omega (arith, f i h))))
+pub line-some : (clause : List ℕ) → 0 < length (clauseLine clause)
+unfolding clauseLine
+line-some [] = omega arith
+line-some (code ∷ clause) = omega (arith, length-append (literalText code) (32 ∷ clauseLine clause))
+
+-- a literal has at most 21 bytes
+pub line-short : (clause : List ℕ) → length (clauseLine clause) ≤ 22 * length clause + 2
+line-short clause = line-most 21 clause (λ k _. omega (arith, length-text (getD clause k 0), digits-most (getD clause k 0 / 2)))
 
 -- ---- a clause's line measured: n bytes for the literals before i and the line's end
 
@@ -87,9 +99,7 @@ module _ {clause : List ℕ} {i n : ℕ} (g : Measured clause i n) where
     measured-more = record { few = g .few; sum = omega (arith, g .sum, length-at clause i h e, length-append (literalText code) (32 ∷ [])) }
 
     pub measured-fits : n + (w + 1) < 2 ^ 32
-    measured-fits =
-        let most = line-most 11 clause (λ k _. omega (arith, length-text (getD clause k 0), digits-most (getD clause k 0 / 2))) in
-        omega (arith, g .few, measured-more .sum)
+    measured-fits = omega (arith, g .few, measured-more .sum, line-short clause)
 
   pub measured-all : length clause ≤ i → n ≡ length (clauseLine clause)
   unfolding clauseLine

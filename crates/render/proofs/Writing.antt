@@ -4,8 +4,9 @@ use mathlib.Core.List.{List, [], _∷_, _++_}
 use Prim.Native.Nat.{ℕ, suc, _+_, _≤_, _<_}
 use native.Mathlib.Nat.{add-zero}
 use native.Mathlib.Omega.{arith}
-use lib.ListN.{length, set, length-append, length-set}
+use lib.ListN.{length, set, getD, drop, length-append, length-drop, length-set}
 use lib.Seq.{sets, length-sets, sets-eq, set-comm, paste-zero}
+use Rattle.lists.proofs.Steps.{drop-step}
 use Rattle.render.specs.Text.{writtenAt}
 
 -- as stores, one byte after another
@@ -20,6 +21,19 @@ written-none at buffer = sym (paste-zero buffer at [])
 
 pub length-written : (at : ℕ) (a buffer : List ℕ) → at + length a ≤ length buffer → length (writtenAt at a buffer) ≡ length buffer
 length-written at a buffer h = ap length (stores at a buffer h) ∙ length-sets buffer at a
+
+-- the byte at i, then those after it
+pub written-rest : (at i : ℕ) (bytes buffer : List ℕ) → i < length bytes → at + length bytes ≤ length buffer
+    → writtenAt (at + i) (drop i bytes) buffer ≡ writtenAt (at + (i + 1)) (drop (i + 1) bytes) (set buffer (at + i) (getD bytes i 0))
+written-rest at i bytes buffer h room =
+    let on : suc (at + i) ≡ at + (i + 1) = omega arith in
+    let rest = length-drop i bytes in
+    let l = length-set buffer (at + i) (getD bytes i 0) in
+    let more = length-drop (i + 1) bytes in
+    ap (λ (r : List ℕ). writtenAt (at + i) r buffer) (drop-step bytes i 0 h)
+    ∙ stores (at + i) (getD bytes i 0 ∷ drop (i + 1) bytes) buffer (omega arith)
+    ∙ ap (λ (n : ℕ). sets (set buffer (at + i) (getD bytes i 0)) n (drop (i + 1) bytes)) on
+    ∙ sym (stores (at + (i + 1)) (drop (i + 1) bytes) (set buffer (at + i) (getD bytes i 0)) (omega arith))
 
 -- one after another
 sets-append : (at : ℕ) (a b buffer : List ℕ) → sets (sets buffer at a) (at + length a) b ≡ sets buffer at (a ++ b)

@@ -11,9 +11,9 @@ unfoldable pub decimalIn : ℕ → ℕ → List ℕ
 decimalIn zero x = []
 decimalIn (suc f) x = cond (ltb x 10) ((x + 48) ∷ []) (decimalIn f (x / 10) ++ ((x % 10 + 48) ∷ []))
 
--- the decimal digits of a number below 10^10
+-- the decimal digits of a number below 10^20, so of any number of 64 bits
 unfoldable pub decimal : ℕ → List ℕ
-decimal x = decimalIn 10 x
+decimal x = decimalIn 20 x
 
 -- a literal: `-` before a negative one, and its variable's number
 unfoldable pub literalText : ℕ → List ℕ
@@ -24,9 +24,17 @@ unfoldable pub clauseLine : List ℕ → List ℕ
 clauseLine [] = 48 ∷ 10 ∷ []
 clauseLine (code ∷ clause) = literalText code ++ 32 ∷ clauseLine clause
 
+-- two numbers, one space between, and a line feed
+unfoldable pub twoNumbers : ℕ → ℕ → List ℕ
+twoNumbers a b = decimal a ++ 32 ∷ [] ++ decimal b ++ 10 ∷ []
+
 -- "Header line: `p cnf N M`"
 unfoldable pub headerLine : ℕ → ℕ → List ℕ
-headerLine variables clauses = 112 ∷ 32 ∷ 99 ∷ 110 ∷ 102 ∷ 32 ∷ [] ++ decimal variables ++ 32 ∷ [] ++ decimal clauses ++ 10 ∷ []
+headerLine variables clauses = 112 ∷ 32 ∷ 99 ∷ 110 ∷ 102 ∷ 32 ∷ [] ++ twoNumbers variables clauses
+
+-- the program's line `refused NUMBER WHERE`
+unfoldable pub refusalLine : ℕ → ℕ → List ℕ
+refusalLine number place = 114 ∷ 101 ∷ 102 ∷ 117 ∷ 115 ∷ 101 ∷ 100 ∷ 32 ∷ [] ++ twoNumbers number place
 
 -- a buffer with some bytes written over it from a place on
 unfoldable pub writtenAt : ℕ → List ℕ → List ℕ → List ℕ

@@ -4,24 +4,43 @@ ghost use mathlib.Core.Path.{_≡_};
 ghost use mathlib.Core.List.{[], _∷_, _++_};
 ghost use Prim.Native.Nat.{_+_, _≤_};
 ghost use lib.ListN.{length};
-ghost use Rattle.render.specs.Text.{decimal, literalText, clauseLine, headerLine, writtenAt};
+ghost use Rattle.render.specs.Text.{decimal, literalText, clauseLine, twoNumbers, headerLine, refusalLine, writtenAt};
 
 // The header.
-pub fn header_length(variables: u32, clauses: u32) -> usize
+pub fn header_length(variables: u64, clauses: u64) -> usize
     ensures { λ r. ⌜ r ≡ length (headerLine variables clauses) ⌝ }
 {
     digit_count(variables) + digit_count(clauses) + 8
 }
 
-pub fn put_header(out: &mut [u8], at: usize, variables: u32, clauses: u32) -> usize
+pub fn put_header(out: &mut [u8], at: usize, variables: u64, clauses: u64) -> usize
     requires { ⌜ at + length (headerLine variables clauses) ≤ length (now out) ⌝ }
     ensures next { λ r. ⌜ r ≡ at + length (headerLine variables clauses) ⌝ }
     ensures bytes { λ _. ⌜ now (out .exit) ≡ writtenAt at (headerLine variables clauses) (now (out .entry)) ⌝ }
 {
-    let number = put_start(out, at);
-    let space = put_number(out, number, variables);
+    let number = put_bytes(out, at, b"p cnf ");
+    put_numbers(out, number, variables, clauses)
+}
+
+// The program's line for a refusal.
+pub fn put_refusal(out: &mut [u8], at: usize, number: u64, place: u64) -> usize
+    requires { ⌜ at + length (refusalLine number place) ≤ length (now out) ⌝ }
+    ensures next { λ r. ⌜ r ≡ at + length (refusalLine number place) ⌝ }
+    ensures bytes { λ _. ⌜ now (out .exit) ≡ writtenAt at (refusalLine number place) (now (out .entry)) ⌝ }
+{
+    let first = put_bytes(out, at, b"refused ");
+    put_numbers(out, first, number, place)
+}
+
+// Two numbers and the line's end.
+fn put_numbers(out: &mut [u8], at: usize, a: u64, b: u64) -> usize
+    requires { ⌜ at + length (twoNumbers a b) ≤ length (now out) ⌝ }
+    ensures next { λ r. ⌜ r ≡ at + length (twoNumbers a b) ⌝ }
+    ensures bytes { λ _. ⌜ now (out .exit) ≡ writtenAt at (twoNumbers a b) (now (out .entry)) ⌝ }
+{
+    let space = put_number(out, at, a);
     out[space] = b' ';
-    let end = put_number(out, space + 1, clauses);
+    let end = put_number(out, space + 1, b);
     out[end] = b'\n';
     end + 1
 }
@@ -82,19 +101,18 @@ pub fn put_clause(out: &mut [u8], at: usize, clause: &[u32]) -> usize
     put_end(out, next)
 }
 
-// The header up to its first number.
-fn put_start(out: &mut [u8], at: usize) -> usize
-    requires { ⌜ at + 6 ≤ length (now out) ⌝ }
-    ensures next { λ r. ⌜ r ≡ at + 6 ⌝ }
-    ensures bytes { λ _. ⌜ now (out .exit) ≡ writtenAt at (112 ∷ 32 ∷ 99 ∷ 110 ∷ 102 ∷ 32 ∷ []) (now (out .entry)) ⌝ }
+// Bytes as they are.
+fn put_bytes(out: &mut [u8], at: usize, bytes: &[u8]) -> usize
+    requires { ⌜ at + length (now bytes) ≤ length (now out) ⌝ }
+    ensures next { λ r. ⌜ r ≡ at + length (now (bytes .entry)) ⌝ }
+    ensures bytes { λ _. ⌜ now (out .exit) ≡ writtenAt at (now (bytes .entry)) (now (out .entry)) ⌝ }
 {
-    out[at] = b'p';
-    out[at + 1] = b' ';
-    out[at + 2] = b'c';
-    out[at + 3] = b'n';
-    out[at + 4] = b'f';
-    out[at + 5] = b' ';
-    at + 6
+    let mut i = 0;
+    while i < bytes.len() {
+        out[at + i] = bytes[i];
+        i += 1;
+    }
+    at + i
 }
 
 // The end of a clause's line, which is the empty clause's line.
@@ -124,7 +142,7 @@ fn put_word(out: &mut [u8], at: usize, code: u32) -> usize
 fn literal_length(code: u32) -> usize
     ensures { λ r. ⌜ r ≡ length (literalText code) ⌝ }
 {
-    digit_count(code / 2) + (code % 2) as usize
+    digit_count((code / 2) as u64) + (code % 2) as usize
 }
 
 fn put_literal(out: &mut [u8], at: usize, code: u32) -> usize
@@ -134,26 +152,25 @@ fn put_literal(out: &mut [u8], at: usize, code: u32) -> usize
 {
     if code % 2 == 1 {
         out[at] = b'-';
-        return put_number(out, at + 1, code / 2);
+        return put_number(out, at + 1, (code / 2) as u64);
     }
-    put_number(out, at, code / 2)
+    put_number(out, at, (code / 2) as u64)
 }
 
-// A number: its digits are counted by comparing, and then written from the last one on, with one division each.
-fn digit_count(x: u32) -> usize
+// A number: its digits are counted, and then written from the last one on.
+fn digit_count(x: u64) -> usize
     ensures { λ r. ⌜ r ≡ length (decimal x) ⌝ }
 {
-    let number = x as u64;
     let mut n = 1;
-    let mut limit: u64 = 10;
-    while limit <= number {
-        limit *= 10;
+    let mut rest = x;
+    while 10 <= rest {
+        rest = rest / 10;
         n += 1;
     }
     n
 }
 
-fn put_number(out: &mut [u8], at: usize, x: u32) -> usize
+fn put_number(out: &mut [u8], at: usize, x: u64) -> usize
     requires { ⌜ at + length (decimal x) ≤ length (now out) ⌝ }
     ensures next { λ r. ⌜ r ≡ at + length (decimal x) ⌝ }
     ensures bytes { λ _. ⌜ now (out .exit) ≡ writtenAt at (decimal x) (now (out .entry)) ⌝ }

@@ -5,7 +5,6 @@ use mathlib.Core.List.{List, []}
 use lib.ListN.{length, take, getD}
 use lib.Seq.{length-take-le}
 use Rattle.store.specs.Stores.{Store, lent, heldRows}
-use Rattle.store.proofs.Demands.{rows-of}
 use Rattle.store.proofs.Formed.{Formed, formed}
 use Rattle.render.specs.Text.{clauseLine}
 use Rattle.emit.specs.Emit.{lineOf, writtenIf, bufferAfter}
@@ -39,7 +38,7 @@ added-clause-requires c κs =
     let s = c .before .before .before .before .before in
     let f = facts s in
     let all = clauses-are (S s) (s .pre .0) in
-    (f .variables-fit, f .rows-fit, f .images-long, rows-of (S s) (s .pre .0), omega (arith, all, s .pre .1, s .pre .2))
+    (f .variables-fit, f .rows-fit, f .images-long, omega (arith, all, s .pre .1, s .pre .2))
 
 array-share-prefix-codes : tie.Need-array-share-prefix-codes
 array-share-prefix-codes c = let h = c .before .added-clause .ensures in omega (arith, h .few, h .room)

@@ -17,18 +17,15 @@ S c = lent (c .args .counts) (c .args .literals .now) (c .args .ends .now) (c .a
 totals-of-requires : tie.Need-totals-of-requires
 totals-of-requires c κs = search needs
 
-cast-variables : tie.Need-cast-variables
-cast-variables c = let t = c .before .totals-of .ensures in omega (arith, t .2)
-
-cast-clauses : tie.Need-cast-clauses
-cast-clauses c = let t = c .before .before .totals-of .ensures in omega (arith, t .3)
-
 header-length-requires : tie.Need-header-length-requires
 header-length-requires c κs = search needs
 
 returns : tie.Need-returns
 unfolding headerBy headerOf
-returns c = let s = c .before .before .before .before .before .before .before .before .before in let t = c .before .before .before .before .totals-of .ensures in left-alone (headerOf (S s)) (s .args .out .now) _ (c .before .header-length .ensures ∙ ap₂ (λ (v m : ℕ). length (headerLine v m)) (t .0) (t .1)) (c .if1 .taken)
+returns c =
+    let s = c .before .before .before .before .before .before .before in
+    let t = c .before .before .totals-of .ensures in
+    left-alone (headerOf (S s)) (s .args .out .now) _ (c .before .header-length .ensures ∙ ap₂ (λ (v m : ℕ). length (headerLine v m)) (t .0) (t .1)) (c .if1 .taken)
 
 put-header-requires : tie.Need-put-header-requires
 put-header-requires c κs = search needs
@@ -39,8 +36,8 @@ same-length c = search needs
 returns-2 : tie.Need-returns-2
 unfolding headerBy headerOf
 returns-2 c =
-    let s = c .before .before .before .before .before .before .before .before .before .before .before .before .before in
-    let t = c .before .before .before .before .before .before .before .before .totals-of .ensures in
+    let s = c .before .before .before .before .before .before .before .before .before .before .before in
+    let t = c .before .before .before .before .before .before .totals-of .ensures in
     put-there (headerOf (S s)) (s .args .out .now) _ _ (c .before .before .before .before .before .header-length .ensures ∙ ap₂ (λ (v m : ℕ). length (headerLine v m)) (t .0) (t .1)) (c .before .before .before .before .if1 .left)
     (c .before .before .put-header .ensures .1 ∙ ap₂ (λ (v m : ℕ). writtenAt 0 (headerLine v m) (s .args .out .now)) (t .0) (t .1))
 
@@ -49,8 +46,6 @@ header-spec =
     tie.close
     (tie.spec
     totals-of-requires
-    cast-variables
-    cast-clauses
     header-length-requires
     returns
     put-header-requires

@@ -4,10 +4,9 @@ use mathlib.Core.Path.{sym, ap, _∙_}
 use Prim.Native.Nat.{ℕ, _+_, _-_, _*_, _≤_, _<_}
 use mathlib.Core.List.{List, []}
 use lib.ListN.{length, getD}
-use Rattle.store.specs.Stores.{isRow}
 use Rattle.store.proofs.Formed.{rowAt}
 use Rattle.lexleader.specs.Made.{auxiliaries, rowClauses}
-use Rattle.lexleader.proofs.Left.{Adds, part-is, part-adds, room, row-size, Sought, sought-first, sought-within, sought-row, sought-here, sought-later}
+use Rattle.lexleader.proofs.Left.{Adds, part-is, part-adds, room, row-size, Sought, sought-first, sought-within, sought-here, sought-later}
 use native.Mathlib.Omega.{arith}
 use Rattle.lexleader.proofs.Table.{holds-same}
 use Rattle.lexleader.proofs.added_clause.Statement.{statement}
@@ -50,7 +49,7 @@ add-e : tie.Need-add-e Inv-loop μ-loop
 add-e c = omega arith
 
 loop-holds : tie.Need-loop-holds Inv-loop μ-loop
-loop-holds c = let s = c .before in sought-first _ _ _ _ (s .pre .0) (s .pre .3) (s .pre .4)
+loop-holds c = let s = c .before in sought-first _ _ _ _ (s .pre .0) (s .pre .3)
 
 mul-at : tie.Need-mul-at Inv-loop μ-loop
 mul-at c = omega (arith, within c .1)
@@ -95,11 +94,9 @@ row-clause-requires c κs =
     let s = l .before .before in
     let a = s .args in
     let there = within l .0 in
-    let row = rowAt (a .n) (l .loop .r) (a .images .now) in
     let size = row-size (a .n) (a .rows) (a .images .now) (s .pre .2) (l .loop .r) there in
-    let good = sought-row (a .n) (a .rows) (a .images .now) (a .q) (l .loop .e) (l .loop .left) (l .loop .r) (l .loop .inv) in
     rw (part-is (a .n) (l .loop .r) (a .images .now))
-    (ap (λ (k : ℕ). isRow k row) size ∙ good, omega arith, omega arith, omega (arith, tells b .1 (l .loop .e)))
+    (omega arith, omega arith, omega (arith, tells b .1 (l .loop .e)))
 
 returns : tie.Need-returns Inv-loop μ-loop
 returns c =

@@ -7,6 +7,9 @@ use native.Mathlib.Omega.{arith}
 use Rattle.render.proofs.literal_length.Statement.{statement}
 use Rattle.render.proofs.literal_length.Tie as tie
 
+cast-digit-count : tie.Need-cast-digit-count
+cast-digit-count c = omega arith
+
 digit-count-requires : tie.Need-digit-count-requires
 digit-count-requires c κs = search needs
 
@@ -20,4 +23,4 @@ returns : tie.Need-returns
 returns c = omega (arith, length-text (c .before .args .code))
 
 pub literal-length-spec : {M : Type 1} → statement M
-literal-length-spec = tie.close (tie.spec digit-count-requires cast-result add-result returns)
+literal-length-spec = tie.close (tie.spec cast-digit-count digit-count-requires cast-result add-result returns)

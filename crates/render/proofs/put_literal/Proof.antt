@@ -14,6 +14,9 @@ slice-write-out c = omega (arith, length-text (c .before .before .args .code))
 add-put-number : tie.Need-add-put-number
 add-put-number c = search needs
 
+cast-put-number : tie.Need-cast-put-number
+cast-put-number c = omega arith
+
 put-number-requires : tie.Need-put-number-requires
 put-number-requires c κs = simp length-set (omega (arith, length-text (c .before .before .before .args .code)))
 
@@ -25,6 +28,9 @@ returns c =
     let st = c .before .before .before .before .before .before in
     rw (text-negative (st .args .code) (omega arith))
     ((put-then (put-byte (st .args .at) 45 (st .args .out .now)) (put (c .before .before .put-number .ensures))) .told (omega (arith, length-text (st .args .code))))
+
+cast-put-number-2 : tie.Need-cast-put-number-2
+cast-put-number-2 c = omega arith
 
 put-number-requires-2 : tie.Need-put-number-requires-2
 put-number-requires-2 c κs = omega (arith, length-text (c .before .before .before .args .code))
@@ -41,9 +47,11 @@ put-literal-spec =
     (tie.spec
     slice-write-out
     add-put-number
+    cast-put-number
     put-number-requires
     same-length
     returns
+    cast-put-number-2
     put-number-requires-2
     same-length-2
     returns-2)

@@ -1,0 +1,304 @@
+-- Places among a row's clauses: the clauses from one on are the clause at it and those from the next. Assumes nothing.
+use mathlib.Core.Path.{_≡_, refl, sym, ap, _∙_}
+use mathlib.Core.Bool.{Bool, true, false}
+use mathlib.Core.Logic.{_⊎_, inl, inr}
+use mathlib.Core.List.{List, [], _∷_, _++_}
+use Prim.Native.Nat.{ℕ, zero, suc, _+_, _-_, _*_, _/_, _%_, _≤_, _<_}
+use native.Mathlib.Nat.{add-zero}
+use native.Mathlib.Omega.{arith}
+use borrow.Author.Tests.{eq-eqb, ne-eqb}
+use lib.Dec.{eqb}
+use lib.ListN.{length, getD, drop, length-append, length-drop, List·getD-append}
+use lib.Seq.{drop-append-add, getD-drop}
+use Rattle.lists.proofs.Cases.{lt-or-le}
+use Rattle.lists.proofs.Steps.{drop-step}
+use Rattle.lexleader.specs.Rows.{Pair, pairsOf}
+use Rattle.lexleader.specs.Made.{laterSix, laterClauses, pairClauses, rowClauses, auxiliaries}
+use Rattle.lexleader.specs.Clause.{tableOf, pairAt, pairsAt, Next}
+use Rattle.lexleader.specs.Places.{clausesOn, clausesAt, auxiliaryAfter, pastLast, Stands}
+use Rattle.lexleader.specs.declared.Place.{Place}
+use Rattle.lexleader.proofs.Walk.{pairs-start, pairs-length, walk-end}
+use Rattle.lexleader.proofs.Numbers.{row-few, row-many}
+
+-- ---- a row's clauses are those of its pairs from the first auxiliary on
+
+later-on : (d : ℕ) (q : Pair) (pairs : List Pair) → laterClauses d q pairs ≡ clausesOn false (d + 1) (q ∷ pairs)
+unfolding laterClauses clausesOn
+later-on d q [] = refl
+later-on d q (p ∷ pairs) =
+    let before : d ≡ d + 1 - 1 = omega arith in
+    ap (λ (c : ℕ). laterSix (d + 1) c q p ++ laterClauses (d + 1) p pairs) before
+    ∙ ap (λ (l : List (List ℕ)). tableOf false (d + 1) q p ++ l) (later-on (d + 1) p pairs)
+
+pairs-on : (e : ℕ) (pairs : List Pair) → pairClauses e pairs ≡ clausesOn true e pairs
+unfolding pairClauses clausesOn
+pairs-on e [] = refl
+pairs-on e (q ∷ []) = refl
+pairs-on e (q ∷ p ∷ pairs) = ap (λ (l : List (List ℕ)). tableOf true e q p ++ l) (later-on e p pairs)
+
+pub row-on : (e : ℕ) (row : List ℕ) → rowClauses e row ≡ clausesOn true e (pairsAt 0 row)
+unfolding rowClauses
+row-on e row = pairs-on e (pairsOf row) ∙ ap (clausesOn true e) (pairs-start row)
+
+six : (first : Bool) (e : ℕ) (q p : Pair) → length (tableOf first e q p) ≡ 6
+six true e q p = refl
+six false e q p = refl
+
+-- past the clauses of the first auxiliary
+past-six : (first : Bool) (e : ℕ) (q p : Pair) (pairs : List Pair) (k : ℕ)
+    → drop (6 + k) (clausesOn first e (q ∷ p ∷ pairs)) ≡ drop k (clausesOn false (e + 1) (p ∷ pairs))
+unfolding clausesOn
+past-six first e q p pairs k =
+    ap (λ (n : ℕ). drop (n + k) (tableOf first e q p ++ clausesOn false (e + 1) (p ∷ pairs))) (sym (six first e q p))
+    ∙ drop-append-add (tableOf first e q p) (clausesOn false (e + 1) (p ∷ pairs)) k
+
+-- ---- by number: past the clauses of j auxiliaries
+
+later-from : (e : ℕ) (pairs : List Pair) (j : ℕ) → j < length pairs → drop (6 * j) (clausesOn false e pairs) ≡ clausesOn false (e + j) (drop j pairs)
+later-from e pairs zero h = rw add-zero
+later-from e [] (suc j) h = absurd (omega arith)
+later-from e (q ∷ []) (suc j) h = absurd (omega arith)
+later-from e (q ∷ p ∷ pairs) (suc j) h =
+    let more : 6 * suc j ≡ 6 + 6 * j = omega arith in
+    let on : e + 1 + j ≡ e + suc j = omega arith in
+    ap (λ (n : ℕ). drop n (clausesOn false e (q ∷ p ∷ pairs))) more
+    ∙ past-six false e q p pairs (6 * j)
+    ∙ later-from (e + 1) (p ∷ pairs) j (omega arith)
+    ∙ ap (λ (d : ℕ). clausesOn false d (drop j (p ∷ pairs))) on
+
+pairs-from : (e : ℕ) (pairs : List Pair) (j : ℕ) → j < length pairs → drop (6 * j) (clausesOn true e pairs) ≡ clausesOn (eqb j 0) (e + j) (drop j pairs)
+pairs-from e pairs zero h = rw add-zero
+pairs-from e [] (suc j) h = absurd (omega arith)
+pairs-from e (q ∷ []) (suc j) h = absurd (omega arith)
+pairs-from e (q ∷ p ∷ pairs) (suc j) h =
+    let more : 6 * suc j ≡ 6 + 6 * j = omega arith in
+    let on : e + 1 + j ≡ e + suc j = omega arith in
+    ap (λ (n : ℕ). drop n (clausesOn true e (q ∷ p ∷ pairs))) more
+    ∙ past-six true e q p pairs (6 * j)
+    ∙ later-from (e + 1) (p ∷ pairs) j (omega arith)
+    ∙ ap (λ (d : ℕ). clausesOn false d (drop j (p ∷ pairs))) on
+    ∙ ap (λ (first : Bool). clausesOn first (e + suc j) (drop j (p ∷ pairs))) (sym (ne-eqb (suc j) 0 (λ z. omega arith)))
+
+-- ---- what stands at a place
+
+module _ (row : List ℕ) (p : Place) where
+  -- no clause stands past the last
+  pub past : length row ≤ p .index → (clausesAt row p ≡ []) × (auxiliaryAfter row p ≡ p .auxiliary)
+  unfolding clausesAt auxiliaryAfter clausesOn
+  past h = rw (walk-end row (p .index) h) (drop-none (p .r - 1), omega arith)
+    where
+      drop-none : (k : ℕ) → drop {A = List ℕ} k [] ≡ []
+      drop-none zero = refl
+      drop-none (suc k) = refl
+
+  pub few-auxiliaries : Stands row p → p .auxiliary ≤ 80000
+  unfolding auxiliaryAfter
+  few-auxiliaries s = omega (arith, s .few)
+
+  module _ (s : Stands row p) (h : p .index < length row) where
+    abbrev own : Pair
+    own = pairAt row (p .index)
+
+    -- ---- the row's only pair
+
+    module _ (last : p .next ≡ length row) where
+      one : pairsAt (p .index) row ≡ own ∷ []
+      one = s .here h ∙ ap (λ (l : List Pair). own ∷ l) (s .then h .same ∙ walk-end row (p .next) (omega arith))
+
+      pub at-one : (q : Pair) → getD (clausesAt row p) 0 [] ≡ getD (tableOf true (p .auxiliary) own q) 0 []
+      unfolding clausesAt clausesOn
+      at-one q = let a = s .alone h last in rw (one, a .0, a .1)
+
+      pub then-one : clausesAt row p ≡ getD (clausesAt row p) 0 [] ∷ []
+      unfolding clausesAt clausesOn
+      then-one = let a = s .alone h last in rw (one, a .0, a .1)
+
+      pub after-one : auxiliaryAfter row p ≡ p .auxiliary
+      unfolding auxiliaryAfter
+      after-one = rw one (omega arith)
+
+    -- ---- a pair and the next
+
+    module _ (more : p .next < length row) where
+      abbrev next : Pair
+      next = pairAt row (p .next)
+
+      here-next : pairsAt (p .next) row ≡ next ∷ pairsAt (p .next + 1) row
+      here-next = s .then h .here more
+
+      two : pairsAt (p .index) row ≡ own ∷ next ∷ pairsAt (p .next + 1) row
+      two = s .here h ∙ ap (λ (l : List Pair). own ∷ l) (s .then h .same ∙ here-next)
+
+      abbrev all : List (List ℕ)
+      all = clausesOn (p .first) (p .auxiliary) (own ∷ next ∷ pairsAt (p .next + 1) row)
+
+      at-place : clausesAt row p ≡ drop (p .r - 1) all
+      unfolding clausesAt
+      at-place = rw two
+
+      enough : p .r - 1 < length all
+      unfolding clausesOn
+      enough = omega (arith, s .low, s .high, six (p .first) (p .auxiliary) own next, length-append (tableOf (p .first) (p .auxiliary) own next) (clausesOn false (p .auxiliary + 1) (next ∷ pairsAt (p .next + 1) row)))
+
+      pub at-two : getD (clausesAt row p) 0 [] ≡ getD (tableOf (p .first) (p .auxiliary) own next) (p .r - 1) []
+      unfolding clausesOn
+      at-two =
+          ap (λ (l : List (List ℕ)). getD l 0 []) at-place
+          ∙ getD-drop (p .r - 1) all 0 []
+          ∙ ap (λ (k : ℕ). getD all k []) (add-zero (p .r - 1))
+          ∙ List·getD-append (tableOf (p .first) (p .auxiliary) own next) (clausesOn false (p .auxiliary + 1) (next ∷ pairsAt (p .next + 1) row)) [] (p .r - 1) (omega (arith, s .low, s .high, six (p .first) (p .auxiliary) own next))
+
+      -- the clause at the place, and those after it
+      step : clausesAt row p ≡ getD (clausesAt row p) 0 [] ∷ drop (p .r - 1 + 1) all
+      step =
+          let head : getD all (p .r - 1) [] ≡ getD (clausesAt row p) 0 [] =
+          ap (λ (k : ℕ). getD all k []) (sym (add-zero (p .r - 1))) ∙ sym (getD-drop (p .r - 1) all 0 []) ∙ ap (λ (l : List (List ℕ)). getD l 0 []) (sym at-place) in
+          at-place ∙ drop-step all (p .r - 1) [] enough ∙ ap (λ (clause : List ℕ). clause ∷ drop (p .r - 1 + 1) all) head
+
+      -- the next clause of the same auxiliary
+      pub then-same : (q : Place) → q ≡ record { index = p .index; next = p .next; auxiliary = p .auxiliary; r = p .r + 1; first = p .first }
+          → clausesAt row p ≡ getD (clausesAt row p) 0 [] ∷ clausesAt row q
+      unfolding clausesAt
+      then-same q e =
+          let r : p .r - 1 + 1 ≡ p .r + 1 - 1 = omega (arith, s .low) in
+          step ∙ rw (e, two, r)
+
+      pub same-stands : p .r < 6 → (q : Place) → q ≡ record { index = p .index; next = p .next; auxiliary = p .auxiliary; r = p .r + 1; first = p .first }
+          → Stands row q × (auxiliaryAfter row q ≡ auxiliaryAfter row p)
+      unfolding auxiliaryAfter
+      same-stands low q e = rw e (
+        record {
+          within = s .within;
+          here = s .here;
+          then = s .then;
+          alone = λ _ last. absurd (omega arith);
+          low = omega arith;
+          high = omega arith;
+          few = s .few;
+        },
+        refl,
+      )
+
+      -- the first clause of the next auxiliary
+      pub then-next : p .r ≡ 6 → clausesAt row p ≡ getD (clausesAt row p) 0 [] ∷ clausesOn false (p .auxiliary + 1) (pairsAt (p .next) row)
+      then-next e =
+          let r : p .r - 1 + 1 ≡ 6 + 0 = omega arith in
+          step
+          ∙ ap (λ (l : List (List ℕ)). getD (clausesAt row p) 0 [] ∷ l)
+          (ap (λ (k : ℕ). drop k all) r ∙ past-six (p .first) (p .auxiliary) own next (pairsAt (p .next + 1) row) 0 ∙ ap (clausesOn false (p .auxiliary + 1)) (sym here-next))
+
+      pub after-next : p .auxiliary + 1 + (length (pairsAt (p .next) row) - 1) ≡ auxiliaryAfter row p
+      unfolding auxiliaryAfter
+      after-next = omega (arith, ap length two, ap length here-next)
+
+-- ---- a row's first pair
+
+module _ (row : List ℕ) (e index : ℕ) (n : Next row 0 index) where
+  same-pairs : pairsOf row ≡ pairsAt index row
+  same-pairs = pairs-start row ∙ n .same
+
+  pub first-rest : (clausesOn true e (pairsAt index row) ≡ rowClauses e row) × (e + (length (pairsAt index row) - 1) ≡ e + auxiliaries row)
+  unfolding auxiliaries
+  first-rest = (ap (clausesOn true e) (sym (n .same)) ∙ sym (row-on e row), omega (arith, ap length same-pairs))
+
+  pub first-none : length row ≤ index → ([] ≡ rowClauses e row) × (e ≡ e + auxiliaries row)
+  unfolding clausesOn
+  first-none h =
+      let none : pairsAt index row ≡ [] = walk-end row index h in
+      (sym (ap (clausesOn true e) none) ∙ first-rest .0, omega (arith, ap length none, first-rest .1))
+
+  pub first-few : e ≤ 40000 → length row ≤ 512 → e + (length (pairsAt index row) - 1) ≤ 80000
+  first-few low short = omega (arith, ap length same-pairs, pairs-length row)
+
+-- ---- the first clauses of an auxiliary, for a pair at an index
+
+module _ (row : List ℕ) (index next e : ℕ) (first : Bool) (h : index < length row) (here : pairsAt index row ≡ pairAt row index ∷ pairsAt (index + 1) row)
+    (then : Next row (index + 1) next) where
+  abbrev start : Place
+  start = record { index = index; next = next; auxiliary = e; r = 1; first = first }
+
+  pub starts : (next ≡ length row → first ≡ true) → e + (length (pairsAt index row) - 1) ≤ 80000 → Stands row start
+  unfolding auxiliaryAfter
+  starts alone few = record {
+    within = omega arith;
+    here = λ _. here;
+    then = λ _. then;
+    alone = λ _ last. (alone last, refl);
+    low = omega arith;
+    high = omega arith;
+    few = few;
+  }
+
+  pub start-clauses : clausesAt row start ≡ clausesOn first e (pairsAt index row)
+  unfolding clausesAt
+  start-clauses = refl
+
+  pub start-after : auxiliaryAfter row start ≡ e + (length (pairsAt index row) - 1)
+  unfolding auxiliaryAfter
+  start-after = refl
+
+  -- a later auxiliary has no clauses where no pair follows
+  pub no-later : next ≡ length row → (clausesOn false e (pairsAt index row) ≡ []) × (e + (length (pairsAt index row) - 1) ≡ e)
+  unfolding clausesOn
+  no-later last =
+      let one : pairsAt index row ≡ pairAt row index ∷ [] = here ∙ ap (λ (l : List Pair). pairAt row index ∷ l) (then .same ∙ walk-end row next (omega arith)) in
+      rw one (refl, omega arith)
+
+-- the place past the last clause, with the clauses and the auxiliary that are left
+pub at-last : (row : List ℕ) (e : ℕ) (p : Place) → p ≡ pastLast row e → e ≤ 80000 → {clauses : List (List ℕ)} {after : ℕ} → [] ≡ clauses → e ≡ after
+    → Stands row p × (clausesAt row p ≡ clauses) × (auxiliaryAfter row p ≡ after)
+at-last row e p is few none same =
+    let z = past row (pastLast row e) (omega arith) in
+    let stands : Stands row (pastLast row e) = record {
+      within = omega arith;
+      here = λ h. absurd (omega arith);
+      then = λ h. absurd (omega arith);
+      alone = λ h last. absurd (omega arith);
+      low = omega arith;
+      high = omega arith;
+      few = omega (arith, z .1);
+    } in
+    rw is (stands, z .0 ∙ none, z .1 ∙ same)
+
+-- ---- clause number q of a row
+
+module _ (row : List ℕ) (e q i : ℕ) (p : Place) (is : p ≡ record { index = i; next = p .next; auxiliary = e + q / 6; r = q % 6 + 1; first = eqb (q / 6) 0 })
+    (inside : q / 6 < length (pairsOf row)) (found : drop (q / 6) (pairsOf row) ≡ pairsAt i row) where
+  pub numbered : getD (clausesAt row p) 0 [] ≡ getD (rowClauses e row) q []
+  unfolding clausesAt rowClauses
+  numbered =
+      let whole : 6 * (q / 6) + (q % 6 + 1 - 1 + 0) ≡ q = omega arith in
+      let pairs = pairsOf row in
+      ap (λ (x : Place). getD (clausesAt row x) 0 []) is
+      ∙ getD-drop (q % 6 + 1 - 1) (clausesOn (eqb (q / 6) 0) (e + q / 6) (pairsAt i row)) 0 []
+      ∙ ap (λ (l : List (List ℕ)). getD l (q % 6 + 1 - 1 + 0) [])
+      (ap (clausesOn (eqb (q / 6) 0) (e + q / 6)) (sym found) ∙ sym (pairs-from e pairs (q / 6) inside))
+      ∙ getD-drop (6 * (q / 6)) (clausesOn true e pairs) (q % 6 + 1 - 1 + 0) []
+      ∙ ap (λ (k : ℕ). getD (clausesOn true e pairs) k []) whole
+      ∙ ap (λ (l : List (List ℕ)). getD l q []) (sym (pairs-on e pairs))
+
+  -- the last pair has no clauses of its own, so it is the only one
+  only : q < length (rowClauses e row) → length (pairsAt i row) ≡ 1 → q ≡ 0
+  only many one = go (lt-or-le (length (pairsOf row)) 2)
+    where
+      size : length (pairsOf row) ≡ q / 6 + 1
+      size = omega (arith, length-drop (q / 6) (pairsOf row), ap length found)
+
+      go : (length (pairsOf row) < 2) ⊎ (2 ≤ length (pairsOf row)) → q ≡ 0
+      go (inl l) = omega (arith, size, row-few e row l)
+      go (inr l) = absurd (omega (arith, size, row-many e row l))
+
+  module _ (many : q < length (rowClauses e row)) (h : i < length row) (here : pairsAt i row ≡ pairAt row i ∷ pairsAt (i + 1) row) (then : Next row (i + 1) (p .next)) where
+    pub number-stands : e ≤ 40000 → length row ≤ 512 → Stands row p
+    unfolding auxiliaryAfter
+    number-stands low short =
+        let last : p .next ≡ length row → q ≡ 0 = λ end. only many (ap length here ∙ ap (λ (l : List Pair). suc (length l)) (then .same ∙ walk-end row (p .next) (omega arith))) in
+        rw is (record {
+          within = omega arith;
+          here = λ _. here;
+          then = λ _. then;
+          alone = λ _ end. (eq-eqb (q / 6) 0 (omega (arith, last end)), omega (arith, last end));
+          low = omega arith;
+          high = omega arith;
+          few = omega (arith, pairs-length row, length-drop (q / 6) (pairsOf row), ap length found);
+        })

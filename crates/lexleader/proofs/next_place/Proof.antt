@@ -1,0 +1,66 @@
+-- `lexleader::next_place` meets its contract: past the only pair, on to the next clause of the auxiliary, or on to the next auxiliary. Assumes nothing.
+use mathlib.Core.Path.{refl, sym, ap, _∙_}
+use mathlib.Core.List.{List, _∷_, []}
+use Prim.Native.Nat.{ℕ}
+use native.Mathlib.Omega.{arith}
+use lib.ListN.{getD}
+use Rattle.lexleader.specs.Places.{clausesAt}
+use Rattle.lexleader.proofs.Walk.{stays}
+use Rattle.lexleader.proofs.Places.{few-auxiliaries, at-last, then-one, after-one, same-stands, then-same, then-next, after-next}
+use borrow.Author.Needs.{needs}
+use Rattle.lexleader.proofs.next_place.Statement.{statement}
+use Rattle.lexleader.proofs.next_place.Tie as tie
+
+no-place-requires : tie.Need-no-place-requires
+no-place-requires c κs = search needs
+
+returns : tie.Need-returns
+returns c =
+    let s = c .before .before .before .before in
+    let row = s .args .row .now in
+    let p = s .args .place in
+    let after = after-one row p (s .pre .1) (s .pre .2) (omega arith) in
+    let z = at-last row (p .auxiliary) (c .no-place .result) (c .no-place .ensures) (few-auxiliaries row p (s .pre .1)) refl (sym after) in
+    (z .0, then-one row p (s .pre .1) (s .pre .2) (omega arith) ∙ ap (λ (l : List (List ℕ)). getD (clausesAt row p) 0 [] ∷ l) (sym (z .1)), z .2)
+
+add-t5 : tie.Need-add-t5
+add-t5 c = search needs
+
+returns-2 : tie.Need-returns-2
+returns-2 c =
+    let s = c .before .before .before .before .before .before in
+    let row = s .args .row .now in
+    let p = s .args .place in
+    let z = same-stands row p (s .pre .1) (s .pre .2) (omega (arith, s .pre .1 .then (s .pre .2) .within)) (omega arith) _ refl in
+    (z .0, then-same row p (s .pre .1) (s .pre .2) (omega (arith, s .pre .1 .then (s .pre .2) .within)) _ refl, z .1)
+
+add-later-place : tie.Need-add-later-place
+add-later-place c = let s = c .before .before .before .before .before .before in omega (arith, few-auxiliaries (s .args .row .now) (s .args .place) (s .pre .1))
+
+later-place-requires : tie.Need-later-place-requires
+later-place-requires c κs =
+    let s = c .before .before .before .before .before .before in
+    let row = s .args .row .now in
+    let p = s .args .place in
+    (s .pre .0, omega (arith, s .pre .1 .then (s .pre .2) .within), stays (s .pre .1 .then (s .pre .2)), omega (arith, after-next row p (s .pre .1) (s .pre .2) (omega (arith, s .pre .1 .then (s .pre .2) .within)), s .pre .1 .few))
+
+returns-3 : tie.Need-returns-3
+returns-3 c =
+    let s = c .before .before .before .before .before .before .before in
+    let row = s .args .row .now in
+    let p = s .args .place in
+    let z = c .later-place .ensures in
+    let past = then-next row p (s .pre .1) (s .pre .2) (omega (arith, s .pre .1 .then (s .pre .2) .within)) (omega (arith, s .pre .1 .high)) in
+    (z .0, past ∙ ap (λ (l : List (List ℕ)). getD (clausesAt row p) 0 [] ∷ l) (sym (z .1)), z .2 ∙ after-next row p (s .pre .1) (s .pre .2) (omega (arith, s .pre .1 .then (s .pre .2) .within)))
+
+pub next-place-spec : {M : Type 1} → statement M
+next-place-spec =
+    tie.close
+    (tie.spec
+    no-place-requires
+    returns
+    add-t5
+    returns-2
+    add-later-place
+    later-place-requires
+    returns-3)

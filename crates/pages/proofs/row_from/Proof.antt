@@ -1,0 +1,121 @@
+-- `pages::row_from` meets its contract. The invariant: what the rows from `row` on add is what those from r on add, whose first auxiliary is `first`.
+-- Assumes nothing.
+use mathlib.Core.Path.{_≡_, refl, sym, ap, _∙_}
+use mathlib.Core.List.{List}
+use Prim.Native.Nat.{ℕ, _+_, _-_, _*_, _≤_}
+use native.Mathlib.Omega.{arith}
+use lib.ListN.{length, length-take, length-drop}
+use Rattle.lexleader.specs.Made.{rowsClauses}
+use Rattle.lexleader.specs.declared.Place.{Place}
+use Rattle.lexleader.proofs.Left.{room}
+use Rattle.pages.specs.Pages.{rowAt, rowsLeft, addedLeft}
+use Rattle.pages.proofs.RowLaws.{First, row-part, none-added, first-here, first-points, first-past, first-few}
+use borrow.Author.Needs.{needs}
+use Rattle.pages.proofs.row_from.Statement.{statement}
+use Rattle.pages.proofs.row_from.Tie as tie
+
+abbrev Inv-loop : tie.InvT-loop
+Inv-loop counts images plain row e n first₀ r₀ first r =
+    (row ≤ r) × (r ≤ counts .rows) × (first ≤ 513 + 512 * r) × (n ≡ counts .variables) × (rowsClauses e (rowsLeft counts images row) ≡ rowsClauses first (rowsLeft counts images r))
+
+abbrev μ-loop : tie.MeasureT-loop
+μ-loop counts images plain row e n first₀ r₀ first r = counts .rows - r
+
+-- there is room for row r
+fits : (c : tie.Then1 Inv-loop μ-loop) → let l = c .before .before in let a = l .before .before .args in
+    l .loop .r * a .counts .variables + a .counts .variables ≤ length (a .images .now)
+fits c =
+    let l = c .before .before in
+    let s = l .before .before in
+    room (s .args .counts .variables) (s .args .counts .rows) (s .args .images .now) (s .pre .2) (l .loop .r) (search needs)
+
+-- what the first place of row r is
+found : (c : tie.After-first-place Inv-loop μ-loop) → let l = c .before .before .before .before in let a = l .before .before .args in
+    First (l .loop .first) (rowAt (a .counts) (a .images .now) (l .loop .r)) (c .first-place .result)
+found c =
+    let l = c .before .before .before .before in
+    let a = l .before .before .args in
+    row-part (a .counts) (a .images .now) (λ (row : List ℕ). First (l .loop .first) row (c .first-place .result)) (l .loop .r) (c .first-place .ensures)
+
+loop-holds : tie.Need-loop-holds Inv-loop μ-loop
+loop-holds c = let s = c .before in (omega arith, s .pre .4, s .pre .5, refl, refl)
+
+mul-from : tie.Need-mul-from Inv-loop μ-loop
+mul-from c = omega (arith, fits c)
+
+add-to : tie.Need-add-to Inv-loop μ-loop
+add-to c = omega (arith, fits c)
+
+mul-first-place : tie.Need-mul-first-place Inv-loop μ-loop
+mul-first-place c = omega (arith, fits c)
+
+sub-first-place : tie.Need-sub-first-place Inv-loop μ-loop
+sub-first-place c = omega arith
+
+part-first-place-start : tie.Need-part-first-place-start Inv-loop μ-loop
+part-first-place-start c = omega arith
+
+part-first-place-end : tie.Need-part-first-place-end Inv-loop μ-loop
+part-first-place-end c = omega (arith, fits c)
+
+first-place-requires : tie.Need-first-place-requires Inv-loop μ-loop
+first-place-requires c κs = let l = c .before .before .before in (simp (length-take, length-drop) (omega (arith, fits (c .before))), omega arith)
+
+returns : tie.Need-returns Inv-loop μ-loop
+returns c =
+    let f = c .before .before in
+    let l = f .before .before .before .before in
+    let s = l .before .before in
+    let a = s .args in
+    let at = first-here (a .counts) (a .images .now) (l .loop .r) (search needs) (l .loop .first) (f .first-place .result) (found f) in (
+      (first-points (a .counts) (a .images .now) (l .loop .r) (search needs) (l .loop .first) (f .first-place .result) (found f) (s .pre .3) (search needs) (s .pre .0) (s .pre .2) (l .loop .inv .2), refl),
+      at ∙ sym (l .loop .inv .4),
+    )
+
+add-r : tie.Need-add-r Inv-loop μ-loop
+add-r c = omega arith
+
+loop-less : tie.Need-loop-less Inv-loop μ-loop
+loop-less c = omega arith
+
+loop-again : tie.Need-loop-again Inv-loop μ-loop
+loop-again c =
+    let f = c .before .before in
+    let l = f .before .before .before .before in
+    let s = l .before .before in
+    let a = s .args in
+    let next = first-past (a .counts) (a .images .now) (l .loop .r) (search needs) (l .loop .first) (f .first-place .result) (found f) (s .pre .2) (search needs) in
+    let low = first-few (a .counts) (a .images .now) (l .loop .r) (search needs) (l .loop .first) (f .first-place .result) (found f) (s .pre .2) (search needs) (s .pre .0) (l .loop .inv .2) in
+    (omega arith, omega arith, low, l .loop .inv .3, l .loop .inv .4 ∙ next)
+
+nowhere-requires : tie.Need-nowhere-requires Inv-loop μ-loop
+nowhere-requires c κs = search needs
+
+returns-2 : tie.Need-returns-2 Inv-loop μ-loop
+returns-2 c =
+    let l = c .before .before .before in
+    let a = l .before .before .args in (
+      (record { plain = l .before .before .pre .3; row = l .loop .inv .1; place = λ h. absurd (omega arith); there = λ h. absurd (omega arith); few = λ h. absurd (omega arith) }, refl),
+      none-added (a .counts) (a .images .now) (l .loop .r) (omega arith) (c .nowhere .result) (l .loop .first) ∙ sym (l .loop .inv .4),
+    )
+
+pub row-from-spec : {M : Type 1} → statement M
+row-from-spec =
+    tie.close
+    (tie.spec
+    Inv-loop
+    μ-loop
+    loop-holds
+    mul-from
+    add-to
+    mul-first-place
+    sub-first-place
+    part-first-place-start
+    part-first-place-end
+    first-place-requires
+    returns
+    add-r
+    loop-less
+    loop-again
+    nowhere-requires
+    returns-2)

@@ -23,11 +23,11 @@ use Rattle.pages.specs.Pages.{Filled, fillFrom, rowsLeft, addedLeft, cla
 use Rattle.pages.specs.declared.Cursor.{Cursor}
 
 module _ (clause : List ℕ) (clauses : List (List ℕ)) (at : ℕ) (out : List ℕ) where
-  fill-more : at + length (clauseLine clause) ≤ length out → fillFrom at (clause ∷ clauses) out ≡ fillFrom (at + length (clauseLine clause)) clauses (writtenAt at (clauseLine clause) out)
+  pub fill-more : at + length (clauseLine clause) ≤ length out → fillFrom at (clause ∷ clauses) out ≡ fillFrom (at + length (clauseLine clause)) clauses (writtenAt at (clauseLine clause) out)
   unfolding fillFrom
   fill-more h = rw (le-leb (at + length (clauseLine clause)) (length out) h)
 
-  fill-full : length out < at + length (clauseLine clause) → fillFrom at (clause ∷ clauses) out ≡ record { buffer = out; end = at; left = clause ∷ clauses }
+  pub fill-full : length out < at + length (clauseLine clause) → fillFrom at (clause ∷ clauses) out ≡ record { buffer = out; end = at; left = clause ∷ clauses }
   unfolding fillFrom
   fill-full h = rw (lt-leb (at + length (clauseLine clause)) (length out) h)
 

@@ -151,8 +151,8 @@ fn add_added(
     let next = next_cursor(counts, images, cursor);
     let codes = clause.literals;
     let count = clause.count;
-    let needed = render::clause_length(&codes[..count]);
-    if out.len() - at < needed {
+    let size = render::clause_length(&codes[..count]);
+    if out.len() - at < size {
         return Line {
             at: at,
             cursor: cursor,

@@ -37,9 +37,9 @@ pub length-header : (variables clauses : ℕ) → length (headerLine variables c
 unfolding headerLine
 length-header variables clauses = omega (arith, length-two variables clauses)
 
-pub refusal-short : (number place : ℕ) → length (refusalLine number place) ≤ 50
+pub length-refusal : (number place : ℕ) → length (refusalLine number place) ≡ length (decimal number) + length (decimal place) + 10
 unfolding refusalLine
-refusal-short number place = omega (arith, length-two number place, digits-most number, digits-most place)
+length-refusal number place = omega (arith, length-two number place)
 
 -- ---- a clause's line, from the literal i on
 

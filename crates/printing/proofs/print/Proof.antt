@@ -1,0 +1,57 @@
+-- `printing::print` is safe and ends: the stage stands in its store, and any line fits into the buffer. Assumes nothing.
+use mathlib.Core.Path.{sym, subst}
+use Prim.Native.Nat.{ℕ, _≤_}
+use native.Mathlib.Omega.{arith}
+use lib.ListN.{length, replicate, length-replicate}
+use Rattle.pages.specs.Pages.{longest}
+use borrow.Author.Needs.{needs}
+use Rattle.printing.proofs.print.Statement.{statement}
+use Rattle.printing.proofs.print.Tie as tie
+
+room : (n : ℕ) → longest ≤ n → longest ≤ length {A = ℕ} (replicate n 0)
+room n h = subst (λ (k : ℕ). longest ≤ k) (sym (length-replicate n 0)) h
+
+slice-aggregate-begin : tie.Need-slice-aggregate-begin
+slice-aggregate-begin c = search needs
+
+slice-aggregate-begin-2 : tie.Need-slice-aggregate-begin-2
+slice-aggregate-begin-2 c = search needs
+
+slice-aggregate-begin-3 : tie.Need-slice-aggregate-begin-3
+slice-aggregate-begin-3 c = search needs
+
+begin-requires : tie.Need-begin-requires
+begin-requires c κs = search needs
+
+slice-aggregate-print-from : tie.Need-slice-aggregate-print-from
+slice-aggregate-print-from c = search needs
+
+slice-aggregate-print-from-2 : tie.Need-slice-aggregate-print-from-2
+slice-aggregate-print-from-2 c = search needs
+
+slice-aggregate-print-from-3 : tie.Need-slice-aggregate-print-from-3
+slice-aggregate-print-from-3 c = search needs
+
+slice-aggregate-print-from-4 : tie.Need-slice-aggregate-print-from-4
+slice-aggregate-print-from-4 c = search needs
+
+print-from-requires : tie.Need-print-from-requires
+print-from-requires c κs = (c .before .before .before .before .before .before .before .before .begin .ensures .1, room 524288 (omega arith))
+
+returns : tie.Need-returns
+returns c = search needs
+
+pub print-spec : {M : Type 1} → statement M
+print-spec =
+    tie.close
+    (tie.spec
+    slice-aggregate-begin
+    slice-aggregate-begin-2
+    slice-aggregate-begin-3
+    begin-requires
+    slice-aggregate-print-from
+    slice-aggregate-print-from-2
+    slice-aggregate-print-from-3
+    slice-aggregate-print-from-4
+    print-from-requires
+    returns)

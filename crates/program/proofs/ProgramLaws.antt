@@ -1,0 +1,107 @@
+-- The output in pages: one law for a page that is a line, one for a page of clauses, one where nothing is left; and what the first stage has left is the
+-- whole output. Assumes nothing.
+use mathlib.Core.Path.{_≡_, refl, sym, ap, subst, _∙_}
+use mathlib.Core.Bool.{true}
+use mathlib.Core.List.{List, [], _++_, append-nil}
+use Prim.Native.Nat.{ℕ, _+_, _≤_, _<_}
+use native.Mathlib.Omega.{arith}
+use lib.ListN.{length, take, drop, length-append}
+use lib.Seq.{take-append-seam, drop-append-seam, length-take-le}
+use Rattle.store.specs.Refusals.{numberOf, placeOf}
+use Rattle.store.specs.Stores.{Store, wellFormed}
+use Rattle.store.specs.declared.refusal.Refusal.{Refusal}
+use Rattle.render.specs.Text.{refusalLine, headerLine, writtenAt}
+use Rattle.render.proofs.Writing.{length-written}
+use Rattle.render.proofs.LineLaws.{length-header, length-refusal}
+use Rattle.render.proofs.DigitLaws.{digits-some, digits-most}
+use Rattle.emit.specs.Emit.{madeOf, variablesOf, clausesOf, headerOf, linesOf, textOf}
+use Rattle.emit.proofs.WrittenLaws.{at-start}
+use Rattle.pages.specs.Pages.{Filled, fillFrom, clausesLeft, Points, longest}
+use Rattle.pages.specs.declared.Cursor.{Cursor}
+use Rattle.pages.proofs.PageLaws.{Holds, holds}
+use Rattle.session.specs.Session.{Ended, ended, saidAnswer, sessionOf}
+use Rattle.session.specs.declared.Answer.{Answer}
+use Rattle.program.specs.Program.{printedBy, outputOf, left, Stands, Goes}
+use Rattle.program.specs.declared.Stage.{Stage}
+
+pub at-stage : {s : Store} {a b next : Stage} {out after : List ℕ} {bytes : ℕ} → a ≡ b → Goes s b out next bytes after → Goes s a out next bytes after
+at-stage e g = rw e g
+
+-- ---- a page that is one line
+
+module _ (s : Store) (stage next : Stage) (line out : List ℕ) (is : left stage s ≡ line ++ left next s) (some : 0 < length line) (room : length line ≤ length out) where
+  pub line-goes : Stands next s → (bytes : ℕ) (after : List ℕ) → bytes ≡ 0 + length line → after ≡ writtenAt 0 line out → Goes s stage out next bytes after
+  line-goes stands bytes after b a =
+      let size : bytes ≡ length line = omega arith in
+      let there : after ≡ line ++ drop (length line) out = a ∙ at-start line out in
+      record {
+        prints = rw (size, there, take-append-seam line (drop (length line) out)) is;
+        stays = rw (size, there) (drop-append-seam line (drop (length line) out));
+        within = omega arith;
+        size = ap length a ∙ length-written 0 line out (omega arith);
+        last = λ none. absurd (omega arith);
+        stands = stands;
+      }
+
+pub refused-goes : (s : Store) (refusal : Refusal) (out : List ℕ) → longest ≤ length out → (number place bytes : ℕ) (after : List ℕ) → number ≡ numberOf refusal
+    → place ≡ placeOf refusal → bytes ≡ 0 + length (refusalLine number place) → after ≡ writtenAt 0 (refusalLine number place) out
+    → Goes s (Stage.Refused refusal) out Stage.Over bytes after
+unfolding left
+refused-goes s refusal out room number place bytes after n p b a =
+    let l = length-refusal number place in
+    line-goes s (Stage.Refused refusal) Stage.Over (refusalLine number place) out (rw (n, p) (sym (append-nil (refusalLine (numberOf refusal) (placeOf refusal)))))
+    (omega arith) (omega (arith, digits-most number, digits-most place)) tt bytes after b a
+
+pub header-goes : (s : Store) → wellFormed s ≡ true → (out : List ℕ) → longest ≤ length out → (variables clauses bytes : ℕ) (after : List ℕ)
+    → variables ≡ variablesOf s → clauses ≡ clausesOf s → bytes ≡ 0 + length (headerLine variables clauses) → after ≡ writtenAt 0 (headerLine variables clauses) out
+    → (c : Cursor) → Points (s .counts) (s .images) c → clausesLeft s c ≡ madeOf s → Goes s Stage.Header out (Stage.Clauses c) bytes after
+unfolding left textOf headerOf
+header-goes s formed out room variables clauses bytes after v m b a c points all =
+    let l = length-header variables clauses in
+    line-goes s Stage.Header (Stage.Clauses c) (headerLine variables clauses) out (rw (v, m, all))
+    (omega arith) (omega (arith, digits-most variables, digits-most clauses)) (formed, points) bytes after b a
+
+-- ---- a page of clauses
+
+pub clauses-go : (s : Store) → wellFormed s ≡ true → (c d : Cursor) (out after : List ℕ) (bytes : ℕ)
+    → _≡_ {A = Filled} (record { buffer = after; end = bytes; left = clausesLeft s d }) (fillFrom 0 (clausesLeft s c) out)
+    → Points (s .counts) (s .images) d → (bytes ≡ 0 → clausesLeft s c ≡ []) → Goes s (Stage.Clauses c) out (Stage.Clauses d) bytes after
+unfolding left linesOf
+clauses-go s formed c d out after bytes e points last =
+    let h = subst (Holds 0 (clausesLeft s c) out) (sym e) (holds 0 (clausesLeft s c) out (omega arith)) in
+    record {
+      prints = h .text;
+      stays = h .past;
+      within = h .within;
+      size = h .size;
+      last = λ none. ap linesOf (last none);
+      stands = (formed, points);
+    }
+
+-- ---- nothing left
+
+pub over-goes : (s : Store) (out : List ℕ) → Goes s Stage.Over out Stage.Over 0 out
+unfolding left
+over-goes s out = record { prints = refl; stays = refl; within = omega arith; size = refl; last = λ _. refl; stands = tt }
+
+-- ---- a page with bytes leaves less
+
+pub goes-less : {s : Store} {stage next : Stage} {out after : List ℕ} {bytes : ℕ} → Goes s stage out next bytes after → (bytes ≡ 0 → ⊥)
+    → length (left next s) < length (left stage s)
+goes-less {s} {stage} {next} {out} {after} {bytes} g some =
+    omega (arith, ap length (g .prints), length-append (take bytes after) (left next s), length-take-le bytes after (omega (arith, g .within, g .size)), some)
+
+-- ---- the first stage
+
+module _ (s t : Store) (input : List ℕ) (answer : Answer) (is : ended (saidAnswer answer) t ≡ sessionOf s input) where
+  printed : printedBy (saidAnswer answer) t ≡ outputOf s input
+  unfolding outputOf
+  printed = ap (λ (e : Ended). printedBy (e .said) (e .store)) is
+
+  pub begins-ready : answer ≡ Answer.Ready → left Stage.Header t ≡ outputOf s input
+  unfolding left
+  begins-ready e = sym (ap (λ (a : Answer). printedBy (saidAnswer a) t) e) ∙ printed
+
+  pub begins-refused : (refusal : Refusal) → answer ≡ Answer.Refused refusal → left (Stage.Refused refusal) t ≡ outputOf s input
+  unfolding left
+  begins-refused refusal e = sym (ap (λ (a : Answer). printedBy (saidAnswer a) t) e) ∙ printed

@@ -1,0 +1,121 @@
+// All that the program decides (document 01, "Quality figure and program"), on slices: `begin` opens and offers what an input states, and `page` puts the
+// next part of the output into a buffer. The program itself only reads, calls these and writes.
+use pages::Cursor;
+use session::Answer;
+use store::record::Record;
+use store::refusal::Refusal;
+ghost use mathlib.Core.Path.{_≡_};
+ghost use Prim.Native.Nat.{_≤_};
+ghost use lib.ListN.{length};
+ghost use Rattle.store.specs.Stores.{Store, lent, closedRecord};
+ghost use Rattle.pages.specs.Pages.{longest};
+ghost use Rattle.program.specs.Program.{outputOf, left, Stands, Goes};
+
+// What comes next: the line of a refusal, the header, the clauses from a cursor on, or nothing.
+pub enum Stage {
+    Refused(Refusal),
+    Header,
+    Clauses(Cursor),
+    Over,
+}
+
+// The first stage, with the record of the store beside it.
+pub struct Begun {
+    pub stage: Stage,
+    pub counts: Record,
+}
+
+// How many bytes of the buffer a page has, and the stage after it.
+pub struct Printed {
+    pub bytes: usize,
+    pub stage: Stage,
+}
+
+// Opens and offers what an input states, in lent slices of any contents.
+pub fn begin(input: &[u8], literals: &mut [u16], ends: &mut [u16], images: &mut [u16]) -> Begun
+    ensures output { λ r. ⌜ left (r .stage) (lent (r .counts) (now (literals .exit)) (now (ends .exit)) (now (images .exit))) ≡ outputOf (lent closedRecord (now (literals .entry)) (now (ends .entry)) (now (images .entry))) (now (input .entry)) ⌝ }
+    ensures stands { λ r. ⌜ Stands (r .stage) (lent (r .counts) (now (literals .exit)) (now (ends .exit)) (now (images .exit))) ⌝ }
+{
+    let ended = session::run(input, literals, ends, images);
+    let answer = ended.answer;
+    let counts = ended.counts;
+    match answer {
+        Answer::Ready => Begun {
+            stage: Stage::Header,
+            counts: counts,
+        },
+        Answer::Refused(refusal) => Begun {
+            stage: Stage::Refused(refusal),
+            counts: counts,
+        },
+    }
+}
+
+// Puts the next page of the output into a buffer that any line fits into. A page without bytes is the last.
+pub fn page(
+    stage: Stage,
+    counts: Record,
+    literals: &[u16],
+    ends: &[u16],
+    images: &[u16],
+    out: &mut [u8],
+) -> Printed
+    requires { ⌜ Stands stage (lent counts (now literals) (now ends) (now images)) × (longest ≤ length (now out)) ⌝ }
+    ensures { λ r. ⌜ Goes (lent counts (now (literals .entry)) (now (ends .entry)) (now (images .entry))) stage (now (out .entry)) (r .stage) (r .bytes) (now (out .exit)) ⌝ }
+{
+    match stage {
+        Stage::Refused(refusal) => refused(refusal, out),
+        Stage::Header => header(counts, literals, ends, images, out),
+        Stage::Clauses(cursor) => clauses(counts, literals, ends, images, cursor, out),
+        Stage::Over => Printed {
+            bytes: 0,
+            stage: Stage::Over,
+        },
+    }
+}
+
+// The page of a refusal.
+fn refused(refusal: Refusal, out: &mut [u8]) -> Printed
+    requires { ⌜ longest ≤ length (now out) ⌝ }
+    ensures { λ r. ⌜ ((s : Store) → Goes s (Stage.Refused refusal) (now (out .entry)) (r .stage) (r .bytes) (now (out .exit))) ⌝ }
+{
+    let number = refusal.number() as u64;
+    let place = refusal.place() as u64;
+    Printed {
+        bytes: render::put_refusal(out, 0, number, place),
+        stage: Stage::Over,
+    }
+}
+
+// The header's page.
+fn header(counts: Record, literals: &[u16], ends: &[u16], images: &[u16], out: &mut [u8]) -> Printed
+    requires { ⌜ Stands Stage.Header (lent counts (now literals) (now ends) (now images)) × (longest ≤ length (now out)) ⌝ }
+    ensures { λ r. ⌜ Goes (lent counts (now (literals .entry)) (now (ends .entry)) (now (images .entry))) Stage.Header (now (out .entry)) (r .stage) (r .bytes) (now (out .exit)) ⌝ }
+{
+    let total = emit::totals_of(counts, literals, ends, images);
+    let bytes = render::put_header(out, 0, total.variables as u64, total.clauses as u64);
+    Printed {
+        bytes: bytes,
+        stage: Stage::Clauses(pages::start(counts, literals, ends, images)),
+    }
+}
+
+// A page of clauses.
+fn clauses(
+    counts: Record,
+    literals: &[u16],
+    ends: &[u16],
+    images: &[u16],
+    cursor: Cursor,
+    out: &mut [u8],
+) -> Printed
+    requires { ⌜ Stands (Stage.Clauses cursor) (lent counts (now literals) (now ends) (now images)) × (longest ≤ length (now out)) ⌝ }
+    ensures { λ r. ⌜ Goes (lent counts (now (literals .entry)) (now (ends .entry)) (now (images .entry))) (Stage.Clauses cursor) (now (out .entry)) (r .stage) (r .bytes) (now (out .exit)) ⌝ }
+{
+    let filled = pages::fill(counts, literals, ends, images, cursor, out);
+    let next = filled.cursor;
+    Printed {
+        bytes: filled.bytes,
+        stage: Stage::Clauses(next),
+    }
+}

@@ -1,0 +1,4 @@
+pub mod DividerLaws
+pub mod SessionLaws
+pub mod Theorem
+pub mod Examples

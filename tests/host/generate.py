@@ -81,3 +81,66 @@ def damaged(chance, data):
         else:
             del data[at:]
     return bytes(data)
+
+
+def cycle(chance, n, size):
+    """A permutation of 1..n that is one cycle through some variables, so that it moves these."""
+    order = chance.sample(range(1, n + 1), size)
+    after = dict(zip(order, order[1:] + order[:1]))
+    return [after.get(i, i) for i in range(1, n + 1)]
+
+
+def closed(clauses, rows, most):
+    """The clauses, then their images by the rows and the images of these, as far as there is room for them."""
+    clauses, sets = list(clauses), {frozenset(clause) for clause in clauses}
+    for clause in clauses:
+        for new in (image(clause, row) for row in rows):
+            if frozenset(new) not in sets and len(clauses) < most:
+                sets.add(frozenset(new))
+                clauses.append(new)
+    return clauses
+
+
+def offers(chance, n, rows):
+    """A names line with at least what the rows move, and a value line for each row."""
+    named = [i for i in range(1, n + 1) if any(row[i - 1] != i for row in rows) or chance.random() < 0.5]
+    chance.shuffle(named)
+    return [line(chance, named)] + [line(chance, [row[i - 1] for i in named]) for row in rows]
+
+
+def program_input(chance, n, most):
+    """Input for the program: a formula's text, the `%` line and offers, of which some are no symmetries."""
+    rows = [cycle(chance, n, chance.randint(min(n, 2), n)) for _ in range(chance.choice([1, 1, 2, 3]))]
+    clauses = closed(formula(chance, n, 3)[0] + formula(chance, n, 3)[0], rows, most)
+    chance.shuffle(clauses)
+    products = [image(first, second) for first in rows for second in rows]
+    offered = chance.choices(rows + products, k=chance.randrange(6))
+    if chance.random() < 0.3:
+        offered.insert(chance.randint(0, len(offered)), permutation(chance, n))
+    lines = [text(chance, n, clauses).removesuffix(b"\n"), b"%"] + offers(chance, n, offered)
+    return b"\n".join(lines) + chance.choice([b"", b"\n"])
+
+
+def damaged_input(chance, data):
+    """The same input damaged anywhere or in a line after the `%` line, with lines swapped, or with that line changed."""
+    lines = data.split(b"\n")
+    mark = lines.index(b"%")
+    kind = chance.randrange(8)
+    if kind < 4:
+        return damaged(chance, data)
+    if kind < 6:
+        at = chance.randrange(mark + 1, len(lines))
+        lines[at] = damaged(chance, lines[at])
+    elif kind == 6:
+        first, second = chance.randrange(len(lines)), chance.randrange(len(lines))
+        lines[first], lines[second] = lines[second], lines[first]
+    else:
+        lines[mark] = chance.choice([b"%%", b"% ", b" %", b"%\r", b""])
+    return b"\n".join(lines)
+
+
+def moving_rows(data):
+    """How many offers of an accepted input move something, so that they add clauses."""
+    lines = data.split(b"\n")
+    names, *offered = lines[lines.index(b"%") + 1:] or [b""]
+    return sum(values.split() not in ([], names.split()) for values in offered)

@@ -1,4 +1,6 @@
-// Document 01's unstarred cases ("Tried on both edges"), run: each line is a case, its refusal (0 for none) and its place.
+// Document 01's unstarred cases ("Tried on both edges"), run: each line is a case, its refusal (0 for none) and its place. Then random inputs of the
+// program, read from standard input, with what it prints for each; the script `make_batch.py` makes them and, by the reference, what is expected.
+use dimacs::Reading;
 use offering::Offered;
 use opening::Opened;
 use store::record::Record;
@@ -9,6 +11,7 @@ fn main() {
     opened(b"nothing at all: ", b"p cnf 0 0");
     opened(b"minus zero: ", b"p cnf 1 1\n-0 0\n");
     rows();
+    batch();
 }
 
 fn opened(name: &[u8], text: &[u8]) {
@@ -83,5 +86,37 @@ fn show(name: &[u8], refusal: u32, place: usize) {
     io::print_decimal(1, refusal as u64);
     io::write_all(1, b" ");
     io::print_decimal(1, place as u64);
+    io::write_all(1, b"\n");
+}
+
+// Each input of the batch follows its length, which has a line of its own.
+fn batch() {
+    let mut data = [0u8; 65536];
+    let read = io::read_full(0, &mut data);
+    inputs(&data[..read]);
+}
+
+fn inputs(data: &[u8]) {
+    let mut at = 0;
+    let mut count = 0;
+    loop {
+        let Reading::Found(size, past) = dimacs::read(data, at) else {
+            return;
+        };
+        let from = past.at + 1;
+        let to = from + size.size as usize;
+        if data.len() < to {
+            return;
+        }
+        count += 1;
+        heading(count);
+        printing::print(&data[from..to]);
+        at = to;
+    }
+}
+
+fn heading(count: u64) {
+    io::write_all(1, b"input ");
+    io::print_decimal(1, count);
     io::write_all(1, b"\n");
 }

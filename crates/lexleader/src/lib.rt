@@ -317,7 +317,7 @@ fn moved_at(row: &[u16], j: usize) -> usize
 }
 
 // The index of the first moved variable at or after an index; the row's length where there is none.
-fn next_moved(row: &[u16], from: usize) -> usize
+pub fn next_moved(row: &[u16], from: usize) -> usize
     requires { ⌜ (length (now row) ≤ 512) × (from ≤ length (now row)) ⌝ }
     ensures { λ r. ⌜ Next (now (row .entry)) from r ⌝ }
 {

@@ -1,0 +1,255 @@
+"""The program against the reference and against lines worked out by hand from document 01: fixed seeds. Run by tests/run."""
+import os
+import random
+import subprocess
+import sys
+import time
+import unittest
+from collections import Counter
+
+sys.path.insert(0, os.path.join(os.path.dirname(os.path.abspath(__file__)), "..", "reference"))
+import generate
+import library
+import reference
+
+BREAKER = os.environ.get("BREAKER", os.path.join(library.ROOT, "target", "bin", "breaker"))
+
+LISTING = b"""p cnf 3 2
+1 2 0
+2 3 0
+%
+1 3
+3 1
+"""
+MADE = b"""p cnf 4 8
+1 2 0
+2 3 0
+-1 3 0
+-4 -1 3 0
+-4 1 -3 0
+4 1 3 0
+4 -1 -3 0
+-4 -3 1 0
+"""
+PLAIN = b"p cnf 3 2\n1 2 0\n2 3 0\n"
+FULL = b"p cnf 1 1\n" + b"1 " * 12288
+
+OPENINGS = [
+    ("nothing before the % line", b"", "refused 1 0"),
+    ("only comments", b"c one\nc two\n", "refused 1 12"),
+    ("an empty line before the problem line", b"c\n\np cnf 0 0\n", "refused 1 2"),
+    ("another line before the problem line", b"c\nx\np cnf 0 0\n", "refused 1 2"),
+    ("a blank before p", b" p cnf 0 0\n", "refused 1 0"),
+    ("no blank after p", b"pcnf 0 0\n", "refused 1 0"),
+    ("p followed by another letter", b"px cnf 0 0\n", "refused 1 0"),
+    ("another form", b"p dnf 0 0\n", "refused 1 0"),
+    ("three words", b"p cnf 0\n", "refused 1 0"),
+    ("five words", b"p cnf 1 1 1 0\n", "refused 1 0"),
+    ("a problem line over two lines", b"p cnf 1\n1\n1 0\n", "refused 1 0"),
+    ("n negative", b"p cnf -1 0\n", "refused 1 0"),
+    ("m negative", b"p cnf 0 -1\n", "refused 1 0"),
+    ("a leading zero", b"c\np cnf 01 0\n", "refused 1 2"),
+    ("seven digits", b"p cnf 1000000 0\n", "refused 1 0"),
+    ("a carriage return", b"p cnf 0 0\r\n", "refused 1 0"),
+    ("no number beside one over its limit", b"p cnf 513 x\n", "refused 1 0"),
+    ("513 variables", b"p cnf 513 0\n", "refused 2 0"),
+    ("six digits", b"p cnf 999999 0\n", "refused 2 0"),
+    ("4,097 clauses", b"c x\np cnf 0 4097\n" + b"0\n" * 4097, "refused 2 4"),
+    ("a letter", b"p cnf 3 2\n1 2 0\n2 x 0\n", "refused 3 18"),
+    ("minus zero", b"p cnf 1 1\n-0 0\n", "refused 3 10"),
+    ("two zeros", b"p cnf 1 1\n1 00\n", "refused 3 12"),
+    ("plus one", b"p cnf 1 1\n\n\t+1 0\n", "refused 3 12"),
+    ("minus alone", b"p cnf 1 1\n- 0\n", "refused 3 10"),
+    ("seven digits as a literal", b"p cnf 1 1\n1000000 0\n", "refused 3 10"),
+    ("a comment after the problem line", b"p cnf 1 1\nc\n1 0\n", "refused 3 10"),
+    ("a carriage return after the zero", b"p cnf 1 1\n1 0\r\n", "refused 3 12"),
+    ("a byte of 0", b"p cnf 1 1\n1 0\x00\n", "refused 3 12"),
+    ("a byte of 255", b"p cnf 1 1\n\xff 0\n", "refused 3 10"),
+    ("variable 4 of 3", b"p cnf 3 1\n1 4 0\n", "refused 4 12"),
+    ("its negation", b"p cnf 3 1\n1 2 -4 0\n", "refused 4 14"),
+    ("six digits as a literal", b"p cnf 3 1\n999999 x\n", "refused 4 10"),
+    ("a literal without variables", b"c\np cnf 0 1\n1 0\n", "refused 4 12"),
+    ("literal 12,289", FULL + b"1 0\n", "refused 5 24586"),
+    ("no number as literal 12,289", FULL + b"x 0\n", "refused 3 24586"),
+    ("literal 12,289 beyond n", FULL + b"2 0\n", "refused 4 24586"),
+    ("literal 12,289 after the last clause", FULL + b"0 1 0\n", "refused 6 24588"),
+    ("a clause more", b"p cnf 2 1\n1 0\n2 0\n", "refused 6 14"),
+    ("a letter after the clauses", b"p cnf 0 0\n x\n", "refused 6 11"),
+    ("a literal beyond n after the clauses", b"p cnf 1 1\n1 0 2\n", "refused 6 14"),
+    ("a comment after the clauses", b"p cnf 0 0\nc\n", "refused 6 10"),
+    ("a clause less", b"p cnf 2 2\n1 2 0\n", "refused 6 16"),
+    ("a clause not closed", b"p cnf 2 1\n1 2\n\n", "refused 6 15"),
+]
+
+OFFERS = [
+    ("a letter as a name", b"1 x\n3 1", "refused 7 2"),
+    ("minus zero as a name", b" -0\n1", "refused 7 1"),
+    ("a carriage return after the names", b"1 3\r\n3 1", "refused 7 2"),
+    ("a letter after a bad name", b"4 x\n3 1", "refused 7 2"),
+    ("a % line as names", b"%\n3 1", "refused 7 0"),
+    ("name 4 of 3", b"1 4\n4 1", "refused 8 2"),
+    ("name 0", b"0\n0", "refused 8 0"),
+    ("a negative name", b"3 -1\n3 1", "refused 8 2"),
+    ("a name twice", b"1 1\n1 1", "refused 8 2"),
+    ("an empty names line", b"\n3 1", "refused 8 0"),
+    ("blanks as names", b" \t \n3 1", "refused 8 3"),
+    ("a bad name before a letter as a value", b"4\nx", "refused 8 0"),
+    ("a letter as a value", b"1 3\n3 x", "refused 9 2"),
+    ("a letter after a bad value", b"1 3\n3 3 x", "refused 9 4"),
+    ("a carriage return after the values", b"1 3\n3 1\r", "refused 9 2"),
+    ("a % line as values", b"1 3\n%", "refused 9 0"),
+    ("a letter in the second offer", b"1 3\n3 1\n1 x", "refused 9 2"),
+    ("a value that is no name", b"1 3\n2 1", "refused 10 0"),
+    ("a negative value", b"1 3\n3 -1", "refused 10 2"),
+    ("a value twice", b"1 3\n3 3", "refused 10 2"),
+    ("a value that is no name, and too few", b"1 3\n2", "refused 10 0"),
+    ("a value too few", b"1 3\n3", "refused 10 1"),
+    ("a value too few and a blank", b"1 3\n3 ", "refused 10 2"),
+    ("a value more", b"1 3\n3 1 1", "refused 10 4"),
+    ("no value", b"1 3\n\n3 1", "refused 10 0"),
+    ("no symmetry", b"1 2\n2 1", "refused 11 2"),
+    ("no symmetry in the second offer", b"1 2 3\n3 2 1\n1 3 2", "refused 11 1"),
+    ("two bad offers", b"1 2 3\n2 1 3\nx", "refused 11 2"),
+]
+
+MISSING = [
+    ("a unit", b"p cnf 2 1\n1 0\n", "refused 11 1"),
+    ("the other sign", b"p cnf 2 2\n1 0\n-2 0\n", "refused 11 1"),
+    ("another after equal sets", b"p cnf 2 4\n1 0\n2 2 0\n-1 0\n-1 0\n", "refused 11 3"),
+    ("less than a clause", b"p cnf 2 2\n1 2 0\n1 0\n", "refused 11 2"),
+    ("more than a clause", b"p cnf 2 2\n0\n1 0\n", "refused 11 2"),
+]
+
+
+class Program(unittest.TestCase):
+    def agree(self, data):
+        """What the program prints, which is what the reference prints."""
+        ended = subprocess.run([BREAKER], input=data, capture_output=True)
+        self.assertEqual(ended.returncode, 0, data)
+        self.assertEqual(ended.stderr, b"", data)
+        self.assertEqual(ended.stdout, reference.program(data), data)
+        return ended.stdout
+
+    def prints(self, data, expected):
+        """The program prints what was worked out by hand."""
+        self.assertEqual(self.agree(data), expected, data)
+
+    def table(self, cases, layout):
+        """Every case refused with its line; the numbers that came up."""
+        for name, part, expected in cases:
+            with self.subTest(name):
+                self.prints(layout % part, expected.encode() + b"\n")
+        return {int(expected.split()[1]) for _, _, expected in cases}
+
+    def test_listing(self):
+        self.prints(LISTING, MADE)
+
+    def test_input_in_pieces(self):
+        """Input that arrives byte by byte is read to its end."""
+        with subprocess.Popen([BREAKER], stdin=subprocess.PIPE, stdout=subprocess.PIPE, bufsize=0) as running:
+            for byte in LISTING:
+                running.stdin.write(bytes([byte]))
+                time.sleep(0.001)
+            running.stdin.close()
+            self.assertEqual(running.stdout.read(), MADE)
+
+    def test_length(self):
+        """65,536 bytes are read, wherever they are; 65,537 are 15, whatever they hold."""
+        for length, expected in [(65536, MADE), (65537, b"refused 15 0\n"), (65538, b"refused 15 0\n"), (300000, b"refused 15 0\n")]:
+            room = length - len(LISTING)
+            for data in [b"c" + b"x" * (room - 2) + b"\n" + LISTING, LISTING.rstrip() + b" " * room + b"\n", LISTING.replace(b"%", b"\n" * room + b"%")]:
+                self.assertEqual(len(data), length)
+                self.prints(data, expected)
+        text = b"p cnf 0 0" + b"\n" * 65526
+        self.prints(text + b"%", b"p cnf 0 0\n")
+        self.prints(text + b"\n%", b"refused 15 0\n")
+
+    def test_divider(self):
+        """Without a line that is just % it is 15, before all else; of several the first counts."""
+        for line, place in [(b"%%", 22), (b"% ", 22), (b" %", 23), (b"\t%", 23), (b"%\r", 22), (b"%x", 22), (b"c %", 22)]:
+            self.prints(LISTING.replace(b"%", line), b"refused 15 0\n")
+            self.prints(LISTING.replace(b"%", line + b"\n%"), b"refused 6 %d\n" % place)
+        for data in [b"", b"\n", b"x", PLAIN, b"p cnf 0 0%", b"p cnf 513 0\n", b"%%\n%\r\n"]:
+            self.prints(data, b"refused 15 0\n")
+        self.prints(b"p cnf 1 1\n1\n%\n0\n%\n", b"refused 6 12\n")
+        self.prints(PLAIN + b"%\n%\n1 3\n3 1\n", b"refused 7 0\n")
+
+    def test_lines(self):
+        """A last line feed starts no line; without value lines nothing is offered and the names line is not looked at."""
+        for after in [b"", b"\n", b"\n\n", b"\n1 3", b"\n1 3\n", b"\nrubbish", b"\n4 \xff x\n", b"\n%", b"\n%\n"]:
+            self.prints(PLAIN + b"%" + after, PLAIN)
+        for after, expected in [(b"\n1 3\n3 1", MADE), (b"\n1 3\n3 1\n", MADE), (b"\n1 3\n3 1\n\n", b"refused 10 0\n"), (b"\n1 3\n\n", b"refused 10 0\n"),
+                                (b"\n\n\n", b"refused 8 0\n"), (b"\nrubbish\n\n", b"refused 7 0\n"), (b"\n%\n%\n", b"refused 7 0\n")]:
+            self.prints(PLAIN + b"%" + after, expected)
+
+    def test_layout(self):
+        """Blanks, line ends and comments don't matter; order, repeats and empty clauses stay; the identity adds nothing."""
+        self.prints(b"c %\ncp cnf 9 9\r\np\tcnf  3 \t2 \n\n1\n2 0 2\t3 0\n \n%\n\t3  1 \n1\t3", MADE)
+        self.prints(b"p cnf 2 6\n0 1 1 0 1 -1 0 0 2 2 2 0 -2 2 0\n%\n2 1\n2 1\n1 2\n",
+                    b"p cnf 3 12\n0\n1 1 0\n1 -1 0\n0\n2 2 2 0\n-2 2 0\n-1 2 0\n-3 -1 2 0\n-3 1 -2 0\n3 1 2 0\n3 -1 -2 0\n-3 -2 1 0\n")
+        self.prints(b"p cnf 0 0\n%\n", b"p cnf 0 0\n")
+
+    def test_two_rows(self):
+        """Each row's clauses from its own side, with auxiliaries numbered on."""
+        self.prints(b"p cnf 3 1\n1 2 3 0\n%\n1 2 3\n2 3 1\n3 1 2\n",
+                    b"p cnf 7 25\n1 2 3 0\n"
+                    b"-1 2 0\n-4 -1 2 0\n-4 1 -2 0\n4 1 2 0\n4 -1 -2 0\n-4 -2 3 0\n"
+                    b"-5 4 0\n-5 -2 3 0\n-5 2 -3 0\n5 -4 2 3 0\n5 -4 -2 -3 0\n-5 -3 1 0\n"
+                    b"-1 3 0\n-6 -1 3 0\n-6 1 -3 0\n6 1 3 0\n6 -1 -3 0\n-6 -2 1 0\n"
+                    b"-7 6 0\n-7 -2 1 0\n-7 2 -1 0\n7 -6 2 1 0\n7 -6 -2 -1 0\n-7 -3 2 0\n")
+
+    def test_refusals(self):
+        found = self.table(OPENINGS, b"%b%%\n1 3\n3 1\n") | self.table(OFFERS, PLAIN + b"%%\n%b\n") | self.table(MISSING, b"%b%%\n1 2\n2 1\n")
+        self.assertEqual(found, set(range(1, 12)))
+
+    def test_rows_held(self):
+        """Row 64 is held, the next offer is 22 and not looked at; the identity counts."""
+        cycles = b"p cnf 3 1\n1 2 3 0\n%\n1 2 3\n" + b"2 3 1\n" * 63
+        self.assertTrue(self.agree(cycles + b"2 3 1\n").startswith(b"p cnf 131 769\n1 2 3 0\n"))
+        self.prints(cycles + b"x\n", b"refused 9 0\n")
+        for line in [b"2 3 1", b"1 2 3", b"x", b""]:
+            self.prints(cycles + b"2 3 1\n" + line + b"\n", b"refused 22 0\n")
+        identities = b"p cnf 2 0\n%\n1\n" + b"1\n" * 64
+        self.prints(identities, b"p cnf 2 0\n")
+        self.prints(identities + b"1", b"refused 22 0\n")
+
+    def test_random(self):
+        chance = random.Random(5)
+        refused, accepted = Counter(), Counter()
+        for _ in range(750):
+            n = chance.choice([0, 1, 2, 2, 3, 3, 4, 4, 5, 5, 6, 7, 8, 9])
+            data = generate.program_input(chance, n, 40)
+            for each in [data, generate.damaged_input(chance, data)]:
+                printed = self.agree(each)
+                if printed.startswith(b"refused"):
+                    refused[int(printed.split()[1])] += 1
+                else:
+                    accepted[generate.moving_rows(each)] += 1
+        for number in [1, 2, 3, 4, 6, 7, 8, 9, 10, 11, 15]:
+            self.assertGreater(refused[number], 5, number)
+        self.assertGreater(sum(times for rows, times in accepted.items() if rows >= 1), 200)
+        self.assertGreater(sum(times for rows, times in accepted.items() if rows >= 2), 100)
+
+    def test_many_rows(self):
+        """64 rows that move all of 256 variables: 97,920 clauses."""
+        chance = random.Random(6)
+        rows = [list(range(1, 257))] + [generate.cycle(chance, 256, 256) for _ in range(64)]
+        data = b"p cnf 256 0\n%\n" + b"".join(b" ".join(b"%d" % i for i in row) + b"\n" for row in rows)
+        self.assertLessEqual(len(data), 65536)
+        self.assertTrue(self.agree(data).startswith(b"p cnf 16576 97920\n"))
+
+    def test_many_clauses(self):
+        """4,096 clauses over 512 variables with two rows that move all; only the last one's image missing; 12,288 literals."""
+        chance = random.Random(7)
+        swap = [i + 1 if i % 2 else i - 1 for i in range(1, 513)]
+        halves = [[chance.choice([-1, 1]) * chance.randint(1, 512) for _ in range(2)] for _ in range(2048)]
+        clauses = [each for clause in halves for each in (clause, generate.image(clause, swap))]
+        names, values = (b" ".join(b"%d" % i for i in row) for row in (range(1, 513), swap))
+        text = b"p cnf 512 4096\n" + b"".join(b"%d %d 0\n" % tuple(clause) for clause in clauses)
+        self.assertTrue(self.agree(b"\n".join([text + b"%", names, values, values])).startswith(b"p cnf 1534 10228\n"))
+        self.prints(b"p cnf 2 4096\n" + b"1 2 0\n" * 4095 + b"1 0\n%\n1 2\n2 1\n", b"refused 11 4096\n")
+        self.prints(FULL + b"0\n%\n", FULL + b"0\n")
+
+
+if __name__ == "__main__":
+    unittest.main()

@@ -1,25 +1,16 @@
 // The made formula's clauses written page after page (document 01, "Quality figure and program"): a buffer is filled with as many lines as fit, and a
 // cursor says where the next page begins, so that no row is walked again for each clause. What carries the proofs: the clauses that are left decide
 // what a page holds (specs/Pages.antt), and each line that is added leaves that as it was.
-use lexleader::Place;
+use cursor::Cursor;
 use store::record::Record;
 ghost use mathlib.Core.Path.{_≡_};
 ghost use mathlib.Core.Bool.{true};
-ghost use mathlib.Core.List.{[], _∷_};
-ghost use Prim.Native.Nat.{_+_, _*_, _≤_, _<_};
-ghost use lib.ListN.{length, getD};
+ghost use mathlib.Core.List.{[]};
+ghost use Prim.Native.Nat.{_≤_, _<_};
+ghost use lib.ListN.{length};
 ghost use Rattle.store.specs.Stores.{lent, wellFormed};
-ghost use Rattle.lexleader.specs.Made.{rowsClauses};
-ghost use Rattle.lexleader.specs.Places.{clausesAt};
-ghost use Rattle.emit.specs.Emit.{madeOf};
-ghost use Rattle.pages.specs.Pages.{Filled, fillFrom, rowAt, rowsLeft, addedLeft, clausesLeft, Points, longest, Goes};
-
-// Where writing goes on: how many plain clauses are written, the row whose clauses come next, and the place among them.
-pub struct Cursor {
-    pub plain: usize,
-    pub row: usize,
-    pub place: Place,
-}
+ghost use Rattle.cursor.specs.Cursors.{clausesLeft, Points};
+ghost use Rattle.pages.specs.Pages.{Filled, fillFrom, longest, Goes};
 
 // How many bytes of the buffer a page has, and where the next one begins.
 pub struct Page {
@@ -31,15 +22,6 @@ pub struct Page {
 pub struct Line {
     pub at: usize,
     pub cursor: Cursor,
-}
-
-// The cursor before the first clause.
-pub fn start(counts: Record, literals: &[u16], ends: &[u16], images: &[u16]) -> Cursor
-    requires { ⌜ wellFormed (lent counts (now literals) (now ends) (now images)) ≡ true ⌝ }
-    ensures points { λ r. ⌜ Points counts (now (images .entry)) r ⌝ }
-    ensures left { λ r. ⌜ clausesLeft (lent counts (now (literals .entry)) (now (ends .entry)) (now (images .entry))) r ≡ madeOf (lent counts (now (literals .entry)) (now (ends .entry)) (now (images .entry))) ⌝ }
-{
-    row_from(counts, images, 0, 0, counts.variables as u32 + 1)
 }
 
 // Fills a buffer with the lines of as many clauses as fit, from a cursor on.
@@ -148,7 +130,7 @@ fn add_added(
     let to = from + counts.variables;
     let place = cursor.place;
     let clause = lexleader::clause_at(&images[from..to], place);
-    let next = next_cursor(counts, images, cursor);
+    let next = cursor::next_cursor(counts, images, cursor);
     let codes = clause.literals;
     let count = clause.count;
     let size = render::clause_length(&codes[..count]);
@@ -162,72 +144,5 @@ fn add_added(
     Line {
         at: past,
         cursor: next,
-    }
-}
-
-// The cursor after the clause at one, in the same row or a later one.
-fn next_cursor(counts: Record, images: &[u16], cursor: Cursor) -> Cursor
-    requires { ⌜ (counts .variables ≤ 512) × (counts .rows ≤ 64) × (counts .rows * counts .variables ≤ length (now images)) × Points counts (now images) cursor × (cursor .row < counts .rows) ⌝ }
-    ensures points { λ r. ⌜ Points counts (now (images .entry)) r × (r .plain ≡ cursor .plain) ⌝ }
-    ensures left { λ r. ⌜ addedLeft (rowsLeft counts (now (images .entry)) (cursor .row)) (cursor .place) ≡ getD (clausesAt (rowAt counts (now (images .entry)) (cursor .row)) (cursor .place)) 0 [] ∷ addedLeft (rowsLeft counts (now (images .entry)) (r .row)) (r .place) ⌝ }
-{
-    let from = cursor.row * counts.variables;
-    let to = from + counts.variables;
-    let here = cursor.place;
-    let place = lexleader::next_place(&images[from..to], here);
-    if place.index < counts.variables {
-        return Cursor {
-            plain: cursor.plain,
-            row: cursor.row,
-            place: place,
-        };
-    }
-    row_from(
-        counts,
-        images,
-        cursor.plain,
-        cursor.row + 1,
-        place.auxiliary,
-    )
-}
-
-// The cursor at the first clause that a row or a later one adds, where e is the row's first auxiliary.
-fn row_from(counts: Record, images: &[u16], plain: usize, row: usize, e: u32) -> Cursor
-    requires { ⌜ (counts .variables ≤ 512) × (counts .rows ≤ 64) × (counts .rows * counts .variables ≤ length (now images)) × (plain ≤ counts .clauses) × (row ≤ counts .rows) × (e ≤ 513 + 512 * row) ⌝ }
-    ensures points { λ r. ⌜ Points counts (now (images .entry)) r × (r .plain ≡ plain) ⌝ }
-    ensures left { λ r. ⌜ addedLeft (rowsLeft counts (now (images .entry)) (r .row)) (r .place) ≡ rowsClauses e (rowsLeft counts (now (images .entry)) row) ⌝ }
-{
-    let n = counts.variables;
-    let mut first = e;
-    let mut r = row;
-    while r < counts.rows {
-        let from = r * n;
-        let to = from + n;
-        let place = lexleader::first_place(&images[from..to], first);
-        if place.index < n {
-            return Cursor {
-                plain: plain,
-                row: r,
-                place: place,
-            };
-        }
-        first = place.auxiliary;
-        r += 1;
-    }
-    Cursor {
-        plain: plain,
-        row: r,
-        place: nowhere(),
-    }
-}
-
-// The place of a cursor past all rows.
-fn nowhere() -> Place {
-    Place {
-        index: 0,
-        next: 0,
-        auxiliary: 0,
-        r: 1,
-        first: false,
     }
 }

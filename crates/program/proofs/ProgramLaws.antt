@@ -16,8 +16,9 @@ use Rattle.render.proofs.LineLaws.{length-header, length-refusal}
 use Rattle.render.proofs.DigitLaws.{digits-some, digits-most}
 use Rattle.emit.specs.Emit.{madeOf, variablesOf, clausesOf, headerOf, linesOf, textOf}
 use Rattle.emit.proofs.WrittenLaws.{at-start}
-use Rattle.pages.specs.Pages.{Filled, fillFrom, clausesLeft, Points, longest}
-use Rattle.pages.specs.declared.Cursor.{Cursor}
+use Rattle.cursor.specs.Cursors.{clausesLeft, Points}
+use Rattle.cursor.specs.declared.Cursor.{Cursor}
+use Rattle.pages.specs.Pages.{Filled, fillFrom, longest}
 use Rattle.pages.proofs.PageLaws.{Holds, holds}
 use Rattle.session.specs.Session.{Ended, ended, saidAnswer, sessionOf}
 use Rattle.session.specs.declared.Answer.{Answer}
@@ -43,6 +44,9 @@ module _ (s : Store) (stage next : Stage) (line out : List ℕ) (is : left stage
         stands = stands;
       }
 
+pub refusal-room : (number place room : ℕ) → longest ≤ room → 0 + length (refusalLine number place) ≤ room
+refusal-room number place room h = omega (arith, length-refusal number place, digits-most number, digits-most place)
+
 pub refused-goes : (s : Store) (refusal : Refusal) (out : List ℕ) → longest ≤ length out → (number place bytes : ℕ) (after : List ℕ) → number ≡ numberOf refusal
     → place ≡ placeOf refusal → bytes ≡ 0 + length (refusalLine number place) → after ≡ writtenAt 0 (refusalLine number place) out
     → Goes s (Stage.Refused refusal) out Stage.Over bytes after
@@ -50,7 +54,7 @@ unfolding left
 refused-goes s refusal out room number place bytes after n p b a =
     let l = length-refusal number place in
     line-goes s (Stage.Refused refusal) Stage.Over (refusalLine number place) out (rw (n, p) (sym (append-nil (refusalLine (numberOf refusal) (placeOf refusal)))))
-    (omega arith) (omega (arith, digits-most number, digits-most place)) tt bytes after b a
+    (omega arith) (omega (arith, refusal-room number place (length out) room)) tt bytes after b a
 
 pub header-goes : (s : Store) → wellFormed s ≡ true → (out : List ℕ) → longest ≤ length out → (variables clauses bytes : ℕ) (after : List ℕ)
     → variables ≡ variablesOf s → clauses ≡ clausesOf s → bytes ≡ 0 + length (headerLine variables clauses) → after ≡ writtenAt 0 (headerLine variables clauses) out

@@ -9,7 +9,7 @@ use Rattle.store.specs.Refusals.{Said, done, refused, numberOf, placeOf}
 use Rattle.store.specs.Stores.{Store, wellFormed}
 use Rattle.render.specs.Text.{refusalLine}
 use Rattle.emit.specs.Emit.{linesOf, textOf}
-use Rattle.pages.specs.Pages.{clausesLeft, Points}
+use Rattle.cursor.specs.Cursors.{clausesLeft, Points}
 use Rattle.symbreak.specs.Calls.{Accepted}
 use Rattle.session.specs.Session.{sessionOf}
 use Rattle.program.specs.declared.Stage.{Stage}

@@ -1,6 +1,6 @@
 // All that the program decides (document 01, "Quality figure and program"), on slices: `begin` opens and offers what an input states, and `page` puts the
 // next part of the output into a buffer. The program itself only reads, calls these and writes.
-use pages::Cursor;
+use cursor::Cursor;
 use session::Answer;
 use store::record::Record;
 use store::refusal::Refusal;
@@ -96,7 +96,7 @@ fn header(counts: Record, literals: &[u16], ends: &[u16], images: &[u16], out: &
     let bytes = render::put_header(out, 0, total.variables as u64, total.clauses as u64);
     Printed {
         bytes: bytes,
-        stage: Stage::Clauses(pages::start(counts, literals, ends, images)),
+        stage: Stage::Clauses(cursor::start(counts, literals, ends, images)),
     }
 }
 

@@ -11,9 +11,10 @@ use Rattle.lexleader.specs.Clause.{Holds}
 use Rattle.lexleader.specs.Places.{clausesAt}
 use Rattle.lexleader.proofs.Left.{part-is, room, row-size}
 use Rattle.render.specs.Text.{clauseLine, writtenAt}
-use Rattle.pages.specs.Pages.{rowAt}
-use Rattle.pages.proofs.RowLaws.{row-part}
-use Rattle.pages.proofs.FillLaws.{full, adds, past-plain}
+use Rattle.cursor.specs.Cursors.{rowAt}
+use Rattle.cursor.proofs.RowLaws.{row-part}
+use Rattle.pages.proofs.FillLaws.{full, adds}
+use Rattle.cursor.proofs.CursorLaws.{past-plain}
 use borrow.Author.Needs.{needs}
 use Rattle.pages.proofs.add_added.Statement.{statement}
 use Rattle.pages.proofs.add_added.Tie as tie

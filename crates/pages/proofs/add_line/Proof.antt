@@ -1,8 +1,9 @@
 -- `pages::add_line` meets its contract: a plain clause, one that a row adds, or nothing left. Assumes nothing.
 use mathlib.Core.Path.{_∙_}
 use Rattle.store.specs.Stores.{Store, lent}
-use Rattle.pages.proofs.RowLaws.{nothing-added}
-use Rattle.pages.proofs.FillLaws.{over, past-plain}
+use Rattle.cursor.proofs.RowLaws.{nothing-added}
+use Rattle.pages.proofs.FillLaws.{over}
+use Rattle.cursor.proofs.CursorLaws.{past-plain}
 use borrow.Author.Needs.{needs}
 use Rattle.pages.proofs.add_line.Statement.{statement}
 use Rattle.pages.proofs.add_line.Tie as tie

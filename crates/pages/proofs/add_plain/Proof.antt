@@ -7,7 +7,8 @@ use lib.ListN.{length, getD, take, drop, length-take, length-drop}
 use Rattle.store.specs.Stores.{Store, lent, maxLiterals, plainOf}
 use Rattle.store.proofs.Formed.{formed}
 use Rattle.render.specs.Text.{clauseLine, writtenAt}
-use Rattle.pages.proofs.FillLaws.{full, adds, next-plain, bounds, rises, plain-part}
+use Rattle.pages.proofs.FillLaws.{full, adds}
+use Rattle.cursor.proofs.CursorLaws.{next-plain, bounds, rises, plain-part}
 use borrow.Author.Needs.{needs}
 use Rattle.pages.proofs.add_plain.Statement.{statement}
 use Rattle.pages.proofs.add_plain.Tie as tie

@@ -6,7 +6,8 @@ use Prim.Native.Nat.{_+_, _-_, _≤_}
 use native.Mathlib.Omega.{arith}
 use lib.ListN.{length}
 use Rattle.store.specs.Stores.{Store, lent}
-use Rattle.pages.specs.Pages.{fillFrom, clausesLeft, Points, longest}
+use Rattle.pages.specs.Pages.{fillFrom, longest}
+use Rattle.cursor.specs.Cursors.{clausesLeft, Points}
 use borrow.Author.Needs.{needs}
 use Rattle.pages.proofs.fill.Statement.{statement}
 use Rattle.pages.proofs.fill.Tie as tie

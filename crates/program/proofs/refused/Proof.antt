@@ -1,9 +1,5 @@
 -- `program::refused` meets its contract: the page is one line. Assumes nothing.
-use Prim.Native.Nat.{_≤_}
-use native.Mathlib.Omega.{arith}
-use Rattle.render.proofs.DigitLaws.{digits-most}
-use Rattle.render.proofs.LineLaws.{length-refusal}
-use Rattle.program.proofs.ProgramLaws.{refused-goes}
+use Rattle.program.proofs.ProgramLaws.{refusal-room, refused-goes}
 use borrow.Author.Needs.{needs}
 use Rattle.program.proofs.refused.Statement.{statement}
 use Rattle.program.proofs.refused.Tie as tie
@@ -18,11 +14,7 @@ place-requires : tie.Need-place-requires
 place-requires c κs = search needs
 
 put-refusal-requires : tie.Need-put-refusal-requires
-put-refusal-requires c κs =
-    let p = c .before in
-    let n = p .before in
-    let s = n .before .before in
-    omega (arith, s .pre, length-refusal (n .number .result) (p .place .result), digits-most (n .number .result), digits-most (p .place .result))
+put-refusal-requires c κs = refusal-room _ _ _ (c .before .before .before .before .pre)
 
 same-length : tie.Need-same-length
 same-length c = search needs

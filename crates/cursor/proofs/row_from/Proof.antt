@@ -1,4 +1,4 @@
--- `pages::row_from` meets its contract. The invariant: what the rows from `row` on add is what those from r on add, whose first auxiliary is `first`.
+-- `cursor::row_from` meets its contract. The invariant: what the rows from `row` on add is what those from r on add, whose first auxiliary is `first`.
 -- Assumes nothing.
 use mathlib.Core.Path.{_≡_, refl, sym, ap, _∙_}
 use mathlib.Core.List.{List}
@@ -8,11 +8,11 @@ use lib.ListN.{length, length-take, length-drop}
 use Rattle.lexleader.specs.Made.{rowsClauses}
 use Rattle.lexleader.specs.declared.Place.{Place}
 use Rattle.lexleader.proofs.Left.{room}
-use Rattle.pages.specs.Pages.{rowAt, rowsLeft, addedLeft}
-use Rattle.pages.proofs.RowLaws.{First, row-part, none-added, first-here, first-points, first-past, first-few}
+use Rattle.cursor.specs.Cursors.{rowAt, rowsLeft, addedLeft}
+use Rattle.cursor.proofs.RowLaws.{First, row-part, none-added, first-here, first-points, first-past, first-few}
 use borrow.Author.Needs.{needs}
-use Rattle.pages.proofs.row_from.Statement.{statement}
-use Rattle.pages.proofs.row_from.Tie as tie
+use Rattle.cursor.proofs.row_from.Statement.{statement}
+use Rattle.cursor.proofs.row_from.Tie as tie
 
 abbrev Inv-loop : tie.InvT-loop
 Inv-loop counts images plain row e n first₀ r₀ first r =

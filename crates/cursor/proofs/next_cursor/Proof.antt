@@ -1,4 +1,4 @@
--- `pages::next_cursor` meets its contract: the row's next place, or the first of a later row. Assumes nothing.
+-- `cursor::next_cursor` meets its contract: the row's next place, or the first of a later row. Assumes nothing.
 use mathlib.Core.Path.{_≡_, refl, sym, ap, _∙_}
 use mathlib.Core.List.{List, _∷_, []}
 use Prim.Native.Nat.{ℕ, _+_, _*_, _≤_}
@@ -6,11 +6,11 @@ use native.Mathlib.Omega.{arith}
 use lib.ListN.{length, getD}
 use Rattle.lexleader.specs.Places.{clausesAt}
 use Rattle.lexleader.proofs.Left.{part-is, room, row-size}
-use Rattle.pages.specs.Pages.{rowAt}
-use Rattle.pages.proofs.RowLaws.{After, row-part, after-here, after-points, after-past, after-few}
+use Rattle.cursor.specs.Cursors.{rowAt}
+use Rattle.cursor.proofs.RowLaws.{After, row-part, after-here, after-points, after-past, after-few}
 use borrow.Author.Needs.{needs}
-use Rattle.pages.proofs.next_cursor.Statement.{statement}
-use Rattle.pages.proofs.next_cursor.Tie as tie
+use Rattle.cursor.proofs.next_cursor.Statement.{statement}
+use Rattle.cursor.proofs.next_cursor.Tie as tie
 
 -- there is room for the cursor's row
 fits : (c : tie.Start) → c .args .cursor .row * c .args .counts .variables + c .args .counts .variables ≤ length (c .args .images .now)

@@ -1,11 +1,11 @@
--- `pages::start` meets its contract: no plain clause is written yet, and the rows' clauses begin with the first row. Assumes nothing.
+-- `cursor::start` meets its contract: no plain clause is written yet, and the rows' clauses begin with the first row. Assumes nothing.
 use native.Mathlib.Omega.{arith}
 use Rattle.store.specs.Stores.{Store, lent}
 use Rattle.store.proofs.Formed.{Formed, formed}
-use Rattle.pages.proofs.FillLaws.{begins}
+use Rattle.cursor.proofs.CursorLaws.{begins}
 use borrow.Author.Needs.{needs}
-use Rattle.pages.proofs.start.Statement.{statement}
-use Rattle.pages.proofs.start.Tie as tie
+use Rattle.cursor.proofs.start.Statement.{statement}
+use Rattle.cursor.proofs.start.Tie as tie
 
 abbrev S : tie.Start → Store
 S c = lent (c .args .counts) (c .args .literals .now) (c .args .ends .now) (c .args .images .now)

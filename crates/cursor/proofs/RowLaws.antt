@@ -10,8 +10,8 @@ use Rattle.lexleader.specs.Places.{clausesAt, auxiliaryAfter, Stands}
 use Rattle.lexleader.specs.declared.Place.{Place}
 use Rattle.lexleader.proofs.Left.{part-is, left-step, left-end, row-size, auxiliaries-most}
 use Rattle.lexleader.proofs.Places.{past}
-use Rattle.pages.specs.Pages.{rowAt, rowsLeft, addedLeft, Points}
-use Rattle.pages.specs.declared.Cursor.{Cursor}
+use Rattle.cursor.specs.Cursors.{rowAt, rowsLeft, addedLeft, Points}
+use Rattle.cursor.specs.declared.Cursor.{Cursor}
 
 -- p is the place of a row's first clause, whose first auxiliary is e
 abbrev pub First : ℕ → List ℕ → Place → Type 0

@@ -1,11 +1,13 @@
 -- Where a cursor begins, and the clause at it: a plain one, with its literals, or past the plain ones what the rows add. Assumes nothing.
 use mathlib.Core.Path.{_≡_, sym, ap, ap₂, _∙_}
 use mathlib.Core.Bool.{true}
+use mathlib.Core.Logic.{_⊎_, inl, inr}
 use mathlib.Core.List.{List, [], _∷_, _++_}
 use Prim.Native.Nat.{ℕ, _+_, _-_, _≤_, _<_}
 use native.Mathlib.Omega.{arith}
-use lib.ListN.{getD, take, drop, drop-of-length-le}
+use lib.ListN.{length, getD, take, drop, drop-of-length-le}
 use lib.Seq.{slice}
+use Rattle.lists.proofs.Cases.{lt-or-le}
 use Rattle.lists.proofs.Steps.{drop-step}
 use Rattle.store.specs.Stores.{Store, literalCount, plainOf, heldRows, wellFormed}
 use Rattle.store.proofs.Formed.{formed as facts}
@@ -17,6 +19,7 @@ use Rattle.emit.proofs.Ranges.{Range, range}
 use Rattle.emit.proofs.WrittenLaws.{part-slice}
 use Rattle.cursor.specs.Cursors.{rowsLeft, addedLeft, clausesLeft}
 use Rattle.cursor.specs.declared.Cursor.{Cursor}
+use Rattle.cursor.proofs.RowLaws.{nothing-added}
 
 -- ---- where writing begins
 
@@ -27,6 +30,10 @@ unfolding clausesLeft madeOf made heldRows
 begins s c none all =
     let n = s .counts .variables in
     rw (none, all) (ap (λ (rows : List (List ℕ)). plainOf s ++ rowsClauses (n + 1) rows) (left-all n (s .counts .rows) (s .images)))
+
+-- the first clause is the head
+pub by-head : {l : List (List ℕ)} {x : List ℕ} {r : List (List ℕ)} → l ≡ x ∷ r → l ≡ getD l 0 [] ∷ r
+by-head e = rw e
 
 -- ---- the next clause
 
@@ -61,3 +68,18 @@ module _ (s : Store) (formed : wellFormed s ≡ true) (c : Cursor) where
   pub past-plain : s .counts .clauses ≤ c .plain → clausesLeft s c ≡ added
   unfolding clausesLeft
   past-plain h = ap (λ (l : List (List ℕ)). l ++ added) (drop-of-length-le (plainOf s) {i = c .plain} (omega (arith, plain-length s formed)))
+
+  -- where a clause is left, and it is no plain one, a row is left
+  pub some-row : s .counts .clauses ≤ c .plain → 0 < length (clausesLeft s c) → c .row < s .counts .rows
+  some-row h some = go (lt-or-le (c .row) (s .counts .rows))
+    where
+      go : (c .row < s .counts .rows) ⊎ (s .counts .rows ≤ c .row) → c .row < s .counts .rows
+      go (inl l) = l
+      go (inr l) = absurd (omega (arith, ap length (past-plain h ∙ nothing-added (s .counts) (s .images) (c .row) l (c .place))))
+
+-- past a clause that a row adds
+pub next-there : (s : Store) → wellFormed s ≡ true → (c d : Cursor) → s .counts .clauses ≤ c .plain → d .plain ≡ c .plain → (x : List ℕ)
+    → addedLeft (rowsLeft (s .counts) (s .images) (c .row)) (c .place) ≡ x ∷ addedLeft (rowsLeft (s .counts) (s .images) (d .row)) (d .place)
+    → clausesLeft s c ≡ getD (clausesLeft s c) 0 [] ∷ clausesLeft s d
+next-there s formed c d h same x e =
+    by-head (past-plain s formed c h ∙ e ∙ ap (λ (l : List (List ℕ)). x ∷ l) (sym (past-plain s formed d (omega arith))))

@@ -3,13 +3,13 @@ use mathlib.Core.Path.{_≡_, sym, ap, ap₂, subst, _∙_}
 use mathlib.Core.List.{List, [], _∷_, _++_}
 use Prim.Native.Nat.{ℕ, _+_, _-_, _*_, _≤_, _<_}
 use native.Mathlib.Omega.{arith}
-use lib.ListN.{length, getD, take, drop}
+use lib.ListN.{length, getD, take, drop, List·getD-append}
 use Rattle.store.specs.declared.record.Record.{Record}
 use Rattle.lexleader.specs.Made.{rowClauses, auxiliaries, rowsClauses}
 use Rattle.lexleader.specs.Places.{clausesAt, auxiliaryAfter, Stands}
 use Rattle.lexleader.specs.declared.Place.{Place}
 use Rattle.lexleader.proofs.Left.{part-is, left-step, left-end, row-size, auxiliaries-most}
-use Rattle.lexleader.proofs.Places.{past}
+use Rattle.lexleader.proofs.Places.{past, some-clause}
 use Rattle.cursor.specs.Cursors.{rowAt, rowsLeft, addedLeft, Points}
 use Rattle.cursor.specs.declared.Cursor.{Cursor}
 
@@ -51,6 +51,13 @@ module _ (counts : Record) (images : List ℕ) where
     added-here : (p : Place) → addedLeft (rowsLeft counts images r) p ≡ clausesAt row p ++ rowsClauses (auxiliaryAfter row p) later
     unfolding addedLeft
     added-here p = ap (λ (rows : List (List ℕ)). addedLeft rows p) here
+
+    -- the clause at a place where one stands
+    pub here-first : (p : Place) → Stands row p → p .index < counts .variables → counts .rows * counts .variables ≤ length images
+        → getD (addedLeft (rowsLeft counts images r) p) 0 [] ≡ getD (clausesAt row p) 0 []
+    here-first p s inside fits =
+        let some = some-clause row p s (omega (arith, row-size (counts .variables) (counts .rows) images fits r h)) in
+        ap (λ (l : List (List ℕ)). getD l 0 []) (added-here p) ∙ List·getD-append (clausesAt row p) (rowsClauses (auxiliaryAfter row p) later) [] 0 some
 
     -- ---- a row's first place
 

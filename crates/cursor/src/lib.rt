@@ -30,8 +30,31 @@ pub fn start(counts: Record, literals: &[u16], ends: &[u16], images: &[u16]) -> 
     row_from(counts, images, 0, 0, counts.variables as u32 + 1)
 }
 
-// The cursor after the clause at one, in the same row or a later one.
-pub fn next_cursor(counts: Record, images: &[u16], cursor: Cursor) -> Cursor
+// The cursor after the clause at one.
+pub fn next(
+    counts: Record,
+    literals: &[u16],
+    ends: &[u16],
+    images: &[u16],
+    cursor: Cursor,
+) -> Cursor
+    requires { ⌜ (wellFormed (lent counts (now literals) (now ends) (now images)) ≡ true) × Points counts (now images) cursor × (0 < length (clausesLeft (lent counts (now literals) (now ends) (now images)) cursor)) ⌝ }
+    ensures points { λ r. ⌜ Points counts (now (images .entry)) r ⌝ }
+    ensures left { λ r. ⌜ clausesLeft (lent counts (now (literals .entry)) (now (ends .entry)) (now (images .entry))) cursor ≡ getD (clausesLeft (lent counts (now (literals .entry)) (now (ends .entry)) (now (images .entry))) cursor) 0 [] ∷ clausesLeft (lent counts (now (literals .entry)) (now (ends .entry)) (now (images .entry))) r ⌝ }
+{
+    if cursor.plain < counts.clauses {
+        let place = cursor.place;
+        return Cursor {
+            plain: cursor.plain + 1,
+            row: cursor.row,
+            place: place,
+        };
+    }
+    next_added(counts, images, cursor)
+}
+
+// The cursor after a clause that a row adds, in the same row or a later one.
+pub fn next_added(counts: Record, images: &[u16], cursor: Cursor) -> Cursor
     requires { ⌜ (counts .variables ≤ 512) × (counts .rows ≤ 64) × (counts .rows * counts .variables ≤ length (now images)) × Points counts (now images) cursor × (cursor .row < counts .rows) ⌝ }
     ensures points { λ r. ⌜ Points counts (now (images .entry)) r × (r .plain ≡ cursor .plain) ⌝ }
     ensures left { λ r. ⌜ addedLeft (rowsLeft counts (now (images .entry)) (cursor .row)) (cursor .place) ≡ getD (clausesAt (rowAt counts (now (images .entry)) (cursor .row)) (cursor .place)) 0 [] ∷ addedLeft (rowsLeft counts (now (images .entry)) (r .row)) (r .place) ⌝ }

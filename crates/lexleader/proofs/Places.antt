@@ -191,6 +191,14 @@ module _ (row : List ℕ) (p : Place) where
       unfolding auxiliaryAfter
       after-next = omega (arith, ap length two, ap length here-next)
 
+-- a clause stands at every place but the last
+pub some-clause : (row : List ℕ) (p : Place) → Stands row p → p .index < length row → 0 < length (clausesAt row p)
+some-clause row p s h = go (lt-or-le (p .next) (length row))
+  where
+    go : (p .next < length row) ⊎ (length row ≤ p .next) → 0 < length (clausesAt row p)
+    go (inl l) = omega (arith, ap length (step row p s h l))
+    go (inr l) = let last : p .next ≡ length row = omega (arith, s .then h .within) in omega (arith, ap length (then-one row p s h last))
+
 -- ---- a row's first pair
 
 module _ (row : List ℕ) (e index : ℕ) (n : Next row 0 index) where

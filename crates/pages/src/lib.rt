@@ -130,7 +130,7 @@ fn add_added(
     let to = from + counts.variables;
     let place = cursor.place;
     let clause = lexleader::clause_at(&images[from..to], place);
-    let next = cursor::next_cursor(counts, images, cursor);
+    let next = cursor::next_added(counts, images, cursor);
     let codes = clause.literals;
     let count = clause.count;
     let size = render::clause_length(&codes[..count]);

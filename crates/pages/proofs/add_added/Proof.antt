@@ -65,8 +65,8 @@ clause-at-requires c κs =
     let size = row-size (a .counts .variables) (a .counts .rows) (a .images .now) (f .images-long) (a .cursor .row) (s .pre .4) in
     rw (part-is (a .counts .variables) (a .cursor .row) (a .images .now)) (omega (arith, f .variables-fit), s .pre .1 .place (s .pre .4), omega (arith, s .pre .1 .there (s .pre .4)))
 
-next-cursor-requires : tie.Need-next-cursor-requires
-next-cursor-requires c κs = let s = c .before .before .before .before .before .before .before .before .before .before in let f = facts s in (f .variables-fit, f .rows-fit, f .images-long, s .pre .1, s .pre .4)
+next-added-requires : tie.Need-next-added-requires
+next-added-requires c κs = let s = c .before .before .before .before .before .before .before .before .before .before in let f = facts s in (f .variables-fit, f .rows-fit, f .images-long, s .pre .1, s .pre .4)
 
 array-share-prefix-codes : tie.Need-array-share-prefix-codes
 array-share-prefix-codes c = let h = c .before .before .clause-at .ensures in omega (arith, h .few, h .room)
@@ -87,7 +87,7 @@ returns c =
     let s = k .before .before .before .before .before .before .before .before .before .before in
     let k2 = n .before .before .before in
     let line = ap (λ (x : List ℕ). length (clauseLine x)) (holds k .are) in
-    full (S s) (s .args .cursor) (s .pre .1) (s .args .at) (s .args .out .now) (s .pre .2) _ _ (past-plain (S s) (s .pre .0) (s .args .cursor) (s .pre .3) ∙ k2 .next-cursor .ensures .1)
+    full (S s) (s .args .cursor) (s .pre .1) (s .args .at) (s .args .out .now) (s .pre .2) _ _ (past-plain (S s) (s .pre .0) (s .args .cursor) (s .pre .3) ∙ k2 .next-added .ensures .1)
     (omega (arith, ap length (holds k .are), size k, holds k .few)) (omega (arith, line, n .clause-length .ensures, c .if1 .taken))
 
 array-share-prefix-codes-2 : tie.Need-array-share-prefix-codes-2
@@ -116,10 +116,10 @@ returns-2 c =
     let s = k .before .before .before .before .before .before .before .before .before .before in
     let line = ap (λ (x : List ℕ). length (clauseLine x)) (holds k .are) in
     let nc = n .before .before .before in
-    let next = nc .next-cursor .ensures in
+    let next = nc .next-added .ensures in
     adds (S s) (s .args .cursor) (s .pre .1) (s .args .at) (s .args .out .now) (s .pre .2) _ _ (past-plain (S s) (s .pre .0) (s .args .cursor) (s .pre .3) ∙ next .1)
     (omega (arith, line, n .clause-length .ensures, w .before .before .before .if1 .left)) _ (next .0 .0)
-    (past-plain (S s) (s .pre .0) (nc .next-cursor .result) (omega (arith, s .pre .3, next .0 .1))) _ _
+    (past-plain (S s) (s .pre .0) (nc .next-added .result) (omega (arith, s .pre .3, next .0 .1))) _ _
     (omega (arith, line, w .put-clause .ensures .0))
     (w .put-clause .ensures .1 ∙ ap (λ (x : List ℕ). writtenAt (s .args .at) (clauseLine x) (s .args .out .now)) (holds k .are))
 
@@ -134,7 +134,7 @@ add-added-spec =
     part-clause-at-start
     part-clause-at-end
     clause-at-requires
-    next-cursor-requires
+    next-added-requires
     array-share-prefix-codes
     slice-aggregate-clause-length
     clause-length-requires

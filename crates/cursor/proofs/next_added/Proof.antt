@@ -1,4 +1,4 @@
--- `cursor::next_cursor` meets its contract: the row's next place, or the first of a later row. Assumes nothing.
+-- `cursor::next_added` meets its contract: the row's next place, or the first of a later row. Assumes nothing.
 use mathlib.Core.Path.{_≡_, refl, sym, ap, _∙_}
 use mathlib.Core.List.{List, _∷_, []}
 use Prim.Native.Nat.{ℕ, _+_, _*_, _≤_}
@@ -9,8 +9,8 @@ use Rattle.lexleader.proofs.Left.{part-is, room, row-size}
 use Rattle.cursor.specs.Cursors.{rowAt}
 use Rattle.cursor.proofs.RowLaws.{After, row-part, after-here, after-points, after-past, after-few}
 use borrow.Author.Needs.{needs}
-use Rattle.cursor.proofs.next_cursor.Statement.{statement}
-use Rattle.cursor.proofs.next_cursor.Tie as tie
+use Rattle.cursor.proofs.next_added.Statement.{statement}
+use Rattle.cursor.proofs.next_added.Tie as tie
 
 -- there is room for the cursor's row
 fits : (c : tie.Start) → c .args .cursor .row * c .args .counts .variables + c .args .counts .variables ≤ length (c .args .images .now)
@@ -77,8 +77,8 @@ returns-2 c =
     let past = after-past (a .counts) (a .images .now) (a .cursor .row) (s .pre .4) (a .cursor .place) (n .next-place .result) (found n) (s .pre .2) (search needs) in
     (c .row-from .ensures .0, past ∙ ap (λ (l : List (List ℕ)). head ∷ l) (sym (c .row-from .ensures .1)))
 
-pub next-cursor-spec : {M : Type 1} → statement M
-next-cursor-spec =
+pub next-added-spec : {M : Type 1} → statement M
+next-added-spec =
     tie.close
     (tie.spec
     mul-from

@@ -1,0 +1,107 @@
+-- `checking::first_false` meets its contract. The invariant: the first false clause of all is that of the clauses from the cursor on, the first of which has
+-- the number q. Assumes nothing.
+use mathlib.Core.Path.{_≡_, sym, ap, _∙_}
+use mathlib.Core.Bool.{Bool}
+use mathlib.Core.List.{List}
+use Prim.Native.Nat.{ℕ, _+_, _-_}
+use native.Mathlib.Omega.{arith}
+use borrow.Author.Tests.{not-true, not-false}
+use lib.ListN.{length}
+use Rattle.packed.specs.Words.{bitsOf}
+use Rattle.packed.specs.Order.{valueOf}
+use Rattle.store.specs.Stores.{Store, lent}
+use Rattle.emit.specs.Emit.{variablesOf, clausesOf}
+use Rattle.cursor.specs.Cursors.{clausesLeft, Points}
+use Rattle.checking.specs.Checking.{falseFrom, firstFalse}
+use Rattle.checking.proofs.CheckLaws.{none-false, found, passed}
+use borrow.Author.Needs.{needs}
+use Rattle.checking.proofs.first_false.Statement.{statement}
+use Rattle.checking.proofs.first_false.Tie as tie
+
+abbrev Inv-loop : tie.InvT-loop
+Inv-loop counts literals ends images a clauses at₀ q₀ at q =
+    (firstFalse (lent counts literals ends images) a ≡ falseFrom q (valueOf (bitsOf (variablesOf (lent counts literals ends images)) a)) (clausesLeft (lent counts literals ends images) at))
+    × Points counts images at
+    × (q + length (clausesLeft (lent counts literals ends images) at) ≡ clauses + 1)
+
+abbrev μ-loop : tie.MeasureT-loop
+μ-loop counts literals ends images a clauses at₀ q₀ at q = clauses + 1 - q
+
+abbrev S : tie.Start Inv-loop μ-loop → Store
+S c = lent (c .args .counts) (c .args .literals .now) (c .args .ends .now) (c .args .images .now)
+
+-- the values of the variables
+abbrev Values : tie.Start Inv-loop μ-loop → ℕ → Bool
+Values c = valueOf (bitsOf (variablesOf (S c)) (c .args .a .now))
+
+totals-of-requires : tie.Need-totals-of-requires Inv-loop μ-loop
+totals-of-requires c κs = c .before .before .before .before .pre .0
+
+start-requires : tie.Need-start-requires Inv-loop μ-loop
+start-requires c κs = c .before .before .before .before .before .pre .0
+
+loop-holds : tie.Need-loop-holds Inv-loop μ-loop
+unfolding firstFalse clausesOf
+loop-holds c =
+    let s = c .before .before .before .before .before .before in
+    let left = c .start .ensures .1 in
+    (ap (falseFrom 1 (Values s)) (sym left), c .start .ensures .0, omega (arith, ap length left, c .before .totals-of .ensures .1))
+
+holds-at-requires : tie.Need-holds-at-requires Inv-loop μ-loop
+holds-at-requires c κs =
+    let l = c .before in
+    let s = l .before .before .before .before .before .before .before in
+    (s .pre .0, l .loop .inv .1, omega (arith, l .loop .inv .2))
+
+returns : tie.Need-returns Inv-loop μ-loop
+returns c =
+    let h = c .before in
+    let l = h .before .before in
+    let s = l .before .before .before .before .before .before .before in
+    sym (l .loop .inv .0 ∙ found (l .loop .q) (Values s) (clausesLeft (S s) (l .loop .at)) (omega (arith, l .loop .inv .2)) (sym (h .holds-at .ensures (variablesOf (S s)) (s .pre .1)) ∙ not-true _ (c .if1 .taken)))
+
+next-requires : tie.Need-next-requires Inv-loop μ-loop
+next-requires c κs =
+    let l = c .before .before .before in
+    let s = l .before .before .before .before .before .before .before in
+    (s .pre .0, l .loop .inv .1, omega (arith, l .loop .inv .2))
+
+add-q : tie.Need-add-q Inv-loop μ-loop
+add-q c = let l = c .before .before .before .before in omega (arith, l .before .before .totals-of .ensures .3)
+
+loop-less : tie.Need-loop-less Inv-loop μ-loop
+loop-less c = omega arith
+
+loop-again : tie.Need-loop-again Inv-loop μ-loop
+loop-again c =
+    let h = c .before .before in
+    let l = h .before .before in
+    let s = l .before .before .before .before .before .before .before in
+    let is = c .next .ensures .1 in (
+      l .loop .inv .0 ∙ passed (l .loop .q) (Values s) (clausesLeft (S s) (l .loop .at)) _ is (sym (h .holds-at .ensures (variablesOf (S s)) (s .pre .1)) ∙ not-false _ (c .before .if1 .left)),
+      c .next .ensures .0,
+      omega (arith, l .loop .inv .2, ap length is),
+    )
+
+returns-2 : tie.Need-returns-2 Inv-loop μ-loop
+returns-2 c =
+    let l = c .before in
+    let s = l .before .before .before .before .before .before .before in
+    sym (l .loop .inv .0 ∙ none-false (l .loop .q) (Values s) (clausesLeft (S s) (l .loop .at)) (omega (arith, l .loop .inv .2)))
+
+pub first-false-spec : {M : Type 1} → statement M
+first-false-spec =
+    tie.close
+    (tie.spec
+    Inv-loop
+    μ-loop
+    totals-of-requires
+    start-requires
+    loop-holds
+    holds-at-requires
+    returns
+    next-requires
+    add-q
+    loop-less
+    loop-again
+    returns-2)

@@ -108,13 +108,18 @@ def offers(chance, n, rows):
     return [line(chance, named)] + [line(chance, [row[i - 1] for i in named]) for row in rows]
 
 
-def program_input(chance, n, most):
-    """Input for the program: a formula's text, the `%` line and offers, of which some are no symmetries."""
+def cycles(chance, n, most=60):
+    """Cycles of 1..n and their products, and clauses that they keep if there is room."""
     rows = [cycle(chance, n, chance.randint(min(n, 2), n)) for _ in range(chance.choice([1, 1, 2, 3]))]
     clauses = closed(formula(chance, n, 3)[0] + formula(chance, n, 3)[0], rows, most)
+    return clauses, rows + [image(first, second) for first in rows for second in rows]
+
+
+def program_input(chance, n, most):
+    """Input for the program: a formula's text, the `%` line and offers, of which some are no symmetries."""
+    clauses, rows = cycles(chance, n, most)
     chance.shuffle(clauses)
-    products = [image(first, second) for first in rows for second in rows]
-    offered = chance.choices(rows + products, k=chance.randrange(6))
+    offered = chance.choices(rows, k=chance.randrange(6))
     if chance.random() < 0.3:
         offered.insert(chance.randint(0, len(offered)), permutation(chance, n))
     lines = [text(chance, n, clauses).removesuffix(b"\n"), b"%"] + offers(chance, n, offered)
@@ -144,3 +149,69 @@ def moving_rows(data):
     lines = data.split(b"\n")
     names, *offered = lines[lines.index(b"%") + 1:] or [b""]
     return sum(values.split() not in ([], names.split()) for values in offered)
+
+
+def powers(chance, n):
+    """A cycle of 1..n and some of its powers, and clauses that they keep."""
+    first = cycle(chance, n, chance.randint(min(n, 2), n))
+    rows = [first]
+    for _ in range(chance.randrange(4)):
+        rows.append(image(rows[-1], first))
+    return closed(formula(chance, n, 3)[0][:2], [first], 4 * n + 4), rows
+
+
+def columns(chance, n):
+    """Swaps of columns of a table that holds most of 1..n in any order, all of them turned by one, and clauses that they keep."""
+    width = chance.randint(1, 4)
+    order = chance.sample(range(1, n + 1), n - n % width)
+    table = [order[at:at + width] for at in range(0, len(order), width)]
+    turns = [list(range(width)[1:]) + [0]] + [[*range(at), at + 1, at, *range(at + 2, width)] for at in range(width - 1)]
+    rows = []
+    for turn in turns:
+        to = {line[at]: line[turn[at]] for line in table for at in range(width)}
+        rows.append([to.get(i, i) for i in range(1, n + 1)])
+    return closed(formula(chance, n, 3)[0], rows, 200), rows
+
+
+def edged(chance, n):
+    """Cycles of 1..n that add so many auxiliaries that the last number is beside a multiple of 64, and no clauses to break."""
+    last = chance.choice([edge for edge in (63, 64, 65, 127, 128, 129, 191, 192, 193) if edge >= n])
+    rows = []
+    while n > 1 and last > n:
+        size = min(n, last - n + 1, chance.randint(2, n))
+        rows.append(cycle(chance, n, size))
+        last -= size - 1
+    return [], rows
+
+
+def family(chance, n, kinds=(cycles, powers, columns, edged)):
+    """Clauses, seldom empty ones, and permutations of which most keep them."""
+    clauses, rows = chance.choice(kinds)(chance, n)
+    return [clause for clause in clauses if clause or chance.random() < 0.05], rows
+
+
+def digits(chance, n):
+    """An assignment of 1..n as digits, at times with few of one kind."""
+    share = chance.choice([0.5, 0.5, 0.1, 0.9])
+    return "".join("1" if chance.random() < share else "0" for _ in range(n))
+
+
+def repaired(chance, clauses, given):
+    """Digits changed at one literal of a false clause after another, so that they often end as a model."""
+    changed = list(given)
+    for _ in range(40):
+        false = [clause for clause in clauses if clause and not any(changed[abs(literal) - 1] == "01"[literal > 0] for literal in clause)]
+        if false:
+            literal = chance.choice(chance.choice(false))
+            changed[abs(literal) - 1] = "01"[literal > 0]
+    return "".join(changed)
+
+
+def misfit(chance, n, words):
+    """Words that are no assignment of 1..n: too few, too many, or with a spare bit set."""
+    kind = chance.randrange(3)
+    if kind == 0 and words:
+        return words[:chance.randrange(len(words))]
+    if kind == 1 and n % 64:
+        return words[:-1] + [words[-1] | 1 << chance.choice([0, 63 - n % 64, chance.randrange(64 - n % 64)])]
+    return words + [chance.choice([0, 1, 2 ** 63])] * chance.randint(1, 2)

@@ -18,6 +18,10 @@ class Answer(ctypes.Structure):
     _fields_ = [("refusal", ctypes.c_uint32), ("place", ctypes.c_uint64), ("value", ctypes.c_uint64)]
 
 
+class Descent(ctypes.Structure):
+    _fields_ = [("refusal", ctypes.c_uint32)] + [(name, ctypes.c_uint64) for name in ("place", "settled", "moves")]
+
+
 class Stored(ctypes.Structure):
     _fields_ = [("refusal", ctypes.c_uint32), ("place", ctypes.c_uint64)] + Record._fields_
 
@@ -28,6 +32,9 @@ EXPORTS = {
     "symbreak_offer": (Stored, NUMBER * 4 + SLICE * 5),
     "symbreak_header": (Answer, NUMBER * 4 + SLICE * 4),
     "symbreak_clause": (Answer, NUMBER * 4 + SLICE * 3 + NUMBER + SLICE),
+    "symbreak_fill_in": (Answer, NUMBER * 4 + SLICE * 5),
+    "symbreak_check": (Answer, NUMBER * 4 + SLICE * 4),
+    "symbreak_descend": (Descent, NUMBER * 4 + SLICE * 4 + NUMBER),
     "symbreak_compare": (Answer, SLICE * 2),
     "symbreak_efficiency": (Answer, NUMBER * 3),
 }
@@ -56,8 +63,15 @@ def words(values):
 
 
 def said(answer):
-    """An answer in the reference's terms."""
+    """An answer in the reference's terms; what it doesn't use is 0."""
+    assert (answer.value if answer.refusal else answer.place) == 0
     return ("refused", answer.refusal, answer.place) if answer.refusal else ("done", answer.value)
+
+
+def ended(answer):
+    """How a descent ended, in the reference's terms; what the answer doesn't use is 0."""
+    assert ((answer.settled, answer.moves) == (0, 0)) if answer.refusal else answer.place == 0
+    return ("refused", answer.refusal, answer.place) if answer.refusal else ("done", {0: "spent", 1: "settled"}[answer.settled], answer.moves)
 
 
 class Host:
@@ -79,6 +93,9 @@ class Host:
         self.record = self.record._replace(variables=answer.variables, clauses=answer.clauses, rows=answer.rows, open=bool(answer.is_open))
         return ("refused", answer.refusal, answer.place) if answer.refusal else done(self.record)
 
+    def _slices(self, *more):
+        return [part for each in (self.literals, self.ends, self.images, *more) for part in (each, len(each))]
+
     def open(self, text):
         lent = lend(ctypes.c_uint8, text)
         answer = self.library.symbreak_open(*self._numbers(), lent, len(lent), self.literals, len(self.literals), self.ends, len(self.ends))
@@ -87,15 +104,13 @@ class Host:
 
     def offer(self, names, values):
         lent = lend(ctypes.c_uint8, names), lend(ctypes.c_uint8, values)
-        slices = [self.literals, self.ends, self.images, *lent]
-        answer = self.library.symbreak_offer(*self._numbers(), *(part for each in slices for part in (each, len(each))))
+        answer = self.library.symbreak_offer(*self._numbers(), *self._slices(*lent))
         assert (bytes(lent[0]), bytes(lent[1])) == (names, values)
         return self._told(answer, lambda record: ("done",))
 
     def _written(self, function, out, *before_out):
         lent = lend(ctypes.c_uint8, out)
-        slices = [part for each in (self.literals, self.ends, self.images) for part in (each, len(each))]
-        answer = function(*self._numbers(), *slices, *before_out, lent, len(lent))
+        answer = function(*self._numbers(), *self._slices(), *before_out, lent, len(lent))
         return said(answer), bytes(lent)
 
     def header(self, out):
@@ -103,3 +118,20 @@ class Host:
 
     def clause(self, q, out):
         return self._written(self.library.symbreak_clause, out, q)
+
+    def fill_in(self, a, out):
+        lent, room = lend(ctypes.c_uint64, a), lend(ctypes.c_uint64, out)
+        answer = self.library.symbreak_fill_in(*self._numbers(), *self._slices(lent, room))
+        assert list(lent) == a
+        return said(answer), list(room)
+
+    def check(self, a):
+        lent = lend(ctypes.c_uint64, a)
+        answer = self.library.symbreak_check(*self._numbers(), *self._slices(lent))
+        assert list(lent) == a
+        return said(answer)
+
+    def descend(self, a, limit):
+        lent = lend(ctypes.c_uint64, a)
+        answer = self.library.symbreak_descend(*self._numbers(), *self._slices(lent), limit)
+        return ended(answer), list(lent)

@@ -1,4 +1,5 @@
 pub mod CallLaws
+pub mod ModelLaws
 pub mod Acceptance
 pub mod AfterCalls
 pub mod Starred

@@ -5,11 +5,11 @@ use mathlib.Core.Bool.{Bool, true, false, cond, _&&_}
 use mathlib.Core.List.{List, _++_}
 use lib.ListN.{length, drop}
 use lib.Dec.{eqb, leb}
-use Rattle.packed.specs.Words.{maxWords}
+use Rattle.packed.specs.Words.{maxWords, bitsOf, wordCount, isAssignment}
 use Rattle.packed.specs.Order.{allBits, firstDifference}
 use Rattle.quality.specs.Efficiency.{hasEfficiency, efficiencyOf}
 use Rattle.store.specs.Refusals.{Said, done, refused, saidRefused}
-use Rattle.store.specs.Stores.{Store, lent, standingOf, maxRows}
+use Rattle.store.specs.Stores.{Store, lent, heldRows, standingOf, maxRows}
 use Rattle.store.specs.declared.form.Standing.{Standing}
 use Rattle.store.specs.declared.record.Record.{Record}
 use Rattle.opening.specs.Clauses.{literalsIn, endsFrom}
@@ -17,10 +17,18 @@ use Rattle.opening.specs.Opening.{bodyOf, openedBy, written}
 use Rattle.opening.specs.declared.Opened.{Opened}
 use Rattle.offering.specs.Offering.{rowFor, offeredBy, imagesAfter}
 use Rattle.offering.specs.declared.Offered.{Offered}
-use Rattle.emit.specs.Emit.{headerOf, lineOf, headerBy, clauseBy}
+use Rattle.lexleader.specs.Descent.{descend}
+use Rattle.emit.specs.Emit.{variablesOf, headerOf, lineOf, headerBy, clauseBy}
 use Rattle.emit.specs.declared.Written.{Written}
+use Rattle.filling.specs.Written.{filledWords}
+use Rattle.checking.specs.Checking.{firstFalse}
+use Rattle.descent.specs.Words.{answerOf, descended}
+use Rattle.descent.specs.declared.Descended.{Descended}
+use Rattle.symbreak.specs.declared.Checked.{Checked}
 use Rattle.symbreak.specs.declared.Compared.{Compared}
+use Rattle.symbreak.specs.declared.Descent.{Descent}
 use Rattle.symbreak.specs.declared.Figure.{Figure}
+use Rattle.symbreak.specs.declared.Filled.{Filled}
 
 -- a call that answers without a value
 pub data Accepted : Type 0 where
@@ -105,6 +113,48 @@ saidCompared (Compared.Refused r) = saidRefused r
 unfoldable pub compareSays : List ℕ → List ℕ → Said ℕ
 compareSays a b =
     cond (eqb (length a) (length b) && leb (length a) maxWords) (done (firstDifference (allBits a) (allBits b))) (refused 12 0)
+
+-- ---- fill in: 20, 21, 12, 23. It answers how many words it wrote; "Words after it stay."
+
+abbrev pub saidFilled : Filled → Said ℕ
+saidFilled (Filled.Words words) = done words
+saidFilled (Filled.Refused r) = saidRefused r
+
+unfoldable pub fillSays : Store → List ℕ → ℕ → Said ℕ
+fillSays s a room =
+    let needed = wordCount (variablesOf s) in
+    onStore (standingOf s) (cond (isAssignment (s .counts .variables) a) (cond (leb needed room) (done needed) (refused 23 needed)) (refused 12 0))
+
+unfoldable pub fillLeaves : Store → List ℕ → List ℕ → List ℕ
+fillLeaves s a out = bufferLeft (fillSays s a (length out)) (filledWords (s .counts .variables) (heldRows s) a) out
+
+-- ---- check: 20, 21, 12. It answers 0 for yes, or the number of the first clause of the made formula that is false
+
+abbrev pub saidChecked : Checked → Said ℕ
+saidChecked Checked.Satisfied = done 0
+saidChecked (Checked.Falsified clause) = done clause
+saidChecked (Checked.Refused r) = saidRefused r
+
+unfoldable pub checkSays : Store → List ℕ → Said ℕ
+checkSays s a = onStore (standingOf s) (cond (isAssignment (variablesOf s) a) (done (firstFalse s a)) (refused 12 0))
+
+-- ---- descend: 20, 21, 12. It answers settled or spent with the count of moves, and leaves the assignment reached
+
+abbrev pub saidDescent : Descent → Said Descended
+saidDescent (Descent.Ended ending) = done ending
+saidDescent (Descent.Refused r) = saidRefused r
+
+unfoldable pub descendSays : Store → List ℕ → ℕ → Said Descended
+descendSays s a limit =
+    let n = s .counts .variables in
+    onStore (standingOf s) (cond (isAssignment n a) (done (answerOf (descend limit (heldRows s) (bitsOf n a)))) (refused 12 0))
+
+abbrev pub wordsLeft : Said Descended → List ℕ → List ℕ → List ℕ
+wordsLeft (done ending) reached a = reached
+wordsLeft (refused number place) reached a = a
+
+unfoldable pub descendLeaves : Store → List ℕ → ℕ → List ℕ
+descendLeaves s a limit = wordsLeft (descendSays s a limit) (descended (s .counts .variables) limit (heldRows s) a) a
 
 -- ---- efficiency: 14, place 0
 

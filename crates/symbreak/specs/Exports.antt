@@ -5,7 +5,9 @@ use lib.Dec.{eqb}
 use Rattle.store.specs.Refusals.{Said, done, refused}
 use Rattle.store.specs.declared.record.Record.{Record}
 use Rattle.symbreak.specs.declared.exports.CRecord.{CRecord}
+use Rattle.descent.specs.declared.Descended.{Descended}
 use Rattle.symbreak.specs.declared.exports.CAnswer.{CAnswer}
+use Rattle.symbreak.specs.declared.exports.CDescent.{CDescent}
 use Rattle.symbreak.specs.declared.exports.CStored.{CStored}
 
 -- the record that four numbers are: open is anything but 0
@@ -20,6 +22,12 @@ cRecord r = record { variables = r .variables; clauses = r .clauses; rows = r .r
 abbrev pub cAnswer : Said ℕ → CAnswer
 cAnswer (done value) = record { refusal = 0; place = 0; value = value }
 cAnswer (refused number place) = record { refusal = number; place = place; value = 0 }
+
+-- how a descent ends: refusal 0, whether it settled, and the count of moves; or the refusal's number and its place
+abbrev pub cDescent : Said Descended → CDescent
+cDescent (done (Descended.Settled moves)) = record { refusal = 0; place = 0; settled = 1; moves = moves }
+cDescent (done (Descended.Spent moves)) = record { refusal = 0; place = 0; settled = 0; moves = moves }
+cDescent (refused number place) = record { refusal = number; place = place; settled = 0; moves = 0 }
 
 -- an answer beside a record: refusal 0 for none, or the refusal's number and its place; and the record
 abbrev pub cStoredAt : ℕ → ℕ → Record → CStored

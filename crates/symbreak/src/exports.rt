@@ -1,6 +1,10 @@
 // The calls for C (include/symbreak.h): numbers and slices in, structs of numbers out. A slice passes as a pointer and a length.
+use crate::Checked;
 use crate::Compared;
+use crate::Descent;
 use crate::Figure;
+use crate::Filled;
+use descent::Descended;
 use emit::Written;
 use offering::Offered;
 use opening::Opened;
@@ -12,8 +16,8 @@ ghost use mathlib.Core.List.{List, []};
 ghost use lib.ListN.{length};
 ghost use Rattle.store.specs.Stores.{lent, closedRecord};
 ghost use Rattle.store.specs.Refusals.{done, saidRefused};
-ghost use Rattle.symbreak.specs.Calls.{openSays, openStore, offerSays, offerStore, headerSays, headerLeaves, clauseSays, clauseLeaves, compareSays, efficiencySays};
-ghost use Rattle.symbreak.specs.Exports.{recordOf, cRecord, cAnswer, cStored, cStoredAt};
+ghost use Rattle.symbreak.specs.Calls.{openSays, openStore, offerSays, offerStore, headerSays, headerLeaves, clauseSays, clauseLeaves, fillSays, fillLeaves, checkSays, descendSays, descendLeaves, compareSays, efficiencySays};
+ghost use Rattle.symbreak.specs.Exports.{recordOf, cRecord, cAnswer, cDescent, cStored, cStoredAt};
 
 #[repr(C)]
 pub struct CRecord {
@@ -38,6 +42,14 @@ pub struct CAnswer {
     pub refusal: u32,
     pub place: u64,
     pub value: u64,
+}
+
+#[repr(C)]
+pub struct CDescent {
+    pub refusal: u32,
+    pub place: u64,
+    pub settled: u64,
+    pub moves: u64,
 }
 
 #[no_mangle]
@@ -140,6 +152,76 @@ pub extern "C" fn symbreak_clause(
 }
 
 #[no_mangle]
+pub extern "C" fn symbreak_fill_in(
+    variables: u64,
+    clauses: u64,
+    rows: u64,
+    flag: u64,
+    literals: &[u16],
+    ends: &[u16],
+    images: &[u16],
+    a: &[u64],
+    out: &mut [u64],
+) -> CAnswer
+    ensures says { λ r. ⌜ r ≡ cAnswer (fillSays (lent (recordOf variables clauses rows flag) (now (literals .entry)) (now (ends .entry)) (now (images .entry))) (now (a .entry)) (length (now (out .entry)))) ⌝ }
+    ensures leaves { λ _. ⌜ now (out .exit) ≡ fillLeaves (lent (recordOf variables clauses rows flag) (now (literals .entry)) (now (ends .entry)) (now (images .entry))) (now (a .entry)) (now (out .entry)) ⌝ }
+{
+    let counts = record_of(variables, clauses, rows, flag);
+    match crate::fill_in(counts, literals, ends, images, a, out) {
+        Filled::Words(words) => answer(words as u64),
+        Filled::Refused(r) => refusal(r),
+    }
+}
+
+#[no_mangle]
+pub extern "C" fn symbreak_check(
+    variables: u64,
+    clauses: u64,
+    rows: u64,
+    flag: u64,
+    literals: &[u16],
+    ends: &[u16],
+    images: &[u16],
+    a: &[u64],
+) -> CAnswer
+    ensures { λ r. ⌜ r ≡ cAnswer (checkSays (lent (recordOf variables clauses rows flag) (now (literals .entry)) (now (ends .entry)) (now (images .entry))) (now (a .entry))) ⌝ }
+{
+    let counts = record_of(variables, clauses, rows, flag);
+    match crate::check(counts, literals, ends, images, a) {
+        Checked::Satisfied => answer(0),
+        Checked::Falsified(clause) => answer(clause as u64),
+        Checked::Refused(r) => refusal(r),
+    }
+}
+
+#[no_mangle]
+pub extern "C" fn symbreak_descend(
+    variables: u64,
+    clauses: u64,
+    rows: u64,
+    flag: u64,
+    literals: &[u16],
+    ends: &[u16],
+    images: &[u16],
+    a: &mut [u64],
+    limit: u64,
+) -> CDescent
+    ensures says { λ r. ⌜ r ≡ cDescent (descendSays (lent (recordOf variables clauses rows flag) (now (literals .entry)) (now (ends .entry)) (now (images .entry))) (now (a .entry)) limit) ⌝ }
+    ensures leaves { λ _. ⌜ now (a .exit) ≡ descendLeaves (lent (recordOf variables clauses rows flag) (now (literals .entry)) (now (ends .entry)) (now (images .entry))) (now (a .entry)) limit ⌝ }
+{
+    let counts = record_of(variables, clauses, rows, flag);
+    match crate::descend(counts, literals, ends, images, a, limit) {
+        Descent::Ended(ending) => c_descent(ending),
+        Descent::Refused(r) => CDescent {
+            refusal: r.number(),
+            place: r.place() as u64,
+            settled: 0,
+            moves: 0,
+        },
+    }
+}
+
+#[no_mangle]
 pub extern "C" fn symbreak_compare(a: &[u64], b: &[u64]) -> CAnswer
     ensures { λ r. ⌜ r ≡ cAnswer (compareSays (now (a .entry)) (now (b .entry))) ⌝ }
 {
@@ -187,6 +269,25 @@ fn c_record(r: Record) -> CRecord
         clauses: r.clauses as u64,
         rows: r.rows as u64,
         is_open: flag(r.is_open),
+    }
+}
+
+fn c_descent(ending: Descended) -> CDescent
+    ensures { λ r. ⌜ r ≡ cDescent (done ending) ⌝ }
+{
+    match ending {
+        Descended::Settled(moves) => CDescent {
+            refusal: 0,
+            place: 0,
+            settled: 1,
+            moves: moves,
+        },
+        Descended::Spent(moves) => CDescent {
+            refusal: 0,
+            place: 0,
+            settled: 0,
+            moves: moves,
+        },
     }
 }
 

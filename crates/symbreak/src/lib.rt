@@ -1,5 +1,6 @@
 // The public calls. Each takes any bytes, any numbers and any store, and answers as document 01 says or refuses with its number; none asks
 // anything of its caller. `exports` has them for C.
+use descent::Descended;
 use emit::Written;
 use offering::Offered;
 use opening::Opened;
@@ -11,7 +12,7 @@ ghost use mathlib.Core.List.{List, []};
 ghost use lib.ListN.{length};
 ghost use Rattle.store.specs.Stores.{lent, closedRecord};
 ghost use Rattle.packed.specs.Order.{part, lesserOf};
-ghost use Rattle.symbreak.specs.Calls.{saidOpened, openSays, openStore, saidOffered, offerSays, offerStore, saidWritten, headerSays, headerLeaves, clauseSays, clauseLeaves, saidCompared, compareSays, saidFigure, efficiencySays};
+ghost use Rattle.symbreak.specs.Calls.{saidOpened, openSays, openStore, saidOffered, offerSays, offerStore, saidWritten, headerSays, headerLeaves, clauseSays, clauseLeaves, saidFilled, fillSays, fillLeaves, saidChecked, checkSays, saidDescent, descendSays, descendLeaves, saidCompared, compareSays, saidFigure, efficiencySays};
 
 pub mod exports;
 
@@ -25,6 +26,25 @@ pub struct Opening {
 pub struct Offering {
     pub answer: Offered,
     pub counts: Record,
+}
+
+// How many words were written, or a refusal.
+pub enum Filled {
+    Words(usize),
+    Refused(Refusal),
+}
+
+// Whether an assignment satisfies the made formula, or the number of its first false clause.
+pub enum Checked {
+    Satisfied,
+    Falsified(usize),
+    Refused(Refusal),
+}
+
+// How a descent ends.
+pub enum Descent {
+    Ended(Descended),
+    Refused(Refusal),
 }
 
 // The variable at which two assignments first differ, 0 where they are equal.
@@ -151,6 +171,73 @@ pub fn clause(
         return Written::Refused(refusal);
     }
     emit::clause(counts, literals, ends, images, q, out)
+}
+
+// ---- models
+
+// Writes the assignment of 1..N that an assignment of 1..n fills in as.
+pub fn fill_in(
+    counts: Record,
+    literals: &[u16],
+    ends: &[u16],
+    images: &[u16],
+    a: &[u64],
+    out: &mut [u64],
+) -> Filled
+    ensures says { λ r. ⌜ saidFilled r ≡ fillSays (lent counts (now (literals .entry)) (now (ends .entry)) (now (images .entry))) (now (a .entry)) (length (now (out .entry))) ⌝ }
+    ensures leaves { λ _. ⌜ now (out .exit) ≡ fillLeaves (lent counts (now (literals .entry)) (now (ends .entry)) (now (images .entry))) (now (a .entry)) (now (out .entry)) ⌝ }
+{
+    if let Standing::Refused(refusal) = store::form::admit(counts, literals, ends, images) {
+        return Filled::Refused(refusal);
+    }
+    if !packed::is_assignment(a, counts.variables) {
+        return Filled::Refused(Refusal::BadAssignment);
+    }
+    let total = emit::totals_of(counts, literals, ends, images);
+    let needed = (total.variables + 63) / 64;
+    if out.len() < needed {
+        return Filled::Refused(Refusal::TooShort(needed));
+    }
+    Filled::Words(filling::fill(images, counts.rows, counts.variables, a, out))
+}
+
+// Whether an assignment of 1..N satisfies the made formula, or its first clause that is false.
+pub fn check(counts: Record, literals: &[u16], ends: &[u16], images: &[u16], a: &[u64]) -> Checked
+    ensures { λ r. ⌜ saidChecked r ≡ checkSays (lent counts (now (literals .entry)) (now (ends .entry)) (now (images .entry))) (now (a .entry)) ⌝ }
+{
+    if let Standing::Refused(refusal) = store::form::admit(counts, literals, ends, images) {
+        return Checked::Refused(refusal);
+    }
+    let total = emit::totals_of(counts, literals, ends, images);
+    if !packed::is_assignment(a, total.variables) {
+        return Checked::Refused(Refusal::BadAssignment);
+    }
+    let clause = checking::first_false(counts, literals, ends, images, a);
+    if clause == 0 {
+        return Checked::Satisfied;
+    }
+    Checked::Falsified(clause)
+}
+
+// Moves an assignment of 1..n by the first row that makes it smaller, as often as the limit allows and one does.
+pub fn descend(
+    counts: Record,
+    literals: &[u16],
+    ends: &[u16],
+    images: &[u16],
+    a: &mut [u64],
+    limit: u64,
+) -> Descent
+    ensures says { λ r. ⌜ saidDescent r ≡ descendSays (lent counts (now (literals .entry)) (now (ends .entry)) (now (images .entry))) (now (a .entry)) limit ⌝ }
+    ensures leaves { λ _. ⌜ now (a .exit) ≡ descendLeaves (lent counts (now (literals .entry)) (now (ends .entry)) (now (images .entry))) (now (a .entry)) limit ⌝ }
+{
+    if let Standing::Refused(refusal) = store::form::admit(counts, literals, ends, images) {
+        return Descent::Refused(refusal);
+    }
+    if !packed::is_assignment(a, counts.variables) {
+        return Descent::Refused(Refusal::BadAssignment);
+    }
+    Descent::Ended(descent::descend(images, counts.rows, counts.variables, a, limit))
 }
 
 // ---- assignments

@@ -1,0 +1,3 @@
+pub mod MoveLaws
+pub mod DescentLaws
+pub mod Examples

@@ -1,0 +1,103 @@
+-- `descent::first_lowering` meets its contract. The invariant: a step by all rows is a step by row r and those after it. Assumes nothing.
+use mathlib.Core.Path.{_≡_, _∙_}
+use Prim.Native.Nat.{_+_, _-_, _*_, _≤_}
+use native.Mathlib.Omega.{arith}
+use lib.ListN.{length}
+use Rattle.packed.specs.Words.{bitsOf}
+use Rattle.store.specs.Stores.{rowsOf}
+use Rattle.lexleader.specs.Descent.{stepBy}
+use Rattle.lexleader.proofs.Left.{left, room}
+use Rattle.descent.proofs.DescentLaws.{step-all, step-here, step-on, step-end, part-fit, part-lowers}
+use Rattle.descent.proofs.first_lowering.Statement.{statement}
+use Rattle.descent.proofs.first_lowering.Tie as tie
+
+abbrev Inv-loop : tie.InvT-loop
+Inv-loop images rows n a r₀ r = (stepBy (rowsOf n rows images) (bitsOf n a) ≡ stepBy (left n rows images r) (bitsOf n a)) × (r ≤ rows)
+
+abbrev μ-loop : tie.MeasureT-loop
+μ-loop images rows n a r₀ r = rows - r
+
+-- there is room for row r
+within : (c : tie.In-loop Inv-loop μ-loop) → let l = c .before in
+    let a = l .before .before .before .args in
+    l .loop .r * a .n + a .n ≤ length (a .images .now)
+within c =
+    let l = c .before in
+    let s = l .before .before .before in
+    room (s .args .n) (s .args .rows) (s .args .images .now) (s .pre .fits) (l .loop .r) (omega arith)
+
+loop-holds : tie.Need-loop-holds Inv-loop μ-loop
+loop-holds c = (step-all _ _ _ _, omega arith)
+
+mul-from : tie.Need-mul-from Inv-loop μ-loop
+mul-from c = omega (arith, within c)
+
+add-to : tie.Need-add-to Inv-loop μ-loop
+add-to c = omega (arith, within c)
+
+mul-lowers : tie.Need-mul-lowers Inv-loop μ-loop
+mul-lowers c = omega (arith, within c)
+
+sub-lowers : tie.Need-sub-lowers Inv-loop μ-loop
+sub-lowers c = omega arith
+
+part-lowers-start : tie.Need-part-lowers-start Inv-loop μ-loop
+part-lowers-start c = omega arith
+
+part-lowers-end : tie.Need-part-lowers-end Inv-loop μ-loop
+part-lowers-end c = omega (arith, within c)
+
+lowers-requires : tie.Need-lowers-requires Inv-loop μ-loop
+lowers-requires c κs =
+    let l = c .before .before in
+    part-fit _ _ _ _ (l .before .before .before .pre) (l .loop .r) (omega arith)
+
+returns : tie.Need-returns Inv-loop μ-loop
+returns c =
+    let l = c .before .before .before .before in
+    let s = l .before .before .before in (
+      λ e. absurd (omega arith),
+      (
+        omega arith,
+        λ h. l .loop .inv .0 ∙ step-here _ _ _ _ (l .loop .r) h (part-lowers _ _ _ _ (s .pre) (l .loop .r) h _ (c .before .lowers .ensures) ∙ c .if1 .taken),
+      ),
+    )
+
+add-r : tie.Need-add-r Inv-loop μ-loop
+add-r c = omega arith
+
+loop-less : tie.Need-loop-less Inv-loop μ-loop
+loop-less c = omega arith
+
+loop-again : tie.Need-loop-again Inv-loop μ-loop
+loop-again c =
+    let l = c .before .before .before .before in
+    let s = l .before .before .before in (
+      l .loop .inv .0
+          ∙ step-on _ _ _ _ (l .loop .r) (omega arith) (part-lowers _ _ _ _ (s .pre) (l .loop .r) (omega arith) _ (c .before .lowers .ensures) ∙ c .if1 .left),
+      omega arith,
+    )
+
+returns-2 : tie.Need-returns-2 Inv-loop μ-loop
+returns-2 c =
+    (λ e. c .before .loop .inv .0 ∙ step-end _ _ _ _ (c .before .loop .r) (omega arith), (omega arith, λ h. absurd (omega arith)))
+
+pub first-lowering-spec : {M : Type 1} → statement M
+first-lowering-spec =
+    tie.close
+    (tie.spec
+    Inv-loop
+    μ-loop
+    loop-holds
+    mul-from
+    add-to
+    mul-lowers
+    sub-lowers
+    part-lowers-start
+    part-lowers-end
+    lowers-requires
+    returns
+    add-r
+    loop-less
+    loop-again
+    returns-2)

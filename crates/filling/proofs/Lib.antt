@@ -1,0 +1,4 @@
+pub mod Writing
+pub mod Values
+pub mod Runs
+pub mod Examples

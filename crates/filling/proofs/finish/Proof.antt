@@ -1,0 +1,38 @@
+-- `filling::finish` meets its contract: the begun word with its digits shifted up is the last word of the values. Assumes nothing.
+use native.Mathlib.Omega.{arith}
+use borrow.Author.Needs.{needs}
+use Rattle.packed.specs.Words.{wordCount}
+use Rattle.filling.proofs.Writing.{finished-whole, finished-begun}
+use Rattle.filling.proofs.finish.Statement.{statement}
+use Rattle.filling.proofs.finish.Tie as tie
+
+returns : tie.Need-returns
+unfolding wordCount
+returns c = (omega arith, λ values old h. finished-whole h (omega arith) (omega arith))
+
+sub-out : tie.Need-sub-out
+sub-out c = search needs
+
+shl-out : tie.Need-shl-out
+shl-out c = search needs
+
+mul-out : tie.Need-mul-out
+mul-out c = search needs
+
+slice-write-out : tie.Need-slice-write-out
+slice-write-out c = search needs
+
+add-result : tie.Need-add-result
+add-result c = search needs
+
+same-length : tie.Need-same-length
+same-length c = search needs
+
+returns-2 : tie.Need-returns-2
+unfolding wordCount
+returns-2 c = (omega arith, λ values old h. finished-begun h (omega arith) (omega arith))
+
+pub finish-spec : {M : Type 1} → statement M
+finish-spec =
+    tie.close
+    (tie.spec returns sub-out shl-out mul-out slice-write-out add-result same-length returns-2)

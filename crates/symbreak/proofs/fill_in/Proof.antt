@@ -1,0 +1,107 @@
+-- `symbreak::fill_in` meets its contract: 20, 21, 12 and 23 are tried, and then the words are written. Assumes nothing.
+use mathlib.Core.Path.{_≡_, sym, ap, _∙_}
+use native.Mathlib.Omega.{arith}
+use borrow.Author.Tests.{not-true, not-false}
+use Rattle.store.specs.Stores.{Store, lent, heldRows, standingOf}
+use Rattle.store.specs.declared.form.Standing.{Standing}
+use Rattle.store.proofs.StandingLaws.{ready}
+use mathlib.Core.Bool.{true}
+use Prim.Native.Nat.{ℕ, _+_, _/_}
+use Rattle.packed.specs.Words.{wordCount, isAssignment}
+use Rattle.emit.specs.Emit.{variablesOf}
+use Rattle.symbreak.proofs.ModelLaws.{fills, fill-unready, fill-misformed, fill-short, fill-done}
+use borrow.Author.Needs.{needs}
+use Rattle.symbreak.proofs.fill_in.Statement.{statement}
+use Rattle.symbreak.proofs.fill_in.Tie as tie
+
+abbrev S : tie.Start → Store
+S c = lent (c .args .counts) (c .args .literals .now) (c .args .ends .now) (c .args .images .now)
+
+admitted : (c : tie.After-enum-told) → standingOf (S (c .before .before .before .before .before .before .before .before)) ≡ Standing.Ready
+admitted c = sym (c .before .before .admit .ensures) ∙ c .enum-told .given .1
+
+-- past the test of the form
+abbrev told : tie.Else1 → tie.After-enum-told
+told c = c .before .before
+
+abbrev start : tie.Else1 → tie.Start
+start c = told c .before .before .before .before .before .before .before .before
+
+form : (c : tie.Else1) → isAssignment (start c .args .counts .variables) (start c .args .a .now) ≡ true
+form c = sym (c .before .is-assignment .ensures) ∙ not-false _ (c .if1 .left)
+
+-- the words that are needed
+needed : (c : tie.After-totals-of) → (c .totals-of .result .variables + 63) / 64 ≡ wordCount (variablesOf (S (start (c .before))))
+unfolding wordCount
+needed c = ap (λ (n : ℕ). (n + 63) / 64) (c .totals-of .ensures .0)
+
+admit-requires : tie.Need-admit-requires
+admit-requires c κs = search needs
+
+enum-known-refusal : tie.Need-enum-known-refusal
+enum-known-refusal c = search needs
+
+returns : tie.Need-returns
+returns c = let s = c .before .before .before .before .before .before .before .before .before in fill-unready (S s) (s .args .a .now) (s .args .out .now) _ (sym (c .before .before .before .admit .ensures) ∙ c .before .refusal .given .1)
+
+enum-told : tie.Need-enum-told
+enum-told c = search needs
+
+is-assignment-requires : tie.Need-is-assignment-requires
+is-assignment-requires c κs = search needs
+
+returns-2 : tie.Need-returns-2
+returns-2 c =
+    let i = c .before in
+    let t = i .before in
+    let s = t .before .before .before .before .before .before .before .before in
+    fill-misformed (S s) (s .args .a .now) (s .args .out .now) (admitted t) (sym (i .is-assignment .ensures) ∙ not-true _ (c .if1 .taken))
+
+totals-of-requires : tie.Need-totals-of-requires
+totals-of-requires c κs = let t = c .before .before in ready (S (t .before .before .before .before .before .before .before .before)) (admitted t) .1
+
+add-needed : tie.Need-add-needed
+add-needed c = let t = c .before .totals-of .ensures in omega (arith, t .2)
+
+returns-3 : tie.Need-returns-3
+returns-3 c =
+    let t = c .before .before in
+    let s = start (t .before) in
+    fill-short (S s) (s .args .a .now) (s .args .out .now) (admitted (told (t .before))) (form (t .before)) _ (needed t) (c .if2 .taken)
+
+fill-requires : tie.Need-fill-requires
+unfolding variablesOf heldRows
+fill-requires c κs =
+    let t = c .before .before .before in
+    let s = start (t .before) in
+    let room = needed t in
+    (fills (S s) (ready (S s) (admitted (told (t .before))) .1) (s .args .a .now) (form (t .before)), omega (arith, room, c .before .if2 .left))
+
+same-length : tie.Need-same-length
+same-length c = search needs
+
+returns-4 : tie.Need-returns-4
+unfolding variablesOf heldRows
+returns-4 c =
+    let f = c .before .before in
+    let t = f .before .before .before .before in
+    let s = start (t .before) in
+    let room = needed t in
+    fill-done (S s) (s .args .a .now) (s .args .out .now) (admitted (told (t .before))) (form (t .before)) (omega (arith, room, f .before .before .if2 .left)) _ _ (f .fill .ensures .0) (f .fill .ensures .1)
+
+pub fill-in-spec : {M : Type 1} → statement M
+fill-in-spec =
+    tie.close
+    (tie.spec
+    admit-requires
+    enum-known-refusal
+    returns
+    enum-told
+    is-assignment-requires
+    returns-2
+    totals-of-requires
+    add-needed
+    returns-3
+    fill-requires
+    same-length
+    returns-4)

@@ -84,7 +84,7 @@ class Host:
 
     def parts(self):
         """All that is lent, as the reference has it."""
-        return self.record, list(self.literals), list(self.ends), list(self.images)
+        return self.record, self.literals[:], self.ends[:], self.images[:]
 
     def _numbers(self):
         return self.record.variables, self.record.clauses, self.record.rows, int(self.record.open)

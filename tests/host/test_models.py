@@ -1,4 +1,5 @@
 """Filling in, checking and descent against the reference, and demand 3 by brute force: fixed seeds. Run by tests/run."""
+import ctypes
 import functools
 import itertools
 import operator
@@ -99,16 +100,15 @@ class Worked(Calls):
         names = b" ".join(b"%d" % i for i in range(1, 513))
         for _ in range(64):
             self.assertEqual(host.offer(names, b" ".join(b"%d" % i for i in generate.cycle(chance, 512, 512))), ("done",))
-        a = packed(generate.digits(chance, 512))
-        self.assertEqual(self.fill_in(host, a, [3] * 518), (("refused", 23, 519), [3] * 518))
-        answer, filled = self.fill_in(host, a, [3] * 520)
+        kept = packed("0" * 504 + "1" * 8)
+        self.assertEqual(self.fill_in(host, kept, [3] * 518), (("refused", 23, 519), [3] * 518))
+        answer, filled = self.fill_in(host, kept, [3] * 520)
         self.assertEqual((answer, filled[519]), (("done", 519), 3))
         self.assertEqual(self.check(host, filled), ("refused", 12, 0))
-        self.assertEqual(self.descend(host, a, 3)[0], ("done", "spent", 3))
-        ones = self.fill_in(host, [TOP] * 8, [0] * 519)[1]
-        self.assertEqual(ones, [TOP] * 519)
-        self.assertEqual(self.check(host, ones), ("done", 0))
-        self.assertEqual(self.check(host, ones[:-1] + [TOP - 1]), ("done", 1 + 6 * 32704 - 1))
+        self.assertEqual(self.check(host, filled[:519]), ("done", 0))
+        self.assertEqual(self.check(host, flipped(filled[:519], 33216)), ("done", 1 + 6 * 32704 - 5))
+        self.assertEqual(self.descend(host, kept, 0), (("done", "settled", 0), kept))
+        self.assertEqual(self.descend(host, packed("1" * 8 + "0" * 504), 3)[0], ("done", "spent", 3))
 
 
 STORE = {"record": reference.Record(3, 2, 1, True), "literals": [2, 4, 4, 6], "ends": [2, 4], "images": [6, 4, 2]}
@@ -189,16 +189,218 @@ class Refusals(Calls):
 SIZES = [0, 1, 2, 3, 4, 6, 9, 20, 40, 58, 60, 62, 63, 64, 65, 66, 100, 126, 127, 128, 129, 130]
 
 
-def offer_all(chance, host, rows, most=10 ** 6):
-    """Offers to a store just opened, damaged ones among them, as long as 1..most are enough for the made formula; the accepted rows."""
-    n, accepted = host.record.variables, []
+def last_number(host):
+    """The N of the made formula, as the library writes it."""
+    return int(host.header(bytes(32))[1].split()[2])
+
+
+def stated(n, names, values):
+    """The permutation that two lines state."""
+    images = dict(zip(map(int, names.split()), map(int, values.split())))
+    return [images.get(i, i) for i in range(1, n + 1)]
+
+
+def offer_all(chance, host, n, rows, last=TOP):
+    """A list of offers, damaged ones among them, that ends when the made formula has more variables than `last`; the accepted permutations."""
+    accepted = []
     for row in rows:
         names, values = generate.offers(chance, n, [row])
-        added = max(sum(image != i for i, image in enumerate(row, 1)) - 1, 0)
-        if chance.random() < 0.1:
-            self_refused = host.offer(names, values + b" 0")
-            assert self_refused[0] == "refused"
-        if added <= most and host.offer(names, values) == ("done",):
-            accepted.append(row)
-            most -= added
+        if chance.random() < 0.15:
+            values = generate.damaged(chance, values)
+        if host.offer(names, values) == ("done",):
+            accepted.append(stated(n, names, values))
+            if last_number(host) > last:
+                break
     return accepted
+
+
+def damage(chance, host):
+    """A store that no call left so: a count, the flag, a slice's length or an entry changed."""
+    counts = host.record._asdict()
+    kind = chance.randrange(4)
+    if kind == 0:
+        field = chance.choice(["variables", "clauses", "rows"])
+        host.record = host.record._replace(**{field: chance.choice([0, 1, 64, 65, 512, 513, 4096, 4097, 2 ** 32, TOP, counts[field] + 1])})
+    elif kind == 1:
+        host.record = host.record._replace(open=chance.random() < 0.3)
+    else:
+        name, used = chance.choice([("literals", 2 * counts["clauses"]), ("ends", counts["clauses"]), ("images", counts["rows"] * counts["variables"])])
+        part = list(getattr(host, name))
+        at = chance.randrange(min(used, len(part)) + 1)
+        part[at:] = [chance.choice([0, 1, 2, 3, 5, 12, 65535, chance.randrange(300)]), *part[at + 1:]] if kind == 2 else []
+        setattr(host, name, library.lend(ctypes.c_uint16, part))
+
+
+def flipped(a, i):
+    """An assignment with the value of variable i changed."""
+    return [word ^ (1 << 63 - (i - 1) % 64 if at == (i - 1) // 64 else 0) for at, word in enumerate(a)]
+
+
+def maybe_misfit(chance, n, a):
+    return generate.misfit(chance, n, a) if chance.random() < 0.08 else a
+
+
+class Random(Calls):
+    """Formulas with symmetries, lists of offers, stores damaged at times; assignments that are models or not, at times of the wrong form."""
+
+    def descents(self, chance, host, n, a, seen):
+        """Descends from an assignment with several limits; what was reached."""
+        reached = []
+        for limit in [0, 1, 2, chance.randint(3, 9), TOP]:
+            answer, left = self.descend(host, maybe_misfit(chance, n, a), limit)
+            reached.append(left)
+            seen["descend", refusal(answer) or answer[1:2] + (min(answer[2], 3),)] += 1
+        return reached
+
+    def fillings(self, chance, host, n, last, starts, seen):
+        """Fills in assignments, into buffers that are long enough or not; what was written."""
+        written = []
+        for a in starts:
+            length = reference.word_count(last) + chance.choice([0, 0, 1, 3]) if chance.random() < 0.9 else chance.randrange(3)
+            answer, out = self.fill_in(host, maybe_misfit(chance, n, a), [chance.getrandbits(64) for _ in range(length)])
+            seen["fill in", refusal(answer)] += 1
+            if answer[0] == "done":
+                written.append(out[:answer[1]])
+        return written
+
+    def checks(self, chance, host, n, last, filled, seen):
+        """Checks filled in assignments, the same with an auxiliary changed, and others."""
+        changed = [flipped(a, chance.randint(n + 1, last)) for a in filled if last > n]
+        for a in filled + changed + [packed(generate.digits(chance, last))]:
+            answer = self.check(host, maybe_misfit(chance, last, a))
+            seen["check", refusal(answer) or ("yes" if answer[1] == 0 else "plain" if answer[1] <= host.record.clauses else "added")] += 1
+
+    def test_random(self):
+        chance = random.Random(10)
+        seen = Counter()
+        for _ in range(220):
+            n = chance.choice(SIZES)
+            clauses, rows = generate.family(chance, n)
+            host = opened(generate.text(chance, n, clauses))
+            offer_all(chance, host, n, rows + [generate.permutation(chance, n)])
+            last = reference.made_counts(host.record, list(host.images))[0]
+            seen["beside a word's end", last % 64] += last > n
+            seen["a word more"] += reference.word_count(last) > reference.word_count(n)
+            for _ in range(2):
+                if chance.random() < 0.15:
+                    damage(chance, host)
+                a = packed(generate.repaired(chance, clauses, generate.digits(chance, n)))
+                reached = self.descents(chance, host, n, a, seen)
+                filled = self.fillings(chance, host, n, last, [packed(generate.digits(chance, n)), a, reached[-1]], seen)
+                self.checks(chance, host, n, last, filled, seen)
+        for sort in [(call, number) for call in ("fill in", "check", "descend") for number in (12, 20, 21)]:
+            self.assertGreater(seen[sort], 5, sort)
+        print(seen)
+
+
+def made_formula(host):
+    """The made formula as the library writes it: N, and its clauses."""
+    variables, count = map(int, host.header(bytes(32))[1].split()[2:4])
+    lines = [host.clause(q, bytes(256))[1].split(b"\n")[0] for q in range(1, count + 1)]
+    return variables, [[int(word) for word in line.split()][:-1] for line in lines]
+
+
+def models(n, clauses):
+    """The models of a formula over 1..n, as a number that has bit A set when A's binary digits are one."""
+    every = (1 << (1 << n)) - 1
+    without = [every // ((1 << (1 << n - i)) + 1) for i in range(1, n + 1)]
+    found = every
+    for clause in clauses:
+        found &= functools.reduce(operator.or_, (every ^ without[literal - 1] if literal > 0 else without[-literal - 1] for literal in clause), 0)
+    return found
+
+
+def first_false(clauses, digits):
+    """The number of the first clause that is false under the digits, or 0."""
+    return next((q for q, clause in enumerate(clauses, 1) if not any(digits[abs(literal) - 1] == "01"[literal > 0] for literal in clause)), 0)
+
+
+def moved(row, digits):
+    return "".join(digits[image - 1] for image in row)
+
+
+def path(rows, digits):
+    """What a descent passes: digits after digits, each moved by the first row that makes them smaller."""
+    lower = next((moved(row, digits) for row in rows if moved(row, digits) < digits), None)
+    return [digits] + (path(rows, lower) if lower is not None else [])
+
+
+def numbered(number, n):
+    """The n digits of a number."""
+    return format(number, "b").rjust(n, "0")[-n:] if n else ""
+
+
+class Demand3(unittest.TestCase):
+    """Demand 3 over all assignments, by the library's calls alone, after lists of offers with refused ones among them."""
+
+    def descents(self, host, rows, digits, seen):
+        """A descent at every limit goes as moving by hand does; where it settles."""
+        passed = path(rows, digits)
+        moves = len(passed) - 1
+        for limit in range(moves):
+            self.assertEqual(host.descend(packed(digits), limit), (("done", "spent", limit), packed(passed[limit])), digits)
+        for limit in [moves, moves + 1, TOP]:
+            self.assertEqual(host.descend(packed(digits), limit), (("done", "settled", moves), packed(passed[-1])), digits)
+        seen["spent"] += moves
+        seen["moves", min(moves, 3)] += 1
+        return passed[-1]
+
+    def filled(self, host, digits, setting):
+        """Filling in writes this setting of the auxiliaries, and checking says yes to it."""
+        full = packed(digits + setting)
+        self.assertEqual(host.fill_in(packed(digits), [7] * len(full) + [8]), (("done", len(full)), full + [8]), digits)
+        self.assertEqual(host.check(full), ("done", 0), digits)
+
+    def kept(self, host, n, rows, plain, full):
+        """The kept models: those that no row makes smaller, each with the one setting that filling in writes."""
+        auxiliaries = last_number(host) - n
+        kept = set()
+        for number in range(1 << n):
+            digits, settings = numbered(number, n), full >> (number << auxiliaries) & (1 << (1 << auxiliaries)) - 1
+            smaller = any(moved(row, digits) < digits for row in rows)
+            self.assertEqual(settings != 0, plain >> number & 1 == 1 and not smaller, digits)
+            if settings:
+                kept.add(digits)
+                self.assertEqual(settings & settings - 1, 0, digits)
+                self.filled(host, digits, numbered(settings.bit_length() - 1, auxiliaries))
+        return kept
+
+    def whole(self, host, n, clauses, rows, seen):
+        """All of demand 3 for one store and the accepted permutations of its list."""
+        last, made = made_formula(host)
+        self.assertEqual(made[:len(clauses)], clauses)
+        plain, full = models(n, clauses), models(last, made)
+        self.assertEqual(full != 0, plain != 0)
+        kept = self.kept(host, n, rows, plain, full)
+        for number in range(1 << n):
+            settled = self.descents(host, rows, numbered(number, n), seen)
+            if plain >> number & 1:
+                self.assertIn(settled, kept)
+        for number in range(1 << last if last < 9 else 0):
+            digits = numbered(number, last)
+            self.assertEqual(host.check(packed(digits)), ("done", first_false(made, digits)), digits)
+            seen["false added"] += first_false(made, digits) > len(clauses)
+        seen["satisfiable", plain != 0] += 1
+        seen["kept"] += len(kept)
+        seen["dropped"] += bin(plain).count("1") - len(kept)
+
+    def test_lists(self):
+        chance = random.Random(11)
+        seen = Counter()
+        for _ in range(160):
+            n = chance.choice([0, 1, 2, 3, 3, 4, 4, 5, 5, 6, 7])
+            clauses, rows = generate.family(chance, n, (generate.cycles, generate.powers, generate.columns))
+            host = opened(b"p cnf %d %d\n" % (n, len(clauses)) + b"".join(map(reference.clause_line, clauses)), 400, 120, 80)
+            offers = chance.choices(rows, k=chance.randint(1, 4)) + [generate.permutation(chance, n)]
+            chance.shuffle(offers)
+            accepted = offer_all(chance, host, n, offers, 10)
+            before = host.parts()
+            self.whole(host, n, clauses, accepted, seen)
+            self.assertEqual(host.parts(), before)
+            seen["rows", min(len(accepted), 2)] += 1
+            seen["refused"] += len(offers) > len(accepted)
+        print(seen)
+
+
+if __name__ == "__main__":
+    unittest.main()

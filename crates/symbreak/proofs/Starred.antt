@@ -1,18 +1,20 @@
--- Document 01's starred cases that are due so far, as one table, by computation on the definitions. Assumes nothing.
+-- Document 01's starred cases ("Tried on both edges"): one table, by computation on what the calls say and leave. Assumes nothing.
 use mathlib.Core.Path.{_≡_, refl}
 use mathlib.Core.List.{List, [], _∷_}
-use Prim.Native.Nat.{ℕ}
+use Prim.Native.Nat.{ℕ, _*_, _^_}
 use lib.ListN.{replicate}
 use Rattle.lists.specs.Tests.{anyOf, allOf, distinct}
 use Rattle.lists.specs.Tables.{table}
 use Rattle.dimacs.specs.Words.{isBlank, run, wordsFrom}
 use Rattle.dimacs.specs.Lines.{linesFrom}
 use Rattle.dimacs.specs.Numbers.{isDigit, decimalFrom, digitsOf, sizeOf, numberOf}
+use Rattle.packed.specs.Words.{bitIn, bitAt, bitsOf, binary, wordCount, wordsOf, spareBits, isAssignment}
+use Rattle.packed.specs.Order.{less}
 use Rattle.quality.specs.Efficiency.{hasEfficiency, efficiencyOf}
 use Rattle.store.specs.Literals.{isLiteral}
 use Rattle.store.specs.Numerals.{codeIn}
 use Rattle.store.specs.Refusals.{Said, done, refused}
-use Rattle.store.specs.Stores.{Store, lent, closedRecord, rising, literalCount, rowsOf, cut, plainOf, isImage, isRow, demands, wellFormed, standingOf}
+use Rattle.store.specs.Stores.{Store, lent, closedRecord, rising, literalCount, rowsOf, cut, plainOf, heldRows, isImage, isRow, demands, wellFormed, standingOf}
 use Rattle.opening.specs.Problem.{afterComments, sameBytes, fourWords, sizesOf, problemIn, problemOf}
 use Rattle.opening.specs.Clauses.{scanFrom, literalsIn, endsFrom}
 use Rattle.opening.specs.Opening.{bodyOf, openedBy}
@@ -21,37 +23,88 @@ use Rattle.permutation.specs.Stated.{statedBy, imageAmong, rowStated}
 use Rattle.symmetry.specs.Sets.{within, sameSet}
 use Rattle.symmetry.specs.Symmetry.{imageOf, clauseImage, hasImage, missingFrom}
 use Rattle.offering.specs.Offering.{ifRoom, ifSymmetry, offeredBy}
-use Rattle.symbreak.specs.Calls.{Accepted, accepted, openStore, offerSays, efficiencySays}
+use Rattle.lexleader.specs.Models.{literalValue}
+use Rattle.lexleader.specs.Rows.{moved, lowers, pairsFrom, pairsOf}
+use Rattle.lexleader.specs.Made.{auxiliaries, allAuxiliaries, madeVariables, agrees, settingsAfter, rowSettings, settings, filledIn}
+use Rattle.lexleader.specs.Descent.{stepBy, descendFrom}
+use Rattle.emit.specs.Emit.{variablesOf}
+use Rattle.filling.specs.Written.{filledWords}
+use Rattle.descent.specs.Words.{descended}
+use Rattle.descent.specs.declared.Descended.{Descended}
+use Rattle.symbreak.specs.Calls.{Accepted, accepted, openStore, offerSays, offerStore, fillSays, fillLeaves, descendSays, descendLeaves, efficiencySays}
 
 -- the listing's formula, opened: `p cnf 3 2`, `1 2 0`, `2 3 0`
-listing : Store
+abbrev listing : Store
 listing =
     openStore (lent closedRecord (replicate 4 0) (replicate 2 0) (replicate 3 0))
     (112 ∷ 32 ∷ 99 ∷ 110 ∷ 102 ∷ 32 ∷ 51 ∷ 32 ∷ 50 ∷ 10 ∷ 49 ∷ 32 ∷ 50 ∷ 32 ∷ 48 ∷ 10 ∷ 50 ∷ 32 ∷ 51 ∷ 32 ∷ 48 ∷ 10 ∷ [])
 
--- `1 3`/`3 1` accepted; `1 2`/`2 1`: 11 at 2; `1 3`/`3`: 10 at 1; `1 3`/`3 3`: 10 at 2; names `1 1`: 8 at 2; names `4`: 8 at 0
-offers :
-    offerSays listing (49 ∷ 32 ∷ 51 ∷ []) (51 ∷ 32 ∷ 49 ∷ [])
-    ∷ offerSays listing (49 ∷ 32 ∷ 50 ∷ []) (50 ∷ 32 ∷ 49 ∷ [])
-    ∷ offerSays listing (49 ∷ 32 ∷ 51 ∷ []) (51 ∷ [])
-    ∷ offerSays listing (49 ∷ 32 ∷ 51 ∷ []) (51 ∷ 32 ∷ 51 ∷ [])
-    ∷ offerSays listing (49 ∷ 32 ∷ 49 ∷ []) ([])
-    ∷ offerSays listing (52 ∷ []) ([])
+-- the same with its row, `1 3`/`3 1`
+abbrev exchanged : Store
+exchanged = offerStore listing (49 ∷ 32 ∷ 51 ∷ []) (51 ∷ 32 ∷ 49 ∷ [])
+
+-- the formula `1 2 3 0` with the row `2 3 1`
+abbrev turned : Store
+turned =
+    offerStore
+    (openStore (lent closedRecord (replicate 3 0) (replicate 1 0) (replicate 3 0))
+    (112 ∷ 32 ∷ 99 ∷ 110 ∷ 102 ∷ 32 ∷ 51 ∷ 32 ∷ 49 ∷ 10 ∷ 49 ∷ 32 ∷ 50 ∷ 32 ∷ 51 ∷ 32 ∷ 48 ∷ 10 ∷ []))
+    (49 ∷ 32 ∷ 50 ∷ 32 ∷ 51 ∷ []) (50 ∷ 32 ∷ 51 ∷ 32 ∷ 49 ∷ [])
+
+-- what a case comes to: what an offer or a figure says, what a descent says and leaves, what filling in says and leaves
+data Outcome : Type 0 where
+  offered : Said Accepted → Outcome
+  figured : Said ℕ → Outcome
+  came : Said Descended → List ℕ → Outcome
+  filled : Said ℕ → List ℕ → Outcome
+
+abbrev descent : Store → ℕ → ℕ → Outcome
+descent s a limit = came (descendSays s (a ∷ []) limit) (descendLeaves s (a ∷ []) limit)
+
+abbrev filling : Store → ℕ → Outcome
+filling s a = filled (fillSays s (a ∷ []) 1) (fillLeaves s (a ∷ []) (0 ∷ []))
+
+-- The values of three variables stand in the highest bits of a word: 110 is 6 · 2 ^ 61. In the order of the paper: the listing's offers; with its row 110 settles at
+-- 011 with one move, is spent at once with limit 0, where 011 settles; 101 fills in as 1011, 011 as 0110; with the row `2 3 1`, 100 settles at 001 and 010
+-- unmoved; the figures.
+starred :
+    offered (offerSays listing (49 ∷ 32 ∷ 51 ∷ []) (51 ∷ 32 ∷ 49 ∷ []))
+    ∷ offered (offerSays listing (49 ∷ 32 ∷ 50 ∷ []) (50 ∷ 32 ∷ 49 ∷ []))
+    ∷ offered (offerSays listing (49 ∷ 32 ∷ 51 ∷ []) (51 ∷ []))
+    ∷ offered (offerSays listing (49 ∷ 32 ∷ 51 ∷ []) (51 ∷ 32 ∷ 51 ∷ []))
+    ∷ offered (offerSays listing (49 ∷ 32 ∷ 49 ∷ []) ([]))
+    ∷ offered (offerSays listing (52 ∷ []) ([]))
+    ∷ descent exchanged (6 * 2 ^ 61) 9
+    ∷ descent exchanged (6 * 2 ^ 61) 0
+    ∷ descent exchanged (3 * 2 ^ 61) 0
+    ∷ filling exchanged (5 * 2 ^ 61)
+    ∷ filling exchanged (3 * 2 ^ 61)
+    ∷ descent turned (4 * 2 ^ 61) 9
+    ∷ descent turned (2 * 2 ^ 61) 9
+    ∷ figured (efficiencySays 25 6 8)
+    ∷ figured (efficiencySays 29281 302 1024)
     ∷ []
-    ≡ done accepted
-    ∷ refused 11 2
-    ∷ refused 10 1
-    ∷ refused 10 2
-    ∷ refused 8 2
-    ∷ refused 8 0
+    ≡ offered (done accepted)
+    ∷ offered (refused 11 2)
+    ∷ offered (refused 10 1)
+    ∷ offered (refused 10 2)
+    ∷ offered (refused 8 2)
+    ∷ offered (refused 8 0)
+    ∷ came (done (Descended.Settled 1)) (3 * 2 ^ 61 ∷ [])
+    ∷ came (done (Descended.Spent 0)) (6 * 2 ^ 61 ∷ [])
+    ∷ came (done (Descended.Settled 0)) (3 * 2 ^ 61 ∷ [])
+    ∷ filled (done 1) (11 * 2 ^ 60 ∷ [])
+    ∷ filled (done 1) (6 * 2 ^ 60 ∷ [])
+    ∷ came (done (Descended.Settled 1)) (1 * 2 ^ 61 ∷ [])
+    ∷ came (done (Descended.Settled 0)) (2 * 2 ^ 61 ∷ [])
+    ∷ figured (done 8947)
+    ∷ figured (done 9750)
     ∷ []
 unfolding
-    listing openStore offerSays anyOf allOf distinct table isBlank run wordsFrom linesFrom isDigit decimalFrom digitsOf sizeOf numberOf isLiteral codeIn rising literalCount
+    openStore offerSays offerStore anyOf allOf distinct table isBlank run wordsFrom linesFrom isDigit decimalFrom digitsOf sizeOf numberOf isLiteral codeIn rising literalCount
     rowsOf cut plainOf isImage isRow demands wellFormed standingOf afterComments sameBytes fourWords sizesOf problemIn problemOf scanFrom literalsIn endsFrom bodyOf openedBy notNumber
     badNameAfter badName badValueAfter namesOn valuesOn statedBy imageAmong rowStated within sameSet imageOf clauseImage hasImage missingFrom ifRoom ifSymmetry offeredBy
-offers = refl
-
--- efficiency of 25, 6, 8 and of 29281, 302, 1024
-figures : efficiencySays 25 6 8 ∷ efficiencySays 29281 302 1024 ∷ [] ≡ done 8947 ∷ done 9750 ∷ []
-unfolding efficiencySays hasEfficiency efficiencyOf
-figures = refl
+    efficiencySays hasEfficiency efficiencyOf descendSays descendLeaves descended descendFrom stepBy lowers moved less literalValue heldRows bitsOf wordsOf binary
+    wordCount bitAt bitIn spareBits isAssignment fillSays fillLeaves filledWords variablesOf madeVariables allAuxiliaries auxiliaries pairsOf pairsFrom filledIn settings
+    rowSettings settingsAfter agrees
+starred = refl

@@ -1,3 +1,4 @@
 pub mod Calls
 pub mod Exports
 pub mod Lists
+pub mod Demand3

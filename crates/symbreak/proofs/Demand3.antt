@@ -1,0 +1,169 @@
+-- Demand 3 holds: for every lent store and text for which opening answers, and every list of calls from there, refused ones included. The theory of kept
+-- models (lexleader/proofs/Theorems.antt) meets the store that the list leaves (AfterCalls.antt) and the calls on words. Assumes nothing.
+use mathlib.Core.Path.{_≡_, refl, sym, ap, _∙_}
+use mathlib.Core.Bool.{Bool, true, false, cond}
+use mathlib.Core.List.{List, _++_, List·Memᴰ}
+use mathlib.Core.Logic.{_↔_}
+use Prim.Native.Nat.{ℕ}
+use native.Mathlib.Omega.{arith}
+use lib.ListN.{length, take, drop}
+use lib.Seq.{take-append-seam}
+use lib.Dec.{leb}
+use Rattle.lists.specs.Tests.{allOf}
+use Rattle.packed.specs.Words.{bitsOf, wordCount, wordsOf, isAssignment}
+use Rattle.packed.proofs.Form.{form-count}
+use Rattle.packed.proofs.Trips.{bits-words, words-form}
+use Rattle.store.specs.Literals.{isLiteral}
+use Rattle.store.specs.Refusals.{Said, done, refused, numberOf, placeOf, saidRefused}
+use Rattle.store.specs.Stores.{Store, plainOf, heldRows, isRow, standingOf}
+use Rattle.store.specs.declared.form.Standing.{Standing}
+use Rattle.store.proofs.Formed.{formed}
+use Rattle.store.proofs.Demands.{rows-of}
+use Rattle.symmetry.proofs.Facts.{literals-within}
+use Rattle.lexleader.specs.Models.{Model, Satisfiable}
+use Rattle.lexleader.specs.Made.{made, madeVariables, settings, filledIn}
+use Rattle.lexleader.specs.Kept.{Completes, Kept, Least, Carried, Symmetric}
+use Rattle.lexleader.specs.Descent.{Ending, settled, spent, descend}
+use Rattle.lexleader.proofs.Theorems.{kept-plain, kept-iff, one-setting, filled-completes, carried-to-kept, satisfiable-iff, settled-kept}
+use Rattle.emit.specs.Emit.{madeOf, variablesOf}
+use Rattle.filling.specs.Written.{filledWords}
+use Rattle.filling.proofs.Runs.{length-filled}
+use Rattle.descent.specs.Words.{answerOf, reachedBy, descended}
+use Rattle.descent.specs.declared.Descended.{Descended}
+use Rattle.symbreak.specs.Calls.{Sizes, openSays, openStore, onStore, bufferLeft, fillSays, fillLeaves, wordsLeft, descendSays, descendLeaves}
+use Rattle.symbreak.specs.Lists.{Call, after, accepted}
+use Rattle.symbreak.specs.Demand3.{variables, formula, permutations, left, Plain, IsKept, Demand3}
+use Rattle.symbreak.proofs.AfterCalls.{keeps-calls, after-opening}
+
+-- ---- what a call that answered says of the store and the words
+
+-- filling in answered, so its count of words is that of N
+fill-count : (s : Store) (a : List ℕ) (room k : ℕ) → fillSays s a room ≡ done k → k ≡ wordCount (variablesOf s)
+unfolding fillSays
+fill-count s a room k e = by (standingOf s) (isAssignment (s .counts .variables) a) (leb (wordCount (variablesOf s)) room) e
+  where
+    by : (standing : Standing) (form fits : Bool)
+        → onStore standing (cond form (cond fits (done (wordCount (variablesOf s))) (refused 23 (wordCount (variablesOf s)))) (refused 12 0)) ≡ done k
+        → k ≡ wordCount (variablesOf s)
+    by Standing.Ready true true e = cc
+    by Standing.Ready true false e = let z : _≡_ {A = ℕ} 0 1 = cc in absurd (omega arith)
+    by Standing.Ready false fits e = let z : _≡_ {A = ℕ} 0 1 = cc in absurd (omega arith)
+    by (Standing.Refused r) form fits e = let z : _≡_ {A = ℕ} 0 1 = cc in absurd (omega arith)
+
+-- the words that it wrote
+fill-wrote : (s : Store) (a out : List ℕ) (k : ℕ) → fillSays s a (length out) ≡ done k
+    → take k (fillLeaves s a out) ≡ wordsOf (filledIn (heldRows s) (bitsOf (s .counts .variables) a))
+unfolding fillLeaves filledWords variablesOf
+fill-wrote s a out k e =
+    let bits = filledIn (heldRows s) (bitsOf (s .counts .variables) a) in
+    let size : length (wordsOf bits) ≡ wordCount (variablesOf s) =
+    form-count (length bits) (wordsOf bits) (words-form bits) ∙ ap wordCount (length-filled (s .counts .variables) (heldRows s) a) in
+    let count : k ≡ length (wordsOf bits) = fill-count s a (length out) k e ∙ sym size in
+    rw (e, count) (take-append-seam (wordsOf bits) (drop (length (wordsOf bits)) out))
+
+-- a descent answered settled, so it settled, and left what it reached
+record Settles (s : Store) (a : List ℕ) (limit moves : ℕ) : Type 0 where
+  reached : List Bool
+  ends : descend limit (heldRows s) (bitsOf (s .counts .variables) a) ≡ settled moves reached
+  leaves : descendLeaves s a limit ≡ wordsOf reached
+
+descend-settled : (s : Store) (a : List ℕ) (limit moves : ℕ) → descendSays s a limit ≡ done (Descended.Settled moves) → Settles s a limit moves
+unfolding descendSays descendLeaves descended
+descend-settled s a limit moves e =
+    by (standingOf s) refl (isAssignment (s .counts .variables) a) refl (descend limit (heldRows s) (bitsOf (s .counts .variables) a)) refl e
+  where
+    by : (standing : Standing) → standingOf s ≡ standing → (form : Bool) → isAssignment (s .counts .variables) a ≡ form
+        → (ending : Ending) → descend limit (heldRows s) (bitsOf (s .counts .variables) a) ≡ ending
+        → onStore standing (cond form (done (answerOf ending)) (refused 12 0)) ≡ done (Descended.Settled moves) → Settles s a limit moves
+    by Standing.Ready p true q (settled count b) d e =
+        let same : count ≡ moves = cc in
+        record { reached = b; ends = d ∙ ap (λ (m : ℕ). settled m b) same; leaves = rw (p, q, d) }
+    by Standing.Ready p true q (spent count b) d e = let z : _≡_ {A = ℕ} 0 1 = cc in absurd (omega arith)
+    by Standing.Ready p false q ending d e = let z : _≡_ {A = ℕ} 0 1 = cc in absurd (omega arith)
+    by (Standing.Refused r) p form q ending d e = let z : _≡_ {A = ℕ} 0 1 = cc in absurd (omega arith)
+
+-- ---- the same numbers, formulas and rows
+
+module _ {m n : ℕ} (e : m ≡ n) where
+  same-literals : {F G : List (List ℕ)} → F ≡ G → allOf (allOf (isLiteral m)) F ≡ true → allOf (allOf (isLiteral n)) G ≡ true
+  same-literals q h = rw (← e, ← q) h
+
+  same-rows : {ps qs : List (List ℕ)} → ps ≡ qs → allOf (isRow m) ps ≡ true → allOf (isRow n) qs ≡ true
+  same-rows q h = rw (← e, ← q) h
+
+  same-made : {F G ps qs : List (List ℕ)} → F ≡ G → ps ≡ qs → made m F ps ≡ made n G qs
+  same-made q r = rw (e, q, r)
+
+  same-all : {ps qs : List (List ℕ)} → ps ≡ qs → madeVariables m ps ≡ madeVariables n qs
+  same-all r = rw (e, r)
+
+  same-descent : {ps qs : List (List ℕ)} → ps ≡ qs → (limit : ℕ) (words : List ℕ) {ending : Ending} → descend limit ps (bitsOf m words) ≡ ending
+      → descend limit qs (bitsOf n words) ≡ ending
+  same-descent r limit words d = rw (← e, ← r) d
+
+  same-filled : {ps qs : List (List ℕ)} → ps ≡ qs → (words : List ℕ) → wordsOf (filledIn ps (bitsOf m words)) ≡ wordsOf (filledIn qs (bitsOf n words))
+  same-filled r words = rw (e, r)
+
+-- ---- the theorem
+
+module _ (s : Store) (text : List ℕ) (sizes : Sizes) (calls : List Call) (opens : openSays s text ≡ done sizes) where
+  abbrev n : ℕ
+  n = variables s text calls
+
+  abbrev F : List (List ℕ)
+  F = formula s text calls
+
+  abbrev ps : List (List ℕ)
+  ps = permutations s text calls
+
+  abbrev t : Store
+  t = left s text calls
+
+  same-variables : t .counts .variables ≡ n
+  same-variables = keeps-calls (openStore s text) calls .variables
+
+  -- the formula and the permutations are those of the store that the list leaves
+  symmetric : Symmetric n F ps
+  symmetric =
+      let a = after-opening s text sizes calls opens in
+      record {
+        literals = same-literals same-variables (a .plain) (literals-within t (formed t (a .formed)));
+        permutations = same-rows same-variables (a .rows) (rows-of t (a .formed));
+        symmetries = a .symmetries;
+      }
+
+  made-is : madeOf t ≡ made n F ps
+  unfolding madeOf
+  made-is = let a = after-opening s text sizes calls opens in same-made same-variables (a .plain) (a .rows)
+
+  variables-are : variablesOf t ≡ madeVariables n ps
+  unfolding variablesOf
+  variables-are = let a = after-opening s text sizes calls opens in same-all same-variables (a .rows)
+
+  pub demand-3 : Demand3 s text calls
+  unfolding filledIn
+  demand-3 =
+      let a = after-opening s text sizes calls opens in
+      let y = symmetric in
+      record {
+        rows = a .rows;
+        plain = a .plain;
+        makes = made-is;
+        satisfiable = rw (variables-are, made-is) (satisfiable-iff y);
+        carried = λ x m. carried-to-kept y x m;
+        settles = λ words limit moves m e.
+            let d = descend-settled t words limit moves e in
+            let ends = same-descent same-variables (a .rows) limit words (d .ends) in
+            let k = settled-kept y limit moves (bitsOf n words) (d .reached) m ends .0 in
+            rw (d .leaves, bits-words n (d .reached) (k .plain .size)) k;
+        kept = λ x. (
+          λ k. (k .plain, kept-iff n F ps (y .literals) (y .permutations) x (k .plain) .0 k),
+          λ m. kept-iff n F ps (y .literals) (y .permutations) x (m .0) .1 (m .1),
+        );
+        one = λ x u v k c d. one-setting n F ps (y .literals) (y .permutations) x u v (k .plain .size) c d;
+        fills = λ words out written k e. (
+          settings ps (bitsOf n words),
+          filled-completes n F ps (y .literals) (y .permutations) (bitsOf n words) k,
+          fill-wrote t words out written e ∙ same-filled same-variables (a .rows) words,
+        );
+      }

@@ -34,7 +34,7 @@ enum symbreak_refusal {
     SYMBREAK_VALUE_NOT_NUMBER = 9,  /* value line: a word that is no number */
     SYMBREAK_BAD_VALUE = 10,        /* value line: a value that is no name or repeated, or too few (place: length) */
     SYMBREAK_NO_SYMMETRY = 11,      /* no symmetry; the number, from 1, of the first clause whose image is missing */
-    SYMBREAK_BAD_ASSIGNMENT = 12,   /* assignments of unequal lengths, or of more than 519 words */
+    SYMBREAK_BAD_ASSIGNMENT = 12,   /* an assignment of the wrong length or with a spare bit set; in a comparison, unequal lengths or more than 519 words */
     SYMBREAK_NO_SUCH_CLAUSE = 13,   /* clause number 0 or above M */
     SYMBREAK_NO_FIGURE = 14,        /* not unlabelled <= allowed <= labelled, labelled = unlabelled, or labelled over 10^12 */
     SYMBREAK_NOT_OPEN = 20,         /* the store is not open */
@@ -69,6 +69,14 @@ typedef struct {
     uint64_t value;
 } symbreak_answer;
 
+/* What a descent answers: refusal 0, settled 1 or 0 (spent), and the count of moves; or the number of a refusal and its place. */
+typedef struct {
+    uint32_t refusal;
+    uint64_t place;
+    uint64_t settled;
+    uint64_t moves;
+} symbreak_descent;
+
 /* A new store's record: closed, and all counts 0. */
 symbreak_record symbreak_new_record(void);
 
@@ -100,8 +108,29 @@ symbreak_answer symbreak_clause(uint64_t variables, uint64_t clauses, uint64_t r
                                 const uint16_t *ends, size_t ends_len, const uint16_t *images, size_t images_len, uint64_t q, uint8_t *out,
                                 size_t out_len);
 
-/* Assignments are 64-bit words: variable 1 is the highest bit of the first word, 1 is true.
- * The value is the variable at which a and b first differ, or 0 where they are equal; words of any value. Refusal 12. */
+/* Assignments are 64-bit words: variable 1 is the highest bit of the first word, 1 is true, spare low bits are 0, and the count of words is just enough:
+ * (n + 63) / 64 for the plain formula's n variables, (N + 63) / 64 for the made formula's N, at most SYMBREAK_MAX_WORDS. */
+#define SYMBREAK_MAX_WORDS 519
+
+/* Writes the assignment of 1..N that an assignment a of 1..n fills in as: a itself, and each auxiliary true exactly where a agrees with a moved so far. The value
+ * is the count of words written; words past them stay. Refusals 20, 21, 12, 23. */
+symbreak_answer symbreak_fill_in(uint64_t variables, uint64_t clauses, uint64_t rows, uint64_t is_open, const uint16_t *literals, size_t literals_len,
+                                 const uint16_t *ends, size_t ends_len, const uint16_t *images, size_t images_len, const uint64_t *a, size_t a_len,
+                                 uint64_t *out, size_t out_len);
+
+/* Checks an assignment of 1..N against the made formula: the value is 0 for yes, or the number, from 1, of the first clause that is false.
+ * Refusals 20, 21, 12. */
+symbreak_answer symbreak_check(uint64_t variables, uint64_t clauses, uint64_t rows, uint64_t is_open, const uint16_t *literals, size_t literals_len,
+                               const uint16_t *ends, size_t ends_len, const uint16_t *images, size_t images_len, const uint64_t *a, size_t a_len);
+
+/* Moves an assignment a of 1..n by the first row that makes it smaller, from the first row again after each move, at most as often as the limit says. It
+ * settles where no row makes it smaller, and is spent where the moves equal the limit and one still does; a holds the assignment reached either way. From
+ * a model of the formula, a settled descent ends on a kept one. Refusals 20, 21, 12. */
+symbreak_descent symbreak_descend(uint64_t variables, uint64_t clauses, uint64_t rows, uint64_t is_open, const uint16_t *literals, size_t literals_len,
+                                  const uint16_t *ends, size_t ends_len, const uint16_t *images, size_t images_len, uint64_t *a, size_t a_len,
+                                  uint64_t limit);
+
+/* Compares two assignments. The value is the variable at which a and b first differ, or 0 where they are equal; words of any value. Refusal 12. */
 symbreak_answer symbreak_compare(const uint64_t *a, size_t a_len, const uint64_t *b, size_t b_len);
 
 /* The value is 10,000 * (labelled - allowed) / (labelled - unlabelled), cut off downwards: hundredths of a percent. Refusal 14. */

@@ -44,23 +44,17 @@ module _ (s : Store) (text : List ℕ) (calls : List Call) where
     pub rows : heldRows left ≡ permutations
     pub plain : plainOf left ≡ formula
     pub makes : madeOf left ≡ made variables formula permutations
-
     -- "After the list the made formula has a model exactly when the plain one has."
     pub satisfiable : Satisfiable variables formula ↔ Satisfiable (variablesOf left) (madeOf left)
-
     -- "Every plain model is carried by accepted permutations, one after another, as often as needed or not at all, to a kept one."
     pub carried : (a : List Bool) → Plain a → (b : List Bool) × Carried permutations a b × IsKept b
-
     -- "Every descent that starts at a plain model and answers settled, whatever its limit, ends on a kept one."
     pub settles : (words : List ℕ) (limit moves : ℕ) → Plain (bitsOf variables words) → descendSays left words limit ≡ done (Descended.Settled moves)
         → IsKept (bitsOf variables (descendLeaves left words limit))
-
     -- "Kept are exactly those plain models that no accepted permutation makes smaller."
     pub kept : (a : List Bool) → IsKept a ↔ (Plain a × Least permutations a)
-
     -- "For each of them exactly one setting of the auxiliary variables makes it a model of the made formula,"
     pub one : (a t u : List Bool) → IsKept a → Completes variables formula permutations a t → Completes variables formula permutations a u → t ≡ u
-
     -- "and filling in, unless refused, writes it with that setting."
     pub fills : (words out : List ℕ) (written : ℕ) → IsKept (bitsOf variables words) → fillSays left words (length out) ≡ done written
         → (t : List Bool) × Completes variables formula permutations (bitsOf variables words) t × (take written (fillLeaves left words out) ≡ wordsOf (bitsOf variables words ++ t))

@@ -184,7 +184,7 @@ def edged(chance, n):
     return [], rows
 
 
-def family(chance, n, kinds=(cycles, powers, columns, edged)):
+def family(chance, n, kinds=(cycles, powers, columns, edged, edged)):
     """Clauses, seldom empty ones, and permutations of which most keep them."""
     clauses, rows = chance.choice(kinds)(chance, n)
     return [clause for clause in clauses if clause or chance.random() < 0.05], rows

@@ -189,6 +189,19 @@ class Refusals(Calls):
 SIZES = [0, 1, 2, 3, 4, 6, 9, 20, 40, 58, 60, 62, 63, 64, 65, 66, 100, 126, 127, 128, 129, 130]
 
 
+WANTED = [
+    *(("fill in", outcome) for outcome in (None, 12, 20, 21, 23)),
+    *(("check", outcome) for outcome in ("yes", "plain", "added", 12, 20, 21)),
+    *(("descend", (ending, moves)) for ending in ("settled", "spent") for moves in (0, 1, 2, 3)),
+    *(("descend", outcome) for outcome in (12, 20, 21)),
+    *(("place among six", r) for r in (1, 3, 4, 5, 6)),
+    *(("variables", n) for n in SIZES if n > 1),
+    *(("last word", rest) for rest in (63, 0, 1)),
+    "more words",
+    "refused offers",
+]
+
+
 def last_number(host):
     """The N of the made formula, as the library writes it."""
     return int(host.header(bytes(32))[1].split()[2])
@@ -201,17 +214,19 @@ def stated(n, names, values):
 
 
 def offer_all(chance, host, n, rows, last=TOP):
-    """A list of offers, damaged ones among them, that ends when the made formula has more variables than `last`; the accepted permutations."""
-    accepted = []
+    """A list of offers, damaged ones among them, until the made formula passes `last` variables; what was accepted, how many were refused."""
+    accepted, refused = [], 0
     for row in rows:
         names, values = generate.offers(chance, n, [row])
         if chance.random() < 0.15:
             values = generate.damaged(chance, values)
-        if host.offer(names, values) == ("done",):
-            accepted.append(stated(n, names, values))
-            if last_number(host) > last:
-                break
-    return accepted
+        if refusal(host.offer(names, values)):
+            refused += 1
+            continue
+        accepted.append(stated(n, names, values))
+        if last_number(host) > last:
+            break
+    return accepted, refused
 
 
 def damage(chance, host):
@@ -224,7 +239,8 @@ def damage(chance, host):
     elif kind == 1:
         host.record = host.record._replace(open=chance.random() < 0.3)
     else:
-        name, used = chance.choice([("literals", 2 * counts["clauses"]), ("ends", counts["clauses"]), ("images", counts["rows"] * counts["variables"])])
+        held = {"literals": 2 * counts["clauses"], "ends": counts["clauses"], "images": counts["rows"] * counts["variables"]}
+        name, used = chance.choice(list(held.items()))
         part = list(getattr(host, name))
         at = chance.randrange(min(used, len(part)) + 1)
         part[at:] = [chance.choice([0, 1, 2, 3, 5, 12, 65535, chance.randrange(300)]), *part[at + 1:]] if kind == 2 else []
@@ -236,7 +252,8 @@ def flipped(a, i):
     return [word ^ (1 << 63 - (i - 1) % 64 if at == (i - 1) // 64 else 0) for at, word in enumerate(a)]
 
 
-def maybe_misfit(chance, n, a):
+def at_times_misfit(chance, n, a):
+    """The assignment, or now and then words that are none of 1..n."""
     return generate.misfit(chance, n, a) if chance.random() < 0.08 else a
 
 
@@ -247,9 +264,9 @@ class Random(Calls):
         """Descends from an assignment with several limits; what was reached."""
         reached = []
         for limit in [0, 1, 2, chance.randint(3, 9), TOP]:
-            answer, left = self.descend(host, maybe_misfit(chance, n, a), limit)
+            answer, left = self.descend(host, at_times_misfit(chance, n, a), limit)
             reached.append(left)
-            seen["descend", refusal(answer) or answer[1:2] + (min(answer[2], 3),)] += 1
+            seen["descend", refusal(answer) or (answer[1], min(answer[2], 3))] += 1
         return reached
 
     def fillings(self, chance, host, n, last, starts, seen):
@@ -257,7 +274,7 @@ class Random(Calls):
         written = []
         for a in starts:
             length = reference.word_count(last) + chance.choice([0, 0, 1, 3]) if chance.random() < 0.9 else chance.randrange(3)
-            answer, out = self.fill_in(host, maybe_misfit(chance, n, a), [chance.getrandbits(64) for _ in range(length)])
+            answer, out = self.fill_in(host, at_times_misfit(chance, n, a), [chance.getrandbits(64) for _ in range(length)])
             seen["fill in", refusal(answer)] += 1
             if answer[0] == "done":
                 written.append(out[:answer[1]])
@@ -267,20 +284,27 @@ class Random(Calls):
         """Checks filled in assignments, the same with an auxiliary changed, and others."""
         changed = [flipped(a, chance.randint(n + 1, last)) for a in filled if last > n]
         for a in filled + changed + [packed(generate.digits(chance, last))]:
-            answer = self.check(host, maybe_misfit(chance, last, a))
-            seen["check", refusal(answer) or ("yes" if answer[1] == 0 else "plain" if answer[1] <= host.record.clauses else "added")] += 1
+            answer = self.check(host, at_times_misfit(chance, last, a))
+            added = answer[-1] - host.record.clauses
+            seen["check", refusal(answer) or ("yes" if answer[1] == 0 else "added" if added > 0 else "plain")] += 1
+            seen["place among six", (added - 1) % 6 + 1] += refusal(answer) is None and added > 0
+
+    def offered(self, chance, n, clauses, rows, seen):
+        """A store after a list of offers, and the N of its made formula."""
+        host = opened(generate.text(chance, n, clauses))
+        seen["refused offers"] += offer_all(chance, host, n, rows)[1]
+        last = reference.made_counts(host.record, list(host.images))[0]
+        seen["variables", n] += host.record.rows > 0
+        seen["last word", last % 64] += last > n
+        seen["more words"] += reference.word_count(last) > reference.word_count(n)
+        return host, last
 
     def test_random(self):
         chance = random.Random(10)
         seen = Counter()
-        for _ in range(220):
-            n = chance.choice(SIZES)
+        for n in SIZES * 10:
             clauses, rows = generate.family(chance, n)
-            host = opened(generate.text(chance, n, clauses))
-            offer_all(chance, host, n, rows + [generate.permutation(chance, n)])
-            last = reference.made_counts(host.record, list(host.images))[0]
-            seen["beside a word's end", last % 64] += last > n
-            seen["a word more"] += reference.word_count(last) > reference.word_count(n)
+            host, last = self.offered(chance, n, clauses, rows + [generate.permutation(chance, n)] * (clauses != []), seen)
             for _ in range(2):
                 if chance.random() < 0.15:
                     damage(chance, host)
@@ -288,9 +312,8 @@ class Random(Calls):
                 reached = self.descents(chance, host, n, a, seen)
                 filled = self.fillings(chance, host, n, last, [packed(generate.digits(chance, n)), a, reached[-1]], seen)
                 self.checks(chance, host, n, last, filled, seen)
-        for sort in [(call, number) for call in ("fill in", "check", "descend") for number in (12, 20, 21)]:
+        for sort in WANTED:
             self.assertGreater(seen[sort], 5, sort)
-        print(seen)
 
 
 def made_formula(host):
@@ -387,19 +410,21 @@ class Demand3(unittest.TestCase):
     def test_lists(self):
         chance = random.Random(11)
         seen = Counter()
-        for _ in range(160):
+        for _ in range(300):
             n = chance.choice([0, 1, 2, 3, 3, 4, 4, 5, 5, 6, 7])
             clauses, rows = generate.family(chance, n, (generate.cycles, generate.powers, generate.columns))
             host = opened(b"p cnf %d %d\n" % (n, len(clauses)) + b"".join(map(reference.clause_line, clauses)), 400, 120, 80)
             offers = chance.choices(rows, k=chance.randint(1, 4)) + [generate.permutation(chance, n)]
             chance.shuffle(offers)
-            accepted = offer_all(chance, host, n, offers, 10)
+            accepted, refused = offer_all(chance, host, n, offers, 10)
             before = host.parts()
             self.whole(host, n, clauses, accepted, seen)
             self.assertEqual(host.parts(), before)
-            seen["rows", min(len(accepted), 2)] += 1
-            seen["refused"] += len(offers) > len(accepted)
-        print(seen)
+            seen["rows", min(len(accepted), 2), refused > 0] += 1
+        for sort, least in [(("satisfiable", True), 200), (("satisfiable", False), 20), ("kept", 2000), ("dropped", 1000), ("spent", 2000),
+                            ("false added", 2000), (("moves", 0), 1000), (("moves", 1), 1000), (("moves", 2), 300), (("moves", 3), 100),
+                            (("rows", 1, True), 20), (("rows", 2, True), 80)]:
+            self.assertGreater(seen[sort], least, sort)
 
 
 if __name__ == "__main__":

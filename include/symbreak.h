@@ -87,6 +87,7 @@ symbreak_record symbreak_new_record(void);
  * Entries past those in use are never looked at and never changed. */
 
 /* Opens a formula, DIMACS CNF text as document 01 narrows it: it replaces what the store held and drops its rows. The record lent is not looked at.
+ * A carriage return is no blank: it belongs to a word, so that lines that end in one are refused.
  * Refusals 1 to 6; then 23 for literals, then 23 for ends. */
 symbreak_stored symbreak_open(uint64_t variables, uint64_t clauses, uint64_t rows, uint64_t is_open, const uint8_t *text, size_t text_len,
                               uint16_t *literals, size_t literals_len, uint16_t *ends, size_t ends_len);
@@ -98,7 +99,8 @@ symbreak_stored symbreak_offer(uint64_t variables, uint64_t clauses, uint64_t ro
                                const uint8_t *values, size_t values_len);
 
 /* The made formula: the plain clauses, then those of each row. Header and clauses are written one line at a time, each with its line feed; the value is
- * the line's length in bytes, and bytes past it stay. A header has at most 19 bytes; a line of L literals has at most 7 * L + 2.
+ * the line's length in bytes, and bytes past it stay. A header has at most 19 bytes; a line of L literals has at most 7 * L + 2. N and M are the two numbers
+ * of the header. Each call looks over the whole store first, so its time grows with the rows held.
  * Refusals 20, 21, 23. */
 symbreak_answer symbreak_header(uint64_t variables, uint64_t clauses, uint64_t rows, uint64_t is_open, const uint16_t *literals, size_t literals_len,
                                 const uint16_t *ends, size_t ends_len, const uint16_t *images, size_t images_len, uint8_t *out, size_t out_len);
@@ -109,7 +111,8 @@ symbreak_answer symbreak_clause(uint64_t variables, uint64_t clauses, uint64_t r
                                 size_t out_len);
 
 /* Assignments are 64-bit words: variable 1 is the highest bit of the first word, 1 is true, spare low bits are 0, and the count of words is just enough:
- * (n + 63) / 64 for the plain formula's n variables, (N + 63) / 64 for the made formula's N, at most SYMBREAK_MAX_WORDS. */
+ * (n + 63) / 64 for the plain formula's n variables, (N + 63) / 64 for the made formula's N, at most SYMBREAK_MAX_WORDS. To take the plain part of a made
+ * formula's model, take its first (n + 63) / 64 words and set the spare bits of the last one to 0, since auxiliaries may stand there. */
 #define SYMBREAK_MAX_WORDS 519
 
 /* Writes the assignment of 1..N that an assignment a of 1..n fills in as: a itself, and each auxiliary true exactly where a agrees with a moved so far. The value

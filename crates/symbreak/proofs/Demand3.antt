@@ -149,6 +149,7 @@ module _ (s : Store) (text : List ℕ) (sizes : Sizes) (calls : List Call) (open
         rows = a .rows;
         plain = a .plain;
         makes = made-is;
+        numbers = variables-are;
         satisfiable = rw (variables-are, made-is) (satisfiable-iff y);
         carried = λ x m. carried-to-kept y x m;
         settles = λ words limit moves m e.

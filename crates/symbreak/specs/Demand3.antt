@@ -11,7 +11,7 @@ use Rattle.store.specs.Refusals.{done}
 use Rattle.store.specs.Stores.{Store, plainOf, heldRows}
 use Rattle.opening.specs.Opening.{formulaOf}
 use Rattle.lexleader.specs.Models.{Model, Satisfiable}
-use Rattle.lexleader.specs.Made.{made}
+use Rattle.lexleader.specs.Made.{made, madeVariables}
 use Rattle.lexleader.specs.Kept.{Completes, Kept, Least, Carried}
 use Rattle.emit.specs.Emit.{madeOf, variablesOf}
 use Rattle.descent.specs.declared.Descended.{Descended}
@@ -44,6 +44,7 @@ module _ (s : Store) (text : List ℕ) (calls : List Call) where
     pub rows : heldRows left ≡ permutations
     pub plain : plainOf left ≡ formula
     pub makes : madeOf left ≡ made variables formula permutations
+    pub numbers : variablesOf left ≡ madeVariables variables permutations
     -- "After the list the made formula has a model exactly when the plain one has."
     pub satisfiable : Satisfiable variables formula ↔ Satisfiable (variablesOf left) (madeOf left)
     -- "Every plain model is carried by accepted permutations, one after another, as often as needed or not at all, to a kept one."

@@ -1,2 +1,1 @@
-pub mod ValueLaws
 pub mod CheckLaws

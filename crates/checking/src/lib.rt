@@ -4,13 +4,15 @@ use cursor::Cursor;
 use store::record::Record;
 ghost use mathlib.Core.Path.{_≡_};
 ghost use mathlib.Core.Bool.{true};
-ghost use mathlib.Core.List.{List, []};
-ghost use Prim.Native.Nat.{ℕ, _*_, _≤_, _<_};
+ghost use mathlib.Core.List.{[]};
+ghost use Prim.Native.Nat.{ℕ, _*_, _<_};
 ghost use lib.ListN.{length, getD};
+ghost use Rattle.lists.specs.Tests.{allOf};
 ghost use Rattle.packed.specs.Words.{bitsOf, isAssignment};
 ghost use Rattle.packed.specs.Order.{valueOf};
+ghost use Rattle.store.specs.Literals.{isLiteral};
 ghost use Rattle.store.specs.Stores.{lent, wellFormed};
-ghost use Rattle.lexleader.specs.Models.{literalValue, clauseHolds};
+ghost use Rattle.lexleader.specs.Models.{clauseHolds};
 ghost use Rattle.cursor.specs.Cursors.{clausesLeft, Points};
 ghost use Rattle.emit.specs.Emit.{variablesOf};
 ghost use Rattle.checking.specs.Checking.{firstFalse};
@@ -49,8 +51,8 @@ fn holds_at(
     at: Cursor,
     a: &[u64],
 ) -> bool
-    requires { ⌜ (wellFormed (lent counts (now literals) (now ends) (now images)) ≡ true) × Points counts (now images) at × (0 < length (clausesLeft (lent counts (now literals) (now ends) (now images)) at)) ⌝ }
-    ensures { λ r. ⌜ ((n : ℕ) → isAssignment n (now (a .entry)) ≡ true → r ≡ clauseHolds (valueOf (bitsOf n (now (a .entry)))) (getD (clausesLeft (lent counts (now (literals .entry)) (now (ends .entry)) (now (images .entry))) at) 0 [])) ⌝ }
+    requires { ⌜ (wellFormed (lent counts (now literals) (now ends) (now images)) ≡ true) × Points counts (now images) at × (0 < length (clausesLeft (lent counts (now literals) (now ends) (now images)) at)) × (isAssignment (variablesOf (lent counts (now literals) (now ends) (now images))) (now a) ≡ true) × (allOf (isLiteral (variablesOf (lent counts (now literals) (now ends) (now images)))) (getD (clausesLeft (lent counts (now literals) (now ends) (now images)) at) 0 []) ≡ true) ⌝ }
+    ensures { λ r. ⌜ r ≡ clauseHolds (valueOf (bitsOf (variablesOf (lent counts (now (literals .entry)) (now (ends .entry)) (now (images .entry)))) (now (a .entry)))) (getD (clausesLeft (lent counts (now (literals .entry)) (now (ends .entry)) (now (images .entry))) at) 0 []) ⌝ }
 {
     if at.plain < counts.clauses {
         let passed = at.plain;
@@ -69,11 +71,12 @@ fn holds_at(
 
 // Whether a clause of the store has a true literal.
 fn stored_holds(clause: &[u16], a: &[u64]) -> bool
-    ensures { λ r. ⌜ ((n : ℕ) → isAssignment n (now (a .entry)) ≡ true → r ≡ clauseHolds (valueOf (bitsOf n (now (a .entry)))) (now (clause .entry))) ⌝ }
+    requires { ⌜ allOf (isLiteral (64 * length (now a))) (now clause) ≡ true ⌝ }
+    ensures { λ r. ⌜ ((n : ℕ) → allOf (isLiteral n) (now (clause .entry)) ≡ true → r ≡ clauseHolds (valueOf (bitsOf n (now (a .entry)))) (now (clause .entry))) ⌝ }
 {
     let mut i = 0;
     while i < clause.len() {
-        if literal_true(a, clause[i] as u32) {
+        if valuation::literal_value(a, clause[i] as u32) {
             return true;
         }
         i += 1;
@@ -83,46 +86,15 @@ fn stored_holds(clause: &[u16], a: &[u64]) -> bool
 
 // Whether a clause of any codes, as the rows add them, has a true literal.
 fn codes_hold(clause: &[u32], a: &[u64]) -> bool
-    ensures { λ r. ⌜ ((n : ℕ) → isAssignment n (now (a .entry)) ≡ true → r ≡ clauseHolds (valueOf (bitsOf n (now (a .entry)))) (now (clause .entry))) ⌝ }
+    requires { ⌜ allOf (isLiteral (64 * length (now a))) (now clause) ≡ true ⌝ }
+    ensures { λ r. ⌜ ((n : ℕ) → allOf (isLiteral n) (now (clause .entry)) ≡ true → r ≡ clauseHolds (valueOf (bitsOf n (now (a .entry)))) (now (clause .entry))) ⌝ }
 {
     let mut i = 0;
     while i < clause.len() {
-        if literal_true(a, clause[i]) {
+        if valuation::literal_value(a, clause[i]) {
             return true;
         }
         i += 1;
     }
     false
-}
-
-// Whether a literal is true; a variable past the words is false.
-fn literal_true(a: &[u64], code: u32) -> bool
-    ensures { λ r. ⌜ ((n : ℕ) → isAssignment n (now (a .entry)) ≡ true → r ≡ literalValue (valueOf (bitsOf n (now (a .entry)))) code) ⌝ }
-{
-    let value = value_of(a, (code / 2) as usize);
-    if code % 2 == 1 {
-        return !value;
-    }
-    value
-}
-
-// The value of a variable, false past the words. (Variable 0, which no literal has, is read as variable 1.)
-fn value_of(a: &[u64], variable: usize) -> bool
-    ensures { λ r. ⌜ ((n : ℕ) → isAssignment n (now (a .entry)) ≡ true → r ≡ valueOf (bitsOf n (now (a .entry))) variable) ⌝ }
-{
-    if variable == 0 {
-        return value_of_positive(a, 1);
-    }
-    value_of_positive(a, variable)
-}
-
-fn value_of_positive(a: &[u64], variable: usize) -> bool
-    requires { ⌜ 1 ≤ variable ⌝ }
-    ensures { λ r. ⌜ ((n : ℕ) → isAssignment n (now (a .entry)) ≡ true → r ≡ valueOf (bitsOf n (now (a .entry))) variable) ⌝ }
-{
-    let word = (variable - 1) / 64;
-    if a.len() <= word {
-        return false;
-    }
-    packed::value(a, variable)
 }

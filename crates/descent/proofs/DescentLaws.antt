@@ -4,22 +4,20 @@ use mathlib.Core.Path.{_≡_, refl, sym, ap, _∙_}
 use mathlib.Core.Bool.{Bool, true, false}
 use mathlib.Core.List.{List}
 use Prim.Native.Nat.{ℕ, zero, suc, _+_, _-_, _*_, _^_, _≤_, _<_}
-use native.Mathlib.Numerals.{add-one}
 use native.Mathlib.Omega.{arith}
 use lib.ListN.{length, getD, take, drop}
-use Rattle.lists.specs.Tests.{allOf}
-use Rattle.lists.proofs.Cases.{and-l, and-r}
 use Rattle.packed.specs.Words.{bitsOf, wordsOf, isAssignment}
 use Rattle.packed.proofs.Form.{form-count}
 use Rattle.packed.proofs.Trips.{bits-words, words-form, words-bits}
-use Rattle.store.specs.Stores.{isRow, rowsOf}
-use Rattle.store.proofs.Formed.{rowAt}
+use Rattle.store.specs.Stores.{rowsOf}
+use Rattle.store.proofs.Formed.{rowAt, rows-at}
 use Rattle.lexleader.specs.Rows.{moved, lowers}
 use Rattle.lexleader.specs.Descent.{rest, to, stepBy, settled, spent, descendFrom, descend}
 use Rattle.lexleader.proofs.Images.{length-moved}
 use Rattle.lexleader.proofs.Left.{part-is, left, left-all, left-step, left-end, row-size}
 use Rattle.descent.specs.declared.Descended.{Descended}
-use Rattle.descent.specs.Words.{answerOf, descended, Ready}
+use Rattle.valuation.specs.Ready.{Ready}
+use Rattle.descent.specs.Words.{answerOf, descended}
 use Rattle.descent.proofs.MoveLaws.{Fit, movedWords}
 
 -- ---- the search for a row
@@ -46,21 +44,12 @@ abbrev partAt : ℕ → ℕ → List ℕ → List ℕ
 partAt n r images = take (r * n + n - r * n) (drop (r * n) images)
 
 module _ (n rows : ℕ) (images a : List ℕ) (ready : Ready n rows images a) where
-  good-left : (r : ℕ) → r ≤ rows → allOf (isRow n) (left n rows images r) ≡ true
-  unfolding allOf
-  good-left zero h = rw (left-all n rows images) (ready .good)
-  good-left (suc r) h = rw (← add-one) (and-r (isRow n (rowAt n r images)) _ (rw (left-step n rows images r (omega arith)) at (good-left r (omega arith))))
-
-  good-row : (r : ℕ) → r < rows → isRow n (rowAt n r images) ≡ true
-  unfolding allOf
-  good-row r h = and-l (isRow n (rowAt n r images)) _ (rw (left-step n rows images r h) at (good-left r (omega arith)))
-
   module _ (r : ℕ) (h : r < rows) where
     part-size : length (partAt n r images) ≡ n
     part-size = rw (part-is n r images) (row-size n rows images (ready .fits) r h)
 
     pub part-fit : Fit (partAt n r images) a
-    part-fit = rw (part-size, part-is n r images) (ready .small, good-row r h, ready .form)
+    part-fit = rw (part-size, part-is n r images) (ready .small, rows-at n rows images (ready .good) r h, ready .form)
 
     pub part-lowers : (b : Bool) → b ≡ lowers (partAt n r images) (bitsOf (length (partAt n r images)) a) → lowers (rowAt n r images) (bitsOf n a) ≡ b
     part-lowers b e = sym (rw (part-size, part-is n r images) at e)

@@ -1,48 +1,27 @@
 -- One row and one assignment in words: the values of images, the order of what is left from index i on, and the words of the moved assignment.
 -- Assumes nothing.
 use mathlib.Core.Path.{_≡_, refl, sym, ap, _∙_}
-use mathlib.Core.Bool.{Bool, true, false, not, cond}
-use mathlib.Core.List.{List, [], _∷_, map}
-use Prim.Native.Nat.{ℕ, zero, suc, _+_, _-_, _*_, _/_, _%_, _^_, _≤_, _<_}
-use native.Mathlib.Nat.{not-suc-le-zero, le-of-suc-le-suc, pow-suc}
+use mathlib.Core.Bool.{Bool, true, false, cond}
+use mathlib.Core.List.{List, _∷_}
+use Prim.Native.Nat.{ℕ, _+_, _*_, _/_, _^_, _≤_, _<_}
 use native.Mathlib.Numerals.{add-one}
 use native.Mathlib.Omega.{arith}
-use borrow.Author.Tests.{eq-eqb, ne-eqb}
 use lib.ListN.{length, getD, take, drop, set, drop-of-length-le, List·getD-eq-default}
 use lib.Pow.{pow-mono}
 use lib.Seq.{take-suc, take-suc-set}
 use Rattle.lists.proofs.Steps.{drop-step}
-use Rattle.lists.proofs.TableLaws.{length-table, getD-table}
-use Rattle.packed.specs.Words.{bitAt, bitsOf, binary, wordCount, wordsOf, isAssignment}
+use Rattle.lists.proofs.Members.{map-at}
+use Rattle.packed.specs.Words.{bitsOf, binary, wordCount, wordsOf, isAssignment}
 use Rattle.packed.specs.Order.{valueOf, less}
-use Rattle.packed.proofs.Bits.{getD-bits}
-use Rattle.packed.proofs.Form.{form-count}
+use Rattle.packed.proofs.Form.{form-count, form-room}
+use Rattle.packed.proofs.Trips.{binary-lt, length-words, getD-words}
 use Rattle.store.specs.Stores.{isRow}
 use Rattle.store.proofs.Formed.{row-of}
 use Rattle.lexleader.specs.Models.{literalValue}
 use Rattle.lexleader.specs.Rows.{moved, lowers}
 use Rattle.lexleader.proofs.Images.{length-moved}
 
--- ---- the value of a literal
-
-pub value-is : (n i : ℕ) (a : List ℕ) → 1 ≤ i → i ≤ n → bitAt a (i - 1) ≡ valueOf (bitsOf n a) i
-value-is n i a low high = sym (getD-bits n a (i - 1) (omega arith))
-
-module _ (v : ℕ → Bool) (code : ℕ) where
-  pub literal-negative : code % 2 ≡ 1 → literalValue v code ≡ not (v (code / 2))
-  unfolding literalValue
-  literal-negative e = rw (eq-eqb (code % 2) 1 e)
-
-  pub literal-positive : (code % 2 ≡ 1 → ⊥) → literalValue v code ≡ v (code / 2)
-  unfolding literalValue
-  literal-positive e = rw (ne-eqb (code % 2) 1 e)
-
 -- ---- a row and an assignment of as many variables in words
-
-map-at : {A B : Type 0} (f : A → B) (l : List A) (i : ℕ) (d : A) (e : B) → i < length l → getD (map f l) i e ≡ f (getD l i d)
-map-at f [] i d e h = absurd (not-suc-le-zero h)
-map-at f (x ∷ l) zero d e h = refl
-map-at f (x ∷ l) (suc i) d e h = map-at f l i d e (le-of-suc-le-suc h)
 
 -- what the functions on one row ask of them
 abbrev pub Fit : List ℕ → List ℕ → Type 0
@@ -57,8 +36,7 @@ movedWords row a = wordsOf (movedBits row a)
 
 module _ (row a : List ℕ) (fit : Fit row a) where
   pub enough : length row ≤ 64 * length a
-  unfolding wordCount
-  enough = omega (arith, form-count (length row) a (fit .2))
+  enough = form-room (length row) a (fit .2)
 
   pub few : length a ≤ 8
   unfolding wordCount
@@ -78,12 +56,10 @@ module _ (row a : List ℕ) (fit : Fit row a) where
   count = ap wordCount (length-moved row (bitsOf (length row) a)) ∙ sym (form-count (length row) a (fit .2))
 
   pub moved-count : length (movedWords row a) ≡ length a
-  unfolding wordsOf
-  moved-count = length-table _ _ ∙ count
+  moved-count = length-words (movedBits row a) ∙ count
 
   pub moved-word-at : (j : ℕ) → j < length a → getD (movedWords row a) j 0 ≡ binary 64 (λ p. getD (movedBits row a) (j * 64 + p) false)
-  unfolding wordsOf
-  moved-word-at j h = getD-table _ _ j 0 (omega (arith, count))
+  moved-word-at j h = getD-words (movedBits row a) j (omega (arith, count))
 
 pub moved-past : (row : List ℕ) (bits : List Bool) (i : ℕ) → length row ≤ i → getD (moved row bits) i false ≡ false
 moved-past row bits i h = List·getD-eq-default (moved row bits) false (omega (arith, length-moved row bits))
@@ -123,17 +99,8 @@ module _ (row : List ℕ) (bits : List Bool) (i : ℕ) (size : length bits ≡ l
 -- ---- a word digit by digit, and words one after the other
 
 module _ (f : ℕ → Bool) where
-  binary-lt : (k : ℕ) → binary k f < 2 ^ k
-  unfolding binary
-  binary-lt zero = omega arith
-  binary-lt (suc k) = go (f k) (binary-lt k)
-    where
-      go : (b : Bool) → binary k f < 2 ^ k → binary k f * 2 + cond b 1 0 < 2 ^ suc k
-      go true h = omega (arith, pow-suc 2 k)
-      go false h = omega (arith, pow-suc 2 k)
-
   pub binary-fits : (k : ℕ) → k ≤ 64 → binary k f < 2 ^ 64
-  binary-fits k h = omega (arith, binary-lt k, pow-mono {i = k} {j = 64} h)
+  binary-fits k h = omega (arith, binary-lt k f, pow-mono {i = k} {j = 64} h)
 
   pub binary-none : binary 0 f ≡ 0
   unfolding binary

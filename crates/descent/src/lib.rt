@@ -3,15 +3,14 @@
 // digit as `binary` says (packed/specs/Words.antt), and each turn of the loop leaves what the descent comes to.
 ghost use mathlib.Core.Path.{_≡_};
 ghost use mathlib.Core.Bool.{true, false, cond};
-ghost use Prim.Native.Nat.{ℕ, _+_, _*_, _/_, _≤_, _<_};
+ghost use Prim.Native.Nat.{_+_, _*_, _≤_, _<_};
 ghost use lib.ListN.{length, getD, take, drop};
 ghost use Rattle.packed.specs.Words.{bitsOf, binary, wordsOf, isAssignment};
-ghost use Rattle.packed.specs.Order.{valueOf};
 ghost use Rattle.store.specs.Stores.{isRow, rowsOf};
-ghost use Rattle.lexleader.specs.Models.{literalValue};
 ghost use Rattle.lexleader.specs.Rows.{moved, lowers};
 ghost use Rattle.lexleader.specs.Descent.{rest, to, stepBy, descend};
-ghost use Rattle.descent.specs.Words.{answerOf, descended, Ready};
+ghost use Rattle.valuation.specs.Ready.{Ready};
+ghost use Rattle.descent.specs.Words.{answerOf, descended};
 
 // How a descent ends, with the count of its moves.
 pub enum Descended {
@@ -67,7 +66,7 @@ pub fn lowers(row: &[u16], a: &[u64]) -> bool
     let mut i = 0;
     while i < row.len() {
         let own = packed::value(a, i + 1);
-        let image = literal_value(a, row[i]);
+        let image = valuation::literal_value(a, row[i] as u32);
         if own {
             if !image {
                 return true;
@@ -130,20 +129,8 @@ fn digit(row: &[u16], a: &[u64], i: usize) -> u64
     if row.len() <= i {
         return 0;
     }
-    if literal_value(a, row[i]) {
+    if valuation::literal_value(a, row[i] as u32) {
         return 1;
     }
     0
-}
-
-// The value of a literal.
-fn literal_value(a: &[u64], code: u16) -> bool
-    requires { ⌜ (1 ≤ code / 2) × (code / 2 ≤ 64 * length (now a)) ⌝ }
-    ensures { λ r. ⌜ ((n : ℕ) → code / 2 ≤ n → r ≡ literalValue (valueOf (bitsOf n (now (a .entry)))) code) ⌝ }
-{
-    let value = packed::value(a, (code / 2) as usize);
-    if code % 2 == 1 {
-        return !value;
-    }
-    value
 }

@@ -1,16 +1,14 @@
 -- A loop that appends values: those taken and those left make up all of them. What is left along a row and over the rows, and what all of it comes to.
 -- Assumes nothing.
 use mathlib.Core.Path.{_≡_, refl, sym, ap, _∙_}
-use mathlib.Core.Bool.{Bool, true, _&&_}
+use mathlib.Core.Bool.{Bool, _&&_}
 use mathlib.Core.List.{List, [], _∷_, _++_, append-nil, append-assoc}
 use Prim.Native.Nat.{ℕ, zero, suc, _+_, _-_, _*_, _≤_, _<_}
 use native.Mathlib.Omega.{arith}
 use lib.ListN.{length, take, drop, length-append, length-take}
-use Rattle.lists.specs.Tests.{allOf}
-use Rattle.lists.proofs.Cases.{and-l, and-r}
 use Rattle.packed.specs.Words.{bitsOf, wordCount}
 use Rattle.packed.proofs.Bits.{length-bits}
-use Rattle.store.specs.Stores.{isRow, rowsOf}
+use Rattle.store.specs.Stores.{rowsOf}
 use Rattle.store.proofs.Formed.{rowAt}
 use Rattle.lexleader.specs.Clause.{pairAt, pairsAt, Next}
 use Rattle.lexleader.specs.Made.{agrees, settingsAfter, rowSettings, settings, allAuxiliaries, filledIn, madeVariables}
@@ -18,7 +16,8 @@ use Rattle.lexleader.proofs.Settings.{length-settings}
 use Rattle.lexleader.proofs.Walk.{walk-end}
 use Rattle.lexleader.proofs.Left.{left, left-step, left-end, row-size, part-is, auxiliaries-most}
 use Rattle.filling.specs.declared.Writer.{Writer}
-use Rattle.filling.specs.Written.{Holds, Some, Room, Appends, Ready}
+use Rattle.valuation.specs.Ready.{Ready}
+use Rattle.filling.specs.Written.{Holds, Some, Room, Appends}
 
 -- from a writer and its buffer to another: of all values some are taken, and the rest are left
 pub record Run (w : Writer) (out : List ℕ) (all rest : List Bool) (v : Writer) (after : List ℕ) : Type 0 where
@@ -84,15 +83,6 @@ module _ (n rows : ℕ) (images : List ℕ) (a : List Bool) (r : ℕ) where
   pub over-more : r < rows → settings (left n rows images r) a ≡ rowSettings (rowAt n r images) a ++ settings (left n rows images (r + 1)) a
   unfolding settings
   over-more h = rw (left-step n rows images r h)
-
-module _ (n rows : ℕ) (images : List ℕ) (r : ℕ) (h : r < rows) (good : allOf (isRow n) (left n rows images r) ≡ true) where
-  pub good-here : isRow n (rowAt n r images) ≡ true
-  unfolding allOf
-  good-here = and-l (isRow n (rowAt n r images)) (allOf (isRow n) (left n rows images (r + 1))) (rw (left-step n rows images r h) at good)
-
-  pub good-more : allOf (isRow n) (left n rows images (r + 1)) ≡ true
-  unfolding allOf
-  good-more = and-r (isRow n (rowAt n r images)) (allOf (isRow n) (left n rows images (r + 1))) (rw (left-step n rows images r h) at good)
 
 -- the values of `&images[at..to]` are those of row r
 pub part-settings : (n rows : ℕ) (images words : List ℕ) → rows * n ≤ length images → (r : ℕ) → r < rows

@@ -15,6 +15,7 @@ use Rattle.lists.specs.Tables.{table}
 use Rattle.lists.proofs.Cases.{eq-or-ne}
 use Rattle.lists.proofs.TableLaws.{length-table, getD-table}
 use Rattle.packed.specs.Words.{binary, wordCount, wordsOf}
+use Rattle.packed.proofs.Trips.{digit-lt, binary-lt}
 use Rattle.filling.specs.declared.Writer.{Writer}
 use Rattle.filling.specs.Written.{Holds, Some}
 
@@ -23,15 +24,6 @@ use Rattle.filling.specs.Written.{Holds, Some}
 byte-digit : (b : Bool) → boolByte b ≡ cond b 1 0
 byte-digit true = refl
 byte-digit false = refl
-
-digit-lt : (b : Bool) → cond b 1 0 < 2
-digit-lt true = omega arith
-digit-lt false = omega arith
-
-binary-lt : (k : ℕ) (f : ℕ → Bool) → binary k f < 2 ^ k
-unfolding binary
-binary-lt zero f = omega arith
-binary-lt (suc k) f = omega (arith, binary-lt k f, digit-lt (f k), pow-suc 2 k)
 
 binary-same : (k : ℕ) (f g : ℕ → Bool) → ((p : ℕ) → p < k → f p ≡ g p) → binary k f ≡ binary k g
 unfolding binary

@@ -1,12 +1,11 @@
 -- Values written into lent words one after another, the highest bit of each word first (document 01, "Assignments, filling in and descent"). Assumes nothing.
 use mathlib.Core.Path.{_≡_}
 use Prim.Native.Nat.{ℕ, _+_, _*_, _/_, _%_, _≤_, _<_}
-use mathlib.Core.Bool.{Bool, true, false}
+use mathlib.Core.Bool.{Bool, false}
 use mathlib.Core.List.{List, _++_}
 use lib.ListN.{length, getD, drop}
-use Rattle.lists.specs.Tests.{allOf}
-use Rattle.packed.specs.Words.{bitsOf, binary, wordsOf, isAssignment}
-use Rattle.store.specs.Stores.{isRow, rowsOf, maxVariables, maxRows}
+use Rattle.packed.specs.Words.{bitsOf, binary, wordsOf}
+use Rattle.store.specs.Stores.{maxVariables, maxRows}
 use Rattle.lexleader.specs.Made.{filledIn}
 use Rattle.filling.specs.declared.Writer.{Writer}
 
@@ -31,14 +30,6 @@ Appends w more out v after = (values : List Bool) (old : List ℕ) → Holds val
 pub record Room (w : Writer) (more : ℕ) (out : List ℕ) : Type 0 where
   pub fits : w .taken + more ≤ 64 * length out
   pub few : w .taken + more ≤ maxVariables * (maxRows + 1)
-
--- what the code relies on: n and the rows are those of a well-formed store, and the words are an assignment of 1..n in the right form
-pub record Ready (n rows : ℕ) (images words : List ℕ) : Type 0 where
-  pub small : n ≤ 512
-  pub few : rows ≤ 64
-  pub fits : rows * n ≤ length images
-  pub good : allOf (isRow n) (rowsOf n rows images) ≡ true
-  pub form : isAssignment n words ≡ true
 
 -- the words that filling in writes
 unfoldable pub filledWords : ℕ → List (List ℕ) → List ℕ → List ℕ

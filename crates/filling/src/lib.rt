@@ -9,9 +9,9 @@ ghost use lib.ListN.{length, drop};
 ghost use Rattle.packed.specs.Words.{bitsOf, wordCount, wordsOf};
 ghost use Rattle.packed.specs.Order.{valueOf};
 ghost use Rattle.store.specs.Stores.{isRow, rowsOf};
-ghost use Rattle.lexleader.specs.Models.{literalValue};
 ghost use Rattle.lexleader.specs.Made.{auxiliaries, allAuxiliaries, madeVariables, agrees, rowSettings, settings};
-ghost use Rattle.filling.specs.Written.{Holds, Some, Room, Appends, Ready, filledWords};
+ghost use Rattle.valuation.specs.Ready.{Ready};
+ghost use Rattle.filling.specs.Written.{Holds, Some, Room, Appends, filledWords};
 
 // How many values a writer has taken, and those of the word that is begun.
 pub struct Writer {
@@ -88,19 +88,7 @@ fn agreed_too(before: bool, a: &[u64], variable: usize, image: u16) -> bool
     if !before {
         return false;
     }
-    packed::value(a, variable) == literal_value(a, image)
-}
-
-// The value of a literal.
-fn literal_value(a: &[u64], code: u16) -> bool
-    requires { ⌜ (1 ≤ code / 2) × (code / 2 ≤ 64 * length (now a)) ⌝ }
-    ensures { λ r. ⌜ ((n : ℕ) → code / 2 ≤ n → r ≡ literalValue (valueOf (bitsOf n (now (a .entry)))) code) ⌝ }
-{
-    let value = packed::value(a, (code / 2) as usize);
-    if code % 2 == 1 {
-        return !value;
-    }
-    value
+    packed::value(a, variable) == valuation::literal_value(a, image as u32)
 }
 
 // Takes one value more; a word that is whole goes into the buffer.

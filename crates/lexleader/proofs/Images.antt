@@ -7,7 +7,7 @@ use native.Mathlib.Nat.{not-suc-le-zero, le-of-suc-le-suc}
 use native.Mathlib.Omega.{arith}
 use lib.ListN.{length, getD, length-map}
 use Rattle.lists.specs.Tests.{allOf}
-use Rattle.lists.proofs.Members.{any-at, any-in}
+use Rattle.lists.proofs.Members.{any-at, any-in, map-at}
 use Rattle.packed.specs.Order.{valueOf}
 use Rattle.store.specs.Literals.{isNegative, oppositeOf, isLiteral}
 use Rattle.store.proofs.FormLaws.{literal-low, literal-high}
@@ -24,11 +24,6 @@ pub length-moved : (row : List ℕ) (a : List Bool) → length (moved row a) ≡
 unfolding moved
 length-moved row a = length-map row (literalValue (valueOf a))
 
-getD-map-in : {A B : Type 0} (f : A → B) (l : List A) (i : ℕ) (d : A) (e : B) → i < length l → getD (map f l) i e ≡ f (getD l i d)
-getD-map-in f [] i d e h = absurd (not-suc-le-zero h)
-getD-map-in f (x ∷ l) zero d e h = refl
-getD-map-in f (x ∷ l) (suc i) d e h = getD-map-in f l i d e (le-of-suc-le-suc h)
-
 -- clauses with the same literals hold together
 clause-same : (v : ℕ → Bool) (c d : List ℕ) → SameSet c d → clauseHolds v c ≡ true → clauseHolds v d ≡ true
 unfolding clauseHolds
@@ -44,7 +39,7 @@ module _ (n : ℕ) (row : List ℕ) (size : length row ≡ n) (a : List Bool) wh
       let low = literal-low n code h in
       let high = literal-high n code h in
       unfold literalValue in
-      rw (getD-map-in (literalValue (valueOf a)) row (code / 2 - 1) 0 false (omega arith)) (turned (isNegative code) (getD row (code / 2 - 1) 0))
+      rw (map-at (literalValue (valueOf a)) row (code / 2 - 1) 0 false (omega arith)) (turned (isNegative code) (getD row (code / 2 - 1) 0))
     where
       turned : (b : Bool) (y : ℕ) → cond b (not (literalValue (valueOf a) y)) (literalValue (valueOf a) y) ≡ literalValue (valueOf a) (cond b (oppositeOf y) y)
       turned true y = sym (value-opposite (valueOf a) y)

@@ -4,6 +4,7 @@ pub mod Images
 pub mod Values
 pub mod Pairs
 pub mod Moved
+pub mod Within
 pub mod Settings
 pub mod Completed
 pub mod Order

@@ -1,16 +1,11 @@
--- The tests of lists: of a list's parts and members, and two tests that are the same on a list. Assumes nothing.
-use mathlib.Core.Path.{_≡_, refl, sym}
-use mathlib.Core.Bool.{Bool, true, _&&_, and-assoc}
-use mathlib.Core.List.{List, [], _∷_, _++_, List·Memᴰ, List·Memᴰ·head, List·Memᴰ·tail}
+-- The tests of lists: of a list's members, and two tests that are the same on a list. Assumes nothing.
+use mathlib.Core.Path.{_≡_, refl}
+use mathlib.Core.Bool.{Bool, true}
+use mathlib.Core.List.{List, [], _∷_, List·Memᴰ, List·Memᴰ·head, List·Memᴰ·tail}
 use Rattle.lists.specs.Tests.{anyOf, allOf}
 use Rattle.lists.proofs.Cases.{and-l, and-r, and-both}
 
 module _ {A : Type 0} (q : A → Bool) where
-  pub all-append : (a b : List A) → allOf q (a ++ b) ≡ (allOf q a && allOf q b)
-  unfolding allOf
-  all-append [] b = refl
-  all-append (x ∷ a) b = rw (all-append a b) (sym (and-assoc (q x) (allOf q a) (allOf q b)))
-
   pub all-mem : {x : A} {l : List A} → List·Memᴰ x l → allOf q l ≡ true → q x ≡ true
   unfolding allOf
   all-mem (List·Memᴰ·head {x = y} {xs = l} e) h = rw e (and-l (q y) (allOf q l) h)

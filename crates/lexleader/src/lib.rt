@@ -134,12 +134,12 @@ pub fn clause_at(row: &[u16], place: Place) -> Clause
     let i = place.index;
     let next = place.next;
     let x = own_code(i);
-    let y = wide(row[i]);
+    let y = store::literal::wide(row[i]);
     if next == row.len() {
         return table_clause(1, true, place.auxiliary, x, y, x, y);
     }
     let x2 = own_code(next);
-    let y2 = wide(row[next]);
+    let y2 = store::literal::wide(row[next]);
     table_clause(place.r, place.first, place.auxiliary, x, y, x2, y2)
 }
 
@@ -323,7 +323,7 @@ pub fn next_moved(row: &[u16], from: usize) -> usize
 {
     let mut i = from;
     while i < row.len() {
-        if wide(row[i]) != own_code(i) {
+        if store::literal::wide(row[i]) != own_code(i) {
             return i;
         }
         i += 1;
@@ -337,10 +337,4 @@ fn own_code(i: usize) -> u32
     ensures { λ r. ⌜ r ≡ 2 * (i + 1) ⌝ }
 {
     2 * (i as u32 + 1)
-}
-
-fn wide(code: u16) -> u32
-    ensures { λ r. ⌜ (r ≡ code) × (r < 65536) ⌝ }
-{
-    code as u32
 }

@@ -1,7 +1,7 @@
 -- The tests of `specs/Tests.antt` turned into facts about places in a list, and back. Assumes nothing.
 use mathlib.Core.Path.{_≡_, refl, sym, ap, _∙_}
 use mathlib.Core.Bool.{Bool, true, false, _&&_, _||_, or-true, and-assoc}
-use mathlib.Core.List.{List, [], _∷_, _++_}
+use mathlib.Core.List.{List, [], _∷_, _++_, map}
 use Prim.Native.Nat.{ℕ, zero, suc, _<_, zero-le, suc-le-suc}
 use native.Mathlib.Nat.{not-suc-le-zero, le-of-suc-le-suc}
 use borrow.Author.Tests.{eq-eqb, eqb-true}
@@ -44,6 +44,12 @@ pub all-append : {A : Type 0} (q : A → Bool) (a b : List A) → allOf q (a ++ 
 unfolding allOf
 all-append q [] b = refl
 all-append q (x ∷ a) b = rw (all-append q a b, and-assoc)
+
+-- the element at a place of a list mapped
+pub map-at : {A B : Type 0} (f : A → B) (l : List A) (i : ℕ) (d : A) (e : B) → i < length l → getD (map f l) i e ≡ f (getD l i d)
+map-at f [] i d e h = absurd (not-suc-le-zero h)
+map-at f (x ∷ l) zero d e h = refl
+map-at f (x ∷ l) (suc i) d e h = map-at f l i d e (le-of-suc-le-suc h)
 
 -- a number that is in a list has a place there
 pub place : (l : List ℕ) (x : ℕ) → has l x ≡ true → (i : ℕ) × (i < length l) × (getD l i 0 ≡ x)

@@ -1,6 +1,6 @@
 -- The laws of a list as a table. Assumes nothing.
 use mathlib.Core.Path.{_≡_, refl, ap}
-use mathlib.Core.List.{List, [], _∷_}
+use mathlib.Core.List.{List, [], _∷_, _++_}
 use Prim.Native.Nat.{ℕ, zero, suc, _<_}
 use native.Mathlib.Nat.{not-suc-le-zero, le-of-suc-le-suc}
 use lib.ListN.{length, getD}
@@ -16,3 +16,9 @@ unfolding table
 getD-table zero f i d h = absurd (not-suc-le-zero h)
 getD-table (suc n) f zero d h = refl
 getD-table (suc n) f (suc i) d h = getD-table n (λ k. f (suc k)) i d (le-of-suc-le-suc h)
+
+-- one entry more
+pub table-snoc : {A : Type 0} (n : ℕ) (f : ℕ → A) → table (suc n) f ≡ table n f ++ (f n ∷ [])
+unfolding table
+table-snoc zero f = refl
+table-snoc {A} (suc n) f = ap (λ (l : List A). f 0 ∷ l) (table-snoc n (λ k. f (suc k)))

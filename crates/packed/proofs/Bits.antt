@@ -11,7 +11,7 @@ use lib.Bits.{bitAnd, and-mask}
 use lib.Pow.{field, mod-mod-pow, mod-pow-add}
 use Rattle.lists.proofs.TableLaws.{length-table, getD-table}
 use Rattle.packed.specs.Words.{bitIn, bitAt, bitsOf}
-use Rattle.packed.specs.Order.{allBits}
+use Rattle.packed.specs.Order.{allBits, valueOf}
 
 -- ---- a digit and the bit that it is
 
@@ -75,6 +75,10 @@ length-bits n ws = length-table n (bitAt ws)
 pub getD-bits : (n : ℕ) (ws : List ℕ) (j : ℕ) → j < n → getD (bitsOf n ws) j false ≡ bitAt ws j
 unfolding bitsOf
 getD-bits n ws j h = getD-table n (bitAt ws) j false h
+
+-- the value of variable i
+pub value-is : (n : ℕ) (ws : List ℕ) (i : ℕ) → 1 ≤ i → i ≤ n → bitAt ws (i - 1) ≡ valueOf (bitsOf n ws) i
+value-is n ws i low high = sym (getD-bits n ws (i - 1) (omega arith))
 
 -- the bit of a word in all the bits of a list
 pub allBits-in : (ws : List ℕ) (i p : ℕ) → i < length ws → p < 64 → getD (allBits ws) (i * 64 + p) false ≡ bitIn (getD ws i 0) p

@@ -36,6 +36,11 @@ pub form-count : (n : ℕ) (ws : List ℕ) → isAssignment n ws ≡ true → le
 unfolding isAssignment
 form-count n ws t = eqb-true _ _ (and-l (eqb (length ws) (wordCount n)) (allOf not (spareBits n ws)) t)
 
+-- the words have room for the variables
+pub form-room : (n : ℕ) (ws : List ℕ) → isAssignment n ws ≡ true → n ≤ 64 * length ws
+unfolding wordCount
+form-room n ws t = omega (arith, form-count n ws t)
+
 pub form-of : (n : ℕ) (ws : List ℕ) → isAssignment n ws ≡ true → Form n ws
 unfolding isAssignment
 form-of n ws t = record {

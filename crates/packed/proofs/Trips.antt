@@ -18,7 +18,7 @@ use Rattle.packed.proofs.Form.{form-of, of-form, form-count}
 
 -- ---- a number and its digits
 
-digit-lt : (b : Bool) → cond b 1 0 < 2
+pub digit-lt : (b : Bool) → cond b 1 0 < 2
 digit-lt true = omega arith
 digit-lt false = omega arith
 
@@ -26,7 +26,7 @@ digit-eqb : (b : Bool) → eqb (cond b 1 0) 1 ≡ b
 digit-eqb true = refl
 digit-eqb false = refl
 
-binary-lt : (k : ℕ) (f : ℕ → Bool) → binary k f < 2 ^ k
+pub binary-lt : (k : ℕ) (f : ℕ → Bool) → binary k f < 2 ^ k
 unfolding binary
 binary-lt zero f = omega arith
 binary-lt (suc k) f = omega (arith, binary-lt k f, digit-lt (f k), pow-suc 2 k)
@@ -50,11 +50,11 @@ bit-binary f p h = ap (λ (n : ℕ). eqb n 1) (binary-digit 64 f p (63 - p) (ome
 
 -- ---- the words of a list of values
 
-length-words : (bs : List Bool) → length (wordsOf bs) ≡ wordCount (length bs)
+pub length-words : (bs : List Bool) → length (wordsOf bs) ≡ wordCount (length bs)
 unfolding wordsOf
 length-words bs = length-table (wordCount (length bs)) (λ j. binary 64 (λ p. getD bs (j * 64 + p) false))
 
-getD-words : (bs : List Bool) (j : ℕ) → j < wordCount (length bs) → getD (wordsOf bs) j 0 ≡ binary 64 (λ p. getD bs (j * 64 + p) false)
+pub getD-words : (bs : List Bool) (j : ℕ) → j < wordCount (length bs) → getD (wordsOf bs) j 0 ≡ binary 64 (λ p. getD bs (j * 64 + p) false)
 unfolding wordsOf
 getD-words bs j h = getD-table (wordCount (length bs)) (λ j. binary 64 (λ p. getD bs (j * 64 + p) false)) j 0 h
 

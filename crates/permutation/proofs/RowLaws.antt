@@ -17,7 +17,7 @@ use Rattle.lists.specs.Tables.{table}
 use Rattle.lists.proofs.Cases.{never, or-l-false, or-r-false, not-so, lt-or-le}
 use Rattle.lists.proofs.Members.{placed}
 use Rattle.lists.proofs.Steps.{drop-step}
-use Rattle.lists.proofs.TableLaws.{length-table, getD-table}
+use Rattle.lists.proofs.TableLaws.{length-table, getD-table, table-snoc}
 use Rattle.store.specs.Literals.{variableOf}
 use Rattle.store.specs.Stores.{isImage}
 use Rattle.store.proofs.FormLaws.{literal-high, image-literal}
@@ -27,11 +27,6 @@ use Rattle.permutation.proofs.Lists.{has-head, has-rest, head-once, res
 use Rattle.permutation.proofs.InOrder.{Named, named-rest, InOrder}
 
 -- ---- a table that a loop writes over the start of a list
-
-table-snoc : (n : ℕ) (f : ℕ → ℕ) → table (suc n) f ≡ table n f ++ (f n ∷ [])
-unfolding table
-table-snoc zero f = refl
-table-snoc (suc n) f = ap (λ (l : List ℕ). f 0 ∷ l) (table-snoc n (λ k. f (suc k)))
 
 pub table-none : (f : ℕ → ℕ) (l : List ℕ) → l ≡ table 0 f ++ drop 0 l
 unfolding table

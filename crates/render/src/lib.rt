@@ -53,7 +53,7 @@ pub fn stored_length(clause: &[u16]) -> usize
     let mut length = 2;
     let mut i = 0;
     while i < clause.len() {
-        length += literal_length(wide(clause[i])) + 1;
+        length += literal_length(store::literal::wide(clause[i])) + 1;
         i += 1;
     }
     length
@@ -67,7 +67,7 @@ pub fn put_stored(out: &mut [u8], at: usize, clause: &[u16]) -> usize
     let mut next = at;
     let mut i = 0;
     while i < clause.len() {
-        next = put_word(out, next, wide(clause[i]));
+        next = put_word(out, next, store::literal::wide(clause[i]));
         i += 1;
     }
     put_end(out, next)
@@ -186,10 +186,4 @@ fn put_number(out: &mut [u8], at: usize, x: u64) -> usize
     }
     out[at] = y as u8 + b'0';
     end
-}
-
-fn wide(x: u16) -> u32
-    ensures { λ r. ⌜ r ≡ x ⌝ }
-{
-    x as u32
 }

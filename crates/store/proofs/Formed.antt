@@ -79,7 +79,7 @@ rising-order from (x ∷ l) e (suc i) (suc j) h k =
 abbrev pub rowAt : ℕ → ℕ → List ℕ → List ℕ
 rowAt n r images = take n (drop (r * n) images)
 
-rows-at : (n k : ℕ) (images : List ℕ) → allOf (isRow n) (rowsOf n k images) ≡ true → (r : ℕ) → r < k → isRow n (rowAt n r images) ≡ true
+pub rows-at : (n k : ℕ) (images : List ℕ) → allOf (isRow n) (rowsOf n k images) ≡ true → (r : ℕ) → r < k → isRow n (rowAt n r images) ≡ true
 unfolding rowsOf allOf
 rows-at n zero images e r h = absurd (not-suc-le-zero h)
 rows-at n (suc k) images e zero h =

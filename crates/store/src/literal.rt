@@ -1,6 +1,6 @@
 // A literal is stored as a code: 2·i for the variable i, 2·i + 1 for its negation.
 ghost use mathlib.Core.Path.{_≡_};
-ghost use Prim.Native.Nat.{_≤_};
+ghost use Prim.Native.Nat.{_≤_, _<_};
 ghost use Rattle.store.specs.Literals.{codeOf, variableOf, isNegative, oppositeOf};
 
 pub fn code(variable: u16, negative: bool) -> u16
@@ -32,4 +32,11 @@ pub fn opposite(code: u16) -> u16
         return code - 1;
     }
     code + 1
+}
+
+// A stored code among those of the made formula, whose variables may be more than a stored code has room for.
+pub fn wide(code: u16) -> u32
+    ensures { λ r. ⌜ (r ≡ code) × (r < 65536) ⌝ }
+{
+    code as u32
 }

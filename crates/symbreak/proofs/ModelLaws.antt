@@ -19,21 +19,18 @@ use Rattle.lexleader.specs.Made.{filledIn, madeVariables}
 use Rattle.lexleader.specs.Descent.{descend}
 use Rattle.emit.specs.Emit.{variablesOf}
 use Rattle.checking.specs.Checking.{firstFalse}
-use Rattle.filling.specs.Written.{Ready, filledWords}
+use Rattle.filling.specs.Written.{filledWords}
 use Rattle.filling.proofs.Runs.{length-filled}
-use Rattle.descent.specs.Words.{answerOf, descended, Ready as Descends}
+use Rattle.descent.specs.Words.{answerOf, descended}
+use Rattle.valuation.specs.Ready.{Ready}
 use Rattle.descent.specs.declared.Descended.{Descended}
 use Rattle.symbreak.specs.Calls.{fillSays, fillLeaves, checkSays, descendSays, descendLeaves}
 
 -- what the working functions rely on
 module _ (s : Store) (f : wellFormed s ≡ true) (a : List ℕ) (form : isAssignment (s .counts .variables) a ≡ true) where
-  pub fills : Ready (s .counts .variables) (s .counts .rows) (s .images) a
+  pub works : Ready (s .counts .variables) (s .counts .rows) (s .images) a
   unfolding heldRows
-  fills = record { small = formed s f .variables-fit; few = formed s f .rows-fit; fits = formed s f .images-long; good = rows-of s f; form = form }
-
-  pub descends : Descends (s .counts .variables) (s .counts .rows) (s .images) a
-  unfolding heldRows
-  descends = record { small = formed s f .variables-fit; few = formed s f .rows-fit; fits = formed s f .images-long; good = rows-of s f; form = form }
+  works = record { small = formed s f .variables-fit; few = formed s f .rows-fit; fits = formed s f .images-long; good = rows-of s f; form = form }
 
 -- ---- fill in
 

@@ -1,19 +1,22 @@
 -- `checking::first_false` meets its contract. The invariant: the first false clause of all is that of the clauses from the cursor on, the first of which has
 -- the number q. Assumes nothing.
 use mathlib.Core.Path.{_≡_, sym, ap, _∙_}
-use mathlib.Core.Bool.{Bool}
-use mathlib.Core.List.{List}
-use Prim.Native.Nat.{ℕ, _+_, _-_}
+use mathlib.Core.Bool.{Bool, true}
+use mathlib.Core.List.{List, []}
+use Prim.Native.Nat.{ℕ, _+_, _-_, _<_}
 use native.Mathlib.Omega.{arith}
 use borrow.Author.Tests.{not-true, not-false}
 use lib.ListN.{length}
 use Rattle.packed.specs.Words.{bitsOf}
 use Rattle.packed.specs.Order.{valueOf}
+use Rattle.lists.specs.Tests.{allOf}
+use Rattle.lists.proofs.Members.{all-at}
+use Rattle.store.specs.Literals.{isLiteral}
 use Rattle.store.specs.Stores.{Store, lent}
 use Rattle.emit.specs.Emit.{variablesOf, clausesOf}
 use Rattle.cursor.specs.Cursors.{clausesLeft, Points}
 use Rattle.checking.specs.Checking.{falseFrom, firstFalse}
-use Rattle.checking.proofs.CheckLaws.{none-false, found, passed}
+use Rattle.checking.proofs.CheckLaws.{none-false, found, passed, store-within, rest-within}
 use borrow.Author.Needs.{needs}
 use Rattle.checking.proofs.first_false.Statement.{statement}
 use Rattle.checking.proofs.first_false.Tie as tie
@@ -23,6 +26,7 @@ Inv-loop counts literals ends images a clauses at₀ q₀ at q =
     (firstFalse (lent counts literals ends images) a ≡ falseFrom q (valueOf (bitsOf (variablesOf (lent counts literals ends images)) a)) (clausesLeft (lent counts literals ends images) at))
     × Points counts images at
     × (q + length (clausesLeft (lent counts literals ends images) at) ≡ clauses + 1)
+    × (allOf (allOf (isLiteral (variablesOf (lent counts literals ends images)))) (clausesLeft (lent counts literals ends images) at) ≡ true)
 
 abbrev μ-loop : tie.MeasureT-loop
 μ-loop counts literals ends images a clauses at₀ q₀ at q = clauses + 1 - q
@@ -45,20 +49,21 @@ unfolding firstFalse clausesOf
 loop-holds c =
     let s = c .before .before .before .before .before .before in
     let left = c .start .ensures .1 in
-    (ap (falseFrom 1 (Values s)) (sym left), c .start .ensures .0, omega (arith, ap length left, c .before .totals-of .ensures .1))
+    (ap (falseFrom 1 (Values s)) (sym left), c .start .ensures .0, omega (arith, ap length left, c .before .totals-of .ensures .1), rw left (store-within (S s) (s .pre .0)))
 
 holds-at-requires : tie.Need-holds-at-requires Inv-loop μ-loop
 holds-at-requires c κs =
     let l = c .before in
     let s = l .before .before .before .before .before .before .before in
-    (s .pre .0, l .loop .inv .1, omega (arith, l .loop .inv .2))
+    let some : 0 < length (clausesLeft (S s) (l .loop .at)) = omega (arith, l .loop .inv .2) in
+    (s .pre .0, l .loop .inv .1, some, s .pre .1, all-at (allOf (isLiteral (variablesOf (S s)))) (clausesLeft (S s) (l .loop .at)) [] (l .loop .inv .3) 0 some)
 
 returns : tie.Need-returns Inv-loop μ-loop
 returns c =
     let h = c .before in
     let l = h .before .before in
     let s = l .before .before .before .before .before .before .before in
-    sym (l .loop .inv .0 ∙ found (l .loop .q) (Values s) (clausesLeft (S s) (l .loop .at)) (omega (arith, l .loop .inv .2)) (sym (h .holds-at .ensures (variablesOf (S s)) (s .pre .1)) ∙ not-true _ (c .if1 .taken)))
+    sym (l .loop .inv .0 ∙ found (l .loop .q) (Values s) (clausesLeft (S s) (l .loop .at)) (omega (arith, l .loop .inv .2)) (sym (h .holds-at .ensures) ∙ not-true _ (c .if1 .taken)))
 
 next-requires : tie.Need-next-requires Inv-loop μ-loop
 next-requires c κs =
@@ -78,9 +83,10 @@ loop-again c =
     let l = h .before .before in
     let s = l .before .before .before .before .before .before .before in
     let is = c .next .ensures .1 in (
-      l .loop .inv .0 ∙ passed (l .loop .q) (Values s) (clausesLeft (S s) (l .loop .at)) _ is (sym (h .holds-at .ensures (variablesOf (S s)) (s .pre .1)) ∙ not-false _ (c .before .if1 .left)),
+      l .loop .inv .0 ∙ passed (l .loop .q) (Values s) (clausesLeft (S s) (l .loop .at)) _ is (sym (h .holds-at .ensures) ∙ not-false _ (c .before .if1 .left)),
       c .next .ensures .0,
       omega (arith, l .loop .inv .2, ap length is),
+      rest-within (allOf (isLiteral (variablesOf (S s)))) _ _ is (l .loop .inv .3),
     )
 
 returns-2 : tie.Need-returns-2 Inv-loop μ-loop

@@ -1,18 +1,24 @@
 -- `checking::holds_at` meets its contract: the clause at the cursor is a plain one, or the one at its place in a row. Assumes nothing.
 use mathlib.Core.Path.{_≡_, sym, ap, _∙_}
+use mathlib.Core.Bool.{true}
 use mathlib.Core.List.{List, []}
 use Prim.Native.Nat.{ℕ, _+_, _-_, _*_, _≤_, _<_}
 use native.Mathlib.Omega.{arith}
 use lib.ListN.{length, getD, take, drop}
 use lib.Seq.{length-take-le}
+use Rattle.lists.specs.Tests.{allOf}
 use Rattle.packed.specs.Words.{bitsOf}
 use Rattle.packed.specs.Order.{valueOf}
+use Rattle.packed.proofs.Form.{form-room}
+use Rattle.store.specs.Literals.{isLiteral}
 use Rattle.store.specs.Stores.{Store, lent, maxLiterals, plainOf}
 use Rattle.store.proofs.Formed.{Formed, formed}
-use Rattle.lexleader.specs.Clause.{Holds}
+use Rattle.lexleader.specs.Clause.{Holds, clauseOf}
 use Rattle.lexleader.specs.Models.{clauseHolds}
 use Rattle.lexleader.specs.Places.{clausesAt}
+use Rattle.lexleader.proofs.Within.{all-literals-more}
 use Rattle.lexleader.proofs.Left.{part-is, room, row-size}
+use Rattle.emit.specs.Emit.{variablesOf}
 use Rattle.cursor.specs.Cursors.{rowAt, clausesLeft}
 use Rattle.cursor.proofs.RowLaws.{row-part, here-first}
 use Rattle.cursor.proofs.CursorLaws.{next-plain, bounds, rises, plain-part, past-plain, some-row}
@@ -25,6 +31,11 @@ S c = lent (c .args .counts) (c .args .literals .now) (c .args .ends .now) (c .a
 
 facts : (c : tie.Start) → Formed (S c)
 facts c = formed (S c) (c .pre .0)
+
+-- the words have room for every variable of the clause at the cursor
+enough : (c : tie.Start) (clause : List ℕ) → clause ≡ getD (clausesLeft (S c) (c .args .at)) 0 [] → allOf (isLiteral (64 * length (c .args .a .now))) clause ≡ true
+enough c clause is =
+    rw is (all-literals-more (variablesOf (S c)) (64 * length (c .args .a .now)) (form-room (variablesOf (S c)) (c .args .a .now) (c .pre .3)) _ (c .pre .4))
 
 -- ---- a plain clause: where its literals lie, and that they are its own
 
@@ -45,6 +56,12 @@ clause-is c =
     let s = c .before .before .before .before .before .before .before .before .before in
     plain-part (S s) (s .pre .0) (s .args .at) (c .before .before .if1 .taken) _ _ (c .before .literal-count .ensures) (c .literal-count2 .ensures)
 
+plain-first : (c : tie.After-literal-count2) → let s = c .before .before .before .before .before .before .before .before .before in
+    take (c .literal-count2 .result - c .before .literal-count .result) (drop (c .before .literal-count .result) (s .args .literals .now)) ≡ getD (clausesLeft (S s) (s .args .at)) 0 []
+plain-first c =
+    let s = c .before .before .before .before .before .before .before .before .before in
+    clause-is c ∙ sym (ap (λ (x : List (List ℕ)). getD x 0 []) (next-plain (S s) (s .pre .0) (s .args .at) (c .before .before .if1 .taken)))
+
 -- ---- a clause that a row adds: the row, and the clause at the place
 
 row-left : (c : tie.Else1) → let s = c .before .before .before .before .before .before .before in s .args .at .row < s .args .counts .rows
@@ -58,6 +75,16 @@ holds : (c : tie.After-clause-at) → let a = c .before .before .before .before 
 holds c =
     let a = c .before .before .before .before .before .before .before .before .before .before .before .before .before .args in
     row-part (a .counts) (a .images .now) (λ (row : List ℕ). Holds (c .clause-at .result) (getD (clausesAt row (a .at .place)) 0 [])) (a .at .row) (c .clause-at .ensures)
+
+added-first : (c : tie.After-clause-at) → let s = c .before .before .before .before .before .before .before .before .before .before .before .before .before in
+    clauseOf (c .clause-at .result) ≡ getD (clausesLeft (S s) (s .args .at)) 0 []
+added-first c =
+    let i = c .before .before .before .before .before .before in
+    let s = i .before .before .before .before .before .before .before in
+    let a = s .args in
+    let at = s .pre .1 in
+    let head = here-first (a .counts) (a .images .now) (a .at .row) (row-left i) (a .at .place) (at .place (row-left i)) (at .there (row-left i)) (facts s .images-long) in
+    holds c .are ∙ sym (ap (λ (x : List (List ℕ)). getD x 0 []) (past-plain (S s) (s .pre .0) (a .at) (i .if1 .left)) ∙ head)
 
 literal-count-requires : tie.Need-literal-count-requires
 literal-count-requires c κs = let s = c .before .before .before .before .before .before .before in omega (arith, facts s .ends-long, c .if1 .taken)
@@ -81,14 +108,16 @@ part-stored-holds-end : tie.Need-part-stored-holds-end
 part-stored-holds-end c = omega (arith, lies c)
 
 stored-holds-requires : tie.Need-stored-holds-requires
-stored-holds-requires c κs = search needs
+stored-holds-requires c κs =
+    let s = c .before .before .before .before .before .before .before .before .before .before in
+    enough s _ (plain-first (c .before))
 
 returns : tie.Need-returns
 returns c =
     let l = c .before .before in
     let s = l .before .before .before .before .before .before .before .before .before in
-    let head = ap (λ (x : List (List ℕ)). getD x 0 []) (next-plain (S s) (s .pre .0) (s .args .at) (l .before .before .if1 .taken)) in
-    λ n form. c .stored-holds .ensures n form ∙ ap (clauseHolds (valueOf (bitsOf n (s .args .a .now)))) (clause-is l ∙ sym head)
+    let first = plain-first l in
+    c .stored-holds .ensures (variablesOf (S s)) (rw first (s .pre .4)) ∙ ap (clauseHolds (valueOf (bitsOf (variablesOf (S s)) (s .args .a .now)))) first
 
 mul-from : tie.Need-mul-from
 mul-from c = omega (arith, fits (c .before .before))
@@ -124,18 +153,16 @@ slice-aggregate-codes-hold : tie.Need-slice-aggregate-codes-hold
 slice-aggregate-codes-hold c = let h = c .before .before .clause-at .ensures in sym (length-take-le _ _ (omega (arith, h .few, h .room)))
 
 codes-hold-requires : tie.Need-codes-hold-requires
-codes-hold-requires c κs = search needs
+codes-hold-requires c κs =
+    let k = c .before .before in
+    enough (k .before .before .before .before .before .before .before .before .before .before .before .before .before) _ (added-first k)
 
 returns-2 : tie.Need-returns-2
 returns-2 c =
     let k = c .before .before .before in
-    let i = k .before .before .before .before .before .before in
-    let s = i .before .before .before .before .before .before .before in
-    let a = s .args in
-    let at = s .pre .1 in
-    let head = here-first (a .counts) (a .images .now) (a .at .row) (row-left i) (a .at .place) (at .place (row-left i)) (at .there (row-left i)) (facts s .images-long) in
-    let first = ap (λ (x : List (List ℕ)). getD x 0 []) (past-plain (S s) (s .pre .0) (a .at) (i .if1 .left)) in
-    λ n form. c .codes-hold .ensures n form ∙ ap (clauseHolds (valueOf (bitsOf n (a .a .now)))) (holds k .are ∙ sym (first ∙ head))
+    let s = k .before .before .before .before .before .before .before .before .before .before .before .before .before in
+    let first = added-first k in
+    c .codes-hold .ensures (variablesOf (S s)) (rw first (s .pre .4)) ∙ ap (clauseHolds (valueOf (bitsOf (variablesOf (S s)) (s .args .a .now)))) first
 
 pub holds-at-spec : {M : Type 1} → statement M
 holds-at-spec =

@@ -8,7 +8,7 @@ use Rattle.store.specs.Stores.{rowsOf}
 use Rattle.store.proofs.Formed.{rowAt}
 use Rattle.lexleader.specs.Rows.{moved}
 use Rattle.lexleader.proofs.Left.{room}
-use Rattle.descent.specs.Words.{Ready}
+use Rattle.valuation.specs.Ready.{Ready}
 use Rattle.descent.proofs.DescentLaws.{part-fit, part-moved, size-moved, Reached, reached-none, reached-more, reached-length, ends-settled, ends-spent}
 use Rattle.descent.proofs.descend.Statement.{statement}
 use Rattle.descent.proofs.descend.Tie as tie

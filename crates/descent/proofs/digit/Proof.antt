@@ -27,6 +27,9 @@ mul-literal-value c = search needs
 shared-slice-read-literal-value : tie.Need-shared-slice-read-literal-value
 shared-slice-read-literal-value c = search needs
 
+cast-literal-value : tie.Need-cast-literal-value
+cast-literal-value c = omega (arith, c .shared-slice-known3 .given (c .before .before .before .before .args .i))
+
 literal-value-requires : tie.Need-literal-value-requires
 literal-value-requires c κs =
     let s = c .before .before .before .before in
@@ -45,6 +48,7 @@ digit-spec =
     returns
     mul-literal-value
     shared-slice-read-literal-value
+    cast-literal-value
     literal-value-requires
     returns-2
     returns-3)

@@ -36,6 +36,9 @@ mul-literal-value c = omega arith
 shared-slice-read-literal-value : tie.Need-shared-slice-read-literal-value Inv-loop μ-loop
 shared-slice-read-literal-value c = omega arith
 
+cast-literal-value : tie.Need-cast-literal-value Inv-loop μ-loop
+cast-literal-value c = omega (arith, c .shared-slice-known3 .given (c .before .before .before .loop .i))
+
 literal-value-requires : tie.Need-literal-value-requires Inv-loop μ-loop
 literal-value-requires c κs =
     let l = c .before .before .before in
@@ -104,6 +107,7 @@ lowers-spec =
     value-requires
     mul-literal-value
     shared-slice-read-literal-value
+    cast-literal-value
     literal-value-requires
     returns
     returns-2

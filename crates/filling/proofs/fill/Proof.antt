@@ -5,10 +5,10 @@ use Prim.Native.Nat.{ℕ}
 use native.Mathlib.Omega.{arith}
 use borrow.Author.Needs.{needs}
 use Rattle.packed.specs.Words.{bitsOf, wordCount}
+use Rattle.packed.proofs.Form.{form-room}
 use Rattle.store.specs.Stores.{rowsOf}
 use Rattle.lexleader.specs.Made.{filledIn}
 use Rattle.filling.specs.Written.{Holds, filledWords}
-use Rattle.filling.proofs.Values.{assigned}
 use Rattle.filling.proofs.Runs.{length-filled, filled-holds, plain-room, rows-room}
 use Rattle.filling.proofs.fill.Statement.{statement}
 use Rattle.filling.proofs.fill.Tie as tie
@@ -27,7 +27,7 @@ fill-plain-requires : tie.Need-fill-plain-requires
 fill-plain-requires c κs =
     let s = c .before .before .before .before in
     let a = s .args in
-    (s .pre .0 .small, assigned (a .n) (a .a .now) (s .pre .0 .form), plain-room (a .n) (rowsOf (a .n) (a .rows) (a .images .now)) _ (s .pre .1))
+    (s .pre .0 .small, form-room (a .n) (a .a .now) (s .pre .0 .form), plain-room (a .n) (rowsOf (a .n) (a .rows) (a .images .now)) _ (s .pre .1))
 
 fill-rows-requires : tie.Need-fill-rows-requires
 fill-rows-requires c κs =

@@ -1,26 +1,23 @@
 -- `filling::fill_rows` meets its contract. The invariant: the values left to take are those of row r and of the rows after it. Assumes nothing.
-use mathlib.Core.Path.{_≡_}
-use mathlib.Core.Bool.{Bool, true}
+use mathlib.Core.Bool.{Bool}
 use mathlib.Core.List.{List, _++_}
 use Prim.Native.Nat.{ℕ, _+_, _-_, _*_, _≤_}
 use native.Mathlib.Omega.{arith}
 use lib.ListN.{length, length-append}
-use Rattle.lists.specs.Tests.{allOf}
 use Rattle.packed.specs.Words.{bitsOf}
-use Rattle.store.specs.Stores.{isRow, rowsOf}
-use Rattle.store.proofs.Formed.{rowAt}
+use Rattle.packed.proofs.Form.{form-room}
+use Rattle.store.specs.Stores.{rowsOf}
+use Rattle.store.proofs.Formed.{rowAt, rows-at}
 use Rattle.lexleader.specs.Made.{auxiliaries, rowSettings, settings}
 use Rattle.lexleader.proofs.Left.{left, left-all, part-is, room, row-size}
 use Rattle.lexleader.proofs.Settings.{length-row, length-settings}
-use Rattle.filling.proofs.Values.{assigned}
-use Rattle.filling.proofs.Runs.{Run, run-start, run-more, run-end, run-some, run-size, run-room, over-end, over-more, good-here, good-more, part-settings}
+use Rattle.filling.proofs.Runs.{Run, run-start, run-more, run-end, run-some, run-size, run-room, over-end, over-more, part-settings}
 use Rattle.filling.proofs.fill_rows.Statement.{statement}
 use Rattle.filling.proofs.fill_rows.Tie as tie
 
 abbrev Inv-loop : tie.InvT-loop
 Inv-loop images rows n a out₀ taken₀ r₀ out taken r =
-    (r ≤ rows) × (allOf (isRow n) (left n rows images r) ≡ true)
-    × Run taken₀ out₀ (settings (rowsOf n rows images) (bitsOf n a)) (settings (left n rows images r) (bitsOf n a)) taken out
+    (r ≤ rows) × Run taken₀ out₀ (settings (rowsOf n rows images) (bitsOf n a)) (settings (left n rows images r) (bitsOf n a)) taken out
 
 abbrev μ-loop : tie.MeasureT-loop
 μ-loop images rows n a out₀ taken₀ r₀ out taken r = rows - r
@@ -37,7 +34,7 @@ loop-holds c =
     let s = c .before .before .before in
     let a = s .args in
     let all = left-all (a .n) (a .rows) (a .images .now) in
-    (omega arith, rw all (s .pre .0 .good), rw all (run-start (a .w) (a .out .now) _))
+    (omega arith, rw all (run-start (a .w) (a .out .now) _))
 
 mul-from : tie.Need-mul-from Inv-loop μ-loop
 mul-from c = omega (arith, within c)
@@ -66,13 +63,13 @@ fill-row-requires c κs =
     let images = a .images .now in
     let r : ℕ = l .loop .r in
     let bits : List Bool = bitsOf n (a .a .now) in
-    let run = rw (over-more n (a .rows) images bits r (omega arith)) at (l .loop .inv .2) in
+    let run = rw (over-more n (a .rows) images bits r (omega arith)) at (l .loop .inv .1) in
     let more : auxiliaries (rowAt n r images) ≤ length (rowSettings (rowAt n r images) bits ++ settings (left n (a .rows) images (r + 1)) bits) =
     omega (arith, length-append (rowSettings (rowAt n r images) bits) (settings (left n (a .rows) images (r + 1)) bits), length-row (rowAt n r images) bits) in
     rw (part-is n r images, row-size n (a .rows) images (s .pre .0 .fits) r (omega arith)) (
       s .pre .0 .small,
-      good-here n (a .rows) images r (omega arith) (l .loop .inv .1),
-      assigned n (a .a .now) (s .pre .0 .form),
+      rows-at n (a .rows) images (s .pre .0 .good) r (omega arith),
+      form-room n (a .a .now) (s .pre .0 .form),
       run-some (s .pre .1) run,
       run-room (s .pre .1) run (auxiliaries (rowAt n r images)) more (rw (length-settings (rowsOf n (a .rows) images) bits) (s .pre .2)),
     )
@@ -91,18 +88,18 @@ loop-again c =
     let n : ℕ = a .n in
     let images = a .images .now in
     let r : ℕ = l .loop .r in
-    let run = rw (over-more n (a .rows) images (bitsOf n (a .a .now)) r (omega arith)) at (l .loop .inv .2) in
+    let run = rw (over-more n (a .rows) images (bitsOf n (a .a .now)) r (omega arith)) at (l .loop .inv .1) in
     let row = rw (part-settings n (a .rows) images (a .a .now) (s .pre .0 .fits) r (omega arith)) at (c .before .before .fill-row .ensures) in
-    (omega arith, good-more n (a .rows) images r (omega arith) (l .loop .inv .1), run-more run row)
+    (omega arith, run-more run row)
 
 same-length : tie.Need-same-length Inv-loop μ-loop
-same-length c = let l = c .before in run-size (l .before .before .before .before .pre .1) (l .loop .inv .2)
+same-length c = let l = c .before in run-size (l .before .before .before .before .pre .1) (l .loop .inv .1)
 
 returns : tie.Need-returns Inv-loop μ-loop
 returns c =
     let l = c .before in
     let a = l .before .before .before .before .args in
-    run-end (rw (over-end (a .n) (a .rows) (a .images .now) (bitsOf (a .n) (a .a .now)) (l .loop .r) (omega arith)) at (l .loop .inv .2))
+    run-end (rw (over-end (a .n) (a .rows) (a .images .now) (bitsOf (a .n) (a .a .now)) (l .loop .r) (omega arith)) at (l .loop .inv .1))
 
 pub fill-rows-spec : {M : Type 1} → statement M
 fill-rows-spec =

@@ -29,10 +29,10 @@ literal-length-requires : tie.Need-literal-length-requires Inv-loop μ-loop
 literal-length-requires c κs = search needs
 
 add-length : tie.Need-add-length Inv-loop μ-loop
-add-length c = omega (arith, measured-fits (c .before .before .before .before .loop .inv) (c .before .before .before .loop-test .taken) (c .before .wide .ensures) (c .literal-length .ensures))
+add-length c = omega (arith, measured-fits (c .before .before .before .before .loop .inv) (c .before .before .before .loop-test .taken) (c .before .wide .ensures .0) (c .literal-length .ensures))
 
 add-length-2 : tie.Need-add-length-2 Inv-loop μ-loop
-add-length-2 c = omega (arith, measured-fits (c .before .before .before .before .loop .inv) (c .before .before .before .loop-test .taken) (c .before .wide .ensures) (c .literal-length .ensures))
+add-length-2 c = omega (arith, measured-fits (c .before .before .before .before .loop .inv) (c .before .before .before .loop-test .taken) (c .before .wide .ensures .0) (c .literal-length .ensures))
 
 add-i : tie.Need-add-i Inv-loop μ-loop
 add-i c = omega arith
@@ -41,7 +41,7 @@ loop-less : tie.Need-loop-less Inv-loop μ-loop
 loop-less c = omega arith
 
 loop-again : tie.Need-loop-again Inv-loop μ-loop
-loop-again c = measured-more (c .before .before .before .before .loop .inv) (c .before .before .before .loop-test .taken) (c .before .wide .ensures) (c .literal-length .ensures)
+loop-again c = measured-more (c .before .before .before .before .loop .inv) (c .before .before .before .loop-test .taken) (c .before .wide .ensures .0) (c .literal-length .ensures)
 
 returns : tie.Need-returns Inv-loop μ-loop
 returns c = measured-all (c .before .loop .inv) (c .loop-test .left)

@@ -6,7 +6,7 @@ use Rattle.store.specs.declared.form.Standing.{Standing}
 use Rattle.store.proofs.StandingLaws.{ready}
 use mathlib.Core.Bool.{true}
 use Rattle.packed.specs.Words.{isAssignment}
-use Rattle.symbreak.proofs.ModelLaws.{descends, descend-unready, descend-misformed, descend-done}
+use Rattle.symbreak.proofs.ModelLaws.{works, descend-unready, descend-misformed, descend-done}
 use borrow.Author.Needs.{needs}
 use Rattle.symbreak.proofs.descend.Statement.{statement}
 use Rattle.symbreak.proofs.descend.Tie as tie
@@ -56,7 +56,7 @@ descend-requires : tie.Need-descend-requires
 descend-requires c κs =
     let i = c .before in
     let s = start i in
-    descends (S s) (ready (S s) (admitted (told i)) .1) (s .args .a .now) (form i)
+    works (S s) (ready (S s) (admitted (told i)) .1) (s .args .a .now) (form i)
 
 same-length-2 : tie.Need-same-length-2
 same-length-2 c = search needs

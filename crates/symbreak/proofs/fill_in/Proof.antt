@@ -9,7 +9,7 @@ use mathlib.Core.Bool.{true}
 use Prim.Native.Nat.{ℕ, _+_, _/_}
 use Rattle.packed.specs.Words.{wordCount, isAssignment}
 use Rattle.emit.specs.Emit.{variablesOf}
-use Rattle.symbreak.proofs.ModelLaws.{fills, fill-unready, fill-misformed, fill-short, fill-done}
+use Rattle.symbreak.proofs.ModelLaws.{works, fill-unready, fill-misformed, fill-short, fill-done}
 use borrow.Author.Needs.{needs}
 use Rattle.symbreak.proofs.fill_in.Statement.{statement}
 use Rattle.symbreak.proofs.fill_in.Tie as tie
@@ -75,7 +75,7 @@ fill-requires c κs =
     let t = c .before .before .before in
     let s = start (t .before) in
     let room = needed t in
-    (fills (S s) (ready (S s) (admitted (told (t .before))) .1) (s .args .a .now) (form (t .before)), omega (arith, room, c .before .if2 .left))
+    (works (S s) (ready (S s) (admitted (told (t .before))) .1) (s .args .a .now) (form (t .before)), omega (arith, room, c .before .if2 .left))
 
 same-length : tie.Need-same-length
 same-length c = search needs

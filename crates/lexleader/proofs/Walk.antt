@@ -1,11 +1,12 @@
 -- A walk along a row: what one step finds, and that a row moves no more variables than it has. Assumes nothing.
 use mathlib.Core.Path.{_≡_, refl, sym, ap, _∙_}
-use mathlib.Core.Bool.{Bool, true, false, cond}
+use mathlib.Core.Bool.{Bool, true, false, not, cond}
 use mathlib.Core.Logic.{_⊎_, inl, inr}
 use mathlib.Core.List.{List, [], _∷_}
 use Prim.Native.Nat.{ℕ, _+_, _-_, _*_, _≤_, _<_}
 use native.Mathlib.Omega.{arith}
-use borrow.Author.Tests.{eq-eqb, ne-eqb}
+use borrow.Author.Tests.{eq-eqb, ne-eqb, eqb-true, eqb-false}
+use mir.Val.{boolByte}
 use lib.Dec.{eqb}
 use lib.ListN.{length, getD, drop, drop-of-length-le, length-drop}
 use lib.Seq.{drop-drop}
@@ -26,6 +27,16 @@ module _ (row : List ℕ) (i : ℕ) where
   pub walk-moved : i < length row → (getD row i 0 ≡ 2 * (i + 1) → ⊥) → pairsAt i row ≡ pairAt row i ∷ pairsAt (i + 1) row
   unfolding pairsAt pairsFrom
   walk-moved h e = rw (drop-step row i 0 h, ne-eqb (getD row i 0) (2 * (i + 1)) e)
+
+  -- the variable at i is one pair more, or none
+  pub walk-counts : (own : ℕ) → i < length row → own ≡ 2 * (i + 1)
+      → (length (pairsAt i row) ≡ boolByte (not (eqb (getD row i 0) own)) + length (pairsAt (i + 1) row)) × (boolByte (not (eqb (getD row i 0) own)) ≤ 1)
+  walk-counts own h is = go (eqb (getD row i 0) own) refl
+    where
+      go : (b : Bool) → eqb (getD row i 0) own ≡ b
+          → (length (pairsAt i row) ≡ boolByte (not b) + length (pairsAt (i + 1) row)) × (boolByte (not b) ≤ 1)
+      go true e = (omega (arith, ap length (walk-past h (eqb-true (getD row i 0) own e ∙ is))), omega arith)
+      go false e = (omega (arith, ap length (walk-moved h (λ q. eqb-false (getD row i 0) own e (q ∙ sym is)))), omega arith)
 
   pub walk-end : length row ≤ i → pairsAt i row ≡ []
   unfolding pairsAt pairsFrom

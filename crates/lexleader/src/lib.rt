@@ -35,18 +35,20 @@ pub struct Added {
     pub clauses: usize,
 }
 
-// How many variables a row moves.
+// How many variables a row moves. `own` is the code of the variable at i; the loop has no branch, so that compilers count several variables at once.
 pub fn pair_count(row: &[u16]) -> usize
     requires { ⌜ length (now row) ≤ 512 ⌝ }
     ensures { λ r. ⌜ r ≡ length (pairsOf (now (row .entry))) ⌝ }
 {
-    let mut count = 0;
-    let mut i = next_moved(row, 0);
+    let mut count: u16 = 0;
+    let mut own: u16 = 2;
+    let mut i = 0;
     while i < row.len() {
-        count += 1;
-        i = next_moved(row, i + 1);
+        count += (row[i] != own) as u16;
+        own += 2;
+        i += 1;
     }
-    count
+    count as usize
 }
 
 // A row that moves k variables, k of 2 or more, adds k - 1 auxiliaries and six clauses for each.

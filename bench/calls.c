@@ -1,0 +1,376 @@
+/* The library's calls against those of plain.c, job by job. Both must first give the same answers and leave the same bytes.
+ *
+ *   calls time           a line for each job: its name, the library's best processor time and plain C's, in nanoseconds
+ *   calls count          runs each job once with the library and once with plain C, each in one call of `turn`, for callgrind
+ *   calls growth         the same with the library alone, for the jobs and sizes of the table of growth; prints call, n, m, rows and what to divide by
+ */
+#define _POSIX_C_SOURCE 200809L
+#include <stdio.h>
+#include <stdlib.h>
+#include <string.h>
+#include <time.h>
+
+#include "plain.h"
+
+enum { MAX_N = SYMBREAK_MAX_VARIABLES, MAX_L = SYMBREAK_MAX_LITERALS, MAX_ROWS = SYMBREAK_MAX_ROWS, MAX_LINE = 7 * MAX_L + 2 };
+
+typedef struct {
+    __typeof__(symbreak_open) *open;
+    __typeof__(symbreak_offer) *offer;
+    __typeof__(symbreak_header) *header;
+    __typeof__(symbreak_clause) *clause;
+    __typeof__(symbreak_fill_in) *fill_in;
+    __typeof__(symbreak_check) *check;
+    __typeof__(symbreak_descend) *descend;
+    __typeof__(symbreak_compare) *compare;
+} calls;
+
+#define CALLS(prefix) \
+    { \
+        prefix##_open, prefix##_offer, prefix##_header, prefix##_clause, prefix##_fill_in, prefix##_check, prefix##_descend, prefix##_compare \
+    }
+static const calls library = CALLS(symbreak), plain = CALLS(plain);
+
+/* All that is lent, the last answer and the sum of all. */
+static struct world {
+    uint64_t n, m, rows;
+    uint16_t literals[MAX_L], ends[SYMBREAK_MAX_CLAUSES], images[MAX_ROWS * MAX_N];
+    uint64_t a[SYMBREAK_MAX_WORDS], b[SYMBREAK_MAX_WORDS]; /* assignments: the job's own, and room for one */
+    uint8_t out[MAX_LINE];
+    uint64_t last[6], said; /* last: the refusal, its place, and the value, moves or rows; then what else was answered */
+} w;
+static uint8_t text[1 << 17], names[1 << 12], values[1 << 12];
+static size_t text_len, names_len, values_len;
+static uint64_t step; /* from one clause written to the next */
+
+#define SLICE(array) array, sizeof(array) / sizeof *(array)
+#define STORE w.n, w.m, w.rows, 1, SLICE(w.literals), SLICE(w.ends), SLICE(w.images)
+
+static void say(const uint64_t x[6])
+{
+    memcpy(w.last, x, sizeof w.last);
+    for (int i = 0; i < 6; i++) w.said = w.said * 31 + x[i];
+}
+
+static void say_answer(symbreak_answer x) { say((uint64_t[6]){x.refusal, x.place, x.value}); }
+static void say_stored(symbreak_stored x) { say((uint64_t[6]){x.refusal, x.place, x.rows, x.variables, x.clauses, x.is_open}); }
+static void say_descent(symbreak_descent x) { say((uint64_t[6]){x.refusal, x.place, x.moves, x.settled}); }
+
+/* What the jobs do. */
+
+static void open(const calls *c) { say_stored(c->open(0, 0, 0, 0, text, text_len, SLICE(w.literals), SLICE(w.ends))); }
+static void offer(const calls *c) { say_stored(c->offer(STORE, names, names_len, values, values_len)); }
+
+/* One line behind the other. */
+static void write(const calls *c)
+{
+    uint64_t last = w.m + 6 * w.rows * (w.n - 1); /* for rows that move all */
+    symbreak_answer line = c->header(STORE, SLICE(w.out));
+    size_t used = line.value;
+    for (uint64_t q = 1; q <= last; q += step) {
+        line = c->clause(STORE, q, w.out + used, sizeof w.out - used);
+        say_answer(line);
+        used += line.value;
+    }
+}
+
+static void clause(const calls *c) { say_answer(c->clause(STORE, w.m + 6 * w.rows * (w.n - 1), SLICE(w.out))); }
+static void fill_in(const calls *c) { say_answer(c->fill_in(STORE, w.a, (w.n + 63) / 64, SLICE(w.b))); }
+static void check(const calls *c) { say_answer(c->check(STORE, w.b, (w.n + w.rows * (w.n - 1) + 63) / 64)); }
+
+static void descend(const calls *c)
+{
+    memcpy(w.b, w.a, sizeof(uint64_t) * (MAX_N / 64));
+    say_descent(c->descend(STORE, w.b, (w.n + 63) / 64, UINT64_MAX));
+}
+
+static void compare(const calls *c) { say_answer(c->compare(SLICE(w.a), SLICE(w.b))); }
+
+/* What they do it to. */
+
+static uint64_t state;
+
+static unsigned chance(unsigned below)
+{
+    state = state * 6364136223846793005u + 1442695040888963407u;
+    return (unsigned)((state >> 33) % below);
+}
+
+static unsigned shifted(unsigned code, unsigned by) { return (code / 2 - 1 + by) % (unsigned)w.n * 2 + 2 + code % 2; }
+
+static void set(uint64_t *a, unsigned i) { a[i / 64] |= 1ull << (63 - i % 64); }
+
+/* m clauses of three literals, closed under the shift of all variables by one, in any order: m / n of them, drawn by chance, with all their shifts. Two
+   literals of one sign stand for variables with a distance of 2 modulo 4, so that the assignment 00110011.. makes every clause true. */
+static void closed_formula(unsigned n, unsigned m)
+{
+    unsigned drawn[3] = {0};
+    memset(&w, 0, sizeof w);
+    w.n = n;
+    w.m = m;
+    state = 1;
+    for (unsigned c = 0; c < m; c++) {
+        if (c % n == 0) {
+            unsigned first = chance(n), sign = chance(2);
+            drawn[0] = 2 * (first + 1) + sign;
+            drawn[1] = shifted(drawn[0], 4 * chance(n / 4) + 2);
+            drawn[2] = 2 * ((first + 4 * chance(n / 4) + 1) % n + 1) + chance(2);
+        }
+        for (unsigned i = 0, turn = chance(3); i < 3; i++) w.literals[3 * c + i] = (uint16_t)shifted(drawn[(i + turn) % 3], c % n);
+        w.ends[c] = (uint16_t)(3 * (c + 1));
+    }
+    for (unsigned c = m; c > 1; c--) {
+        unsigned other = chance(c);
+        for (unsigned i = 0; i < 3; i++) {
+            uint16_t kept = w.literals[3 * other + i];
+            w.literals[3 * other + i] = w.literals[3 * (c - 1) + i];
+            w.literals[3 * (c - 1) + i] = kept;
+        }
+    }
+    for (unsigned i = 0; i < n; i++)
+        if (i % 4 >= 2) set(w.a, i);
+}
+
+/* Rows that move all variables and leave the assignment 00110011.. as it is: shifts by 4, 8, .. */
+static void full_rows(unsigned rows)
+{
+    w.rows = rows;
+    for (unsigned r = 0; r < rows; r++)
+        for (unsigned i = 0; i < w.n; i++) w.images[r * w.n + i] = (uint16_t)shifted(2 * (i + 1), 4 * (r + 1));
+}
+
+static void write_text(void)
+{
+    uint8_t *end = text + sprintf((char *)text, "p cnf %d %d\n", (int)w.n, (int)w.m);
+    for (unsigned c = 0, i = 0; c < w.m; c++) {
+        for (; i < w.ends[c]; i++) end = plain_put(end, w.literals[i] % 2 ? -(w.literals[i] / 2) : w.literals[i] / 2, ' ');
+        end = plain_put(end, 0, '\n');
+    }
+    text_len = (size_t)(end - text);
+}
+
+/* The offer of the shift by one. */
+static void write_offer(void)
+{
+    uint8_t *name = names, *value = values;
+    for (unsigned i = 1; i <= w.n; i++) {
+        name = plain_put(name, (int)i, ' ');
+        value = plain_put(value, (int)(i % w.n + 1), ' ');
+    }
+    names_len = (size_t)(name - names);
+    values_len = (size_t)(value - values);
+}
+
+/* Whether clause d is clause c shifted by one. */
+static int is_shifted(unsigned c, unsigned d)
+{
+    unsigned found = 0;
+    for (unsigned i = 0; i < 3; i++)
+        for (unsigned j = 0; j < 3; j++) found += shifted(w.literals[3 * c + i], 1) == w.literals[3 * d + j];
+    return found == 3;
+}
+
+/* Puts a copy of another clause in place of clause c shifted by one, so that the image of c, and no other, is missing. */
+static void spoil(unsigned c)
+{
+    unsigned other = c ? 0 : 1;
+    for (unsigned d = 0; d < w.m; d++) {
+        if (!is_shifted(c, d)) continue;
+        if (d == other) other++, other += other == c;
+        memcpy(w.literals + 3 * d, w.literals + 3 * other, 3 * sizeof *w.literals);
+    }
+}
+
+static void to_open(unsigned n, unsigned m, unsigned rows) { closed_formula(n, m), full_rows(rows), write_text(), memset(&w, 0, sizeof w); }
+static void to_offer(unsigned n, unsigned m, unsigned rows) { closed_formula(n, m), full_rows(rows - 1), write_offer(); }
+static void to_refuse_last(unsigned n, unsigned m, unsigned rows) { to_offer(n, m, rows), spoil(m - 1); }
+static void to_refuse_first(unsigned n, unsigned m, unsigned rows) { to_offer(n, m, rows), spoil(0); }
+static void to_write(unsigned n, unsigned m, unsigned rows) { closed_formula(n, m), full_rows(rows), step = rows > 1 ? 500 : 1; }
+static void to_check(unsigned n, unsigned m, unsigned rows) { closed_formula(n, m), full_rows(rows), fill_in(&plain), w.said = 0; }
+
+/* One clause of as many literals as there can be, and nothing else. */
+static void to_write_long(unsigned n, unsigned m, unsigned rows)
+{
+    closed_formula(n, 0);
+    w.m = m;
+    w.rows = rows;
+    w.ends[0] = MAX_L;
+    for (unsigned i = 0; i < MAX_L; i++) w.literals[i] = (uint16_t)(2 + chance(2 * n));
+}
+
+static void unmoved_rows(unsigned n, unsigned rows)
+{
+    memset(&w, 0, sizeof w);
+    w.n = n;
+    w.rows = rows;
+    for (unsigned r = 0; r < rows; r++)
+        for (unsigned i = 0; i < n; i++) w.images[r * n + i] = (uint16_t)(2 * (i + 1));
+}
+
+/* Each row exchanges a variable and the next; of the variables exchanged, the first half are true. They are sorted like bubbles. */
+static void to_exchange(unsigned n, unsigned m, unsigned rows)
+{
+    (void)m;
+    unmoved_rows(n, rows);
+    for (unsigned r = 0; r < rows; r++) {
+        w.images[r * n + r] = (uint16_t)(2 * (r + 2));
+        w.images[r * n + r + 1] = (uint16_t)(2 * (r + 1));
+    }
+    for (unsigned i = 0; i < (rows + 1) / 2; i++) set(w.a, i);
+}
+
+/* A counter of n / 8 digits: a digit is eight variables with one true, and counts down as that goes to the right. Row r counts digit r down (the last variables
+   are digit 0) and turns those to the right of it back to 7, if they are 0. From 7777 that makes 8^4 - 1 moves. */
+static void to_count(unsigned n, unsigned m, unsigned rows)
+{
+    (void)m;
+    unmoved_rows(n, rows);
+    for (unsigned d = 0; d < n / 8; d++) {
+        unsigned first = n - 8 * (d + 1);
+        set(w.a, first + (d < 4 ? 0 : 7));
+        for (unsigned r = d; r < rows; r++)
+            for (unsigned i = 0; i < 8; i++) w.images[r * n + first + i] = (uint16_t)(2 * (first + (i + 7) % 8 + 1));
+    }
+}
+
+static void to_compare(unsigned n, unsigned m, unsigned rows)
+{
+    closed_formula(n, m);
+    full_rows(rows);
+    fill_in(&plain);
+    memcpy(w.a, w.b, sizeof w.a);
+    w.b[SYMBREAK_MAX_WORDS - 1] ^= 1;
+    w.said = 0;
+}
+
+typedef struct {
+    const char *name;
+    void (*prepare)(unsigned n, unsigned m, unsigned rows);
+    void (*run)(const calls *c);
+    unsigned n, m, rows;
+    uint64_t refusal, number; /* what the last call must answer: a refusal and its place, or 0 and the value, moves or rows */
+} job;
+
+#define ANY UINT64_MAX
+
+static const job jobs[] = {
+    {"open: 512 variables, 4,096 clauses, 12,288 literals", to_open, open, 512, 4096, 0, 0, 0},
+    {"offer accepted, the same formula, row 64", to_offer, offer, 512, 4096, 64, 0, 64},
+    {"offer refused at clause 4,096", to_refuse_last, offer, 512, 4096, 64, SYMBREAK_NO_SYMMETRY, 4096},
+    {"offer refused at clause 1", to_refuse_first, offer, 512, 4096, 64, SYMBREAK_NO_SYMMETRY, 1},
+    {"header and every 500th clause of 200,320, 64 full rows", to_write, write, 512, 4096, 64, 0, 25},
+    {"header and 3,066 clauses, 1 full row, no plain clauses", to_write, write, 512, 0, 1, 0, 15},
+    {"one clause of 12,288 literals, no rows", to_write_long, clause, 512, 1, 0, 0, 52701},
+    {"fill in, 64 full rows", to_write, fill_in, 512, 4096, 64, 0, 519},
+    {"check, 64 full rows, all clauses true", to_check, check, 512, 4096, 64, 0, 0},
+    {"descend, 1,056 moves, 64 exchanges of neighbours", to_exchange, descend, 512, 0, 64, 0, 1056},
+    {"descend, 4,095 moves, a counter of 64 rows", to_count, descend, 512, 0, 64, 0, 4095},
+    {"compare 519 words, alike but for the last bit", to_compare, compare, 512, 4096, 64, 0, 64 * 519},
+};
+enum { JOBS = sizeof jobs / sizeof *jobs };
+
+__attribute__((noinline)) void turn(const job *j, const calls *c)
+{
+    j->run(c);
+    __asm__ volatile("" ::: "memory");
+}
+
+/* Runs a job with both, leaves it prepared, and gives the last call's value. */
+static uint64_t test(const job *j, int count_plain)
+{
+    static struct world before, by_library;
+    uint64_t value;
+    j->prepare(j->n, j->m, j->rows);
+    before = w;
+    turn(j, &library);
+    by_library = w;
+    w = before;
+    if (count_plain) turn(j, &plain);
+    else j->run(&plain);
+    if (memcmp(&w, &by_library, sizeof w)) {
+        fprintf(stderr, "%s: the answers or the bytes left differ\n", j->name);
+        exit(1);
+    }
+    if (w.last[0] != j->refusal || (w.last[j->refusal ? 1 : 2] != j->number && j->number != ANY)) {
+        fprintf(stderr, "%s: refusal %d, place %d, value %d\n", j->name, (int)w.last[0], (int)w.last[1], (int)w.last[2]);
+        exit(1);
+    }
+    value = w.last[2];
+    w = before;
+    return value;
+}
+
+static double taken(const job *j, const calls *c, unsigned times)
+{
+    struct timespec begin, end;
+    clock_gettime(CLOCK_PROCESS_CPUTIME_ID, &begin);
+    for (unsigned i = 0; i < times; i++) turn(j, c);
+    clock_gettime(CLOCK_PROCESS_CPUTIME_ID, &end);
+    return ((double)(end.tv_sec - begin.tv_sec) * 1e9 + (double)(end.tv_nsec - begin.tv_nsec)) / times;
+}
+
+/* The best of many turns, alternating. All jobs go round several times, so that no job has all its turns while the machine is busy. */
+static void time_jobs(void)
+{
+    enum { ROUNDS = 5, TURNS = 5 };
+    static const double ENOUGH = 6e8, SHORT = 1e6; /* nanoseconds: of a job in a round, with TURNS turns or more; of a turn, in which a short job is repeated */
+    const calls *const sides[2] = {&library, &plain};
+    double best[JOBS][2];
+    for (int round = 0; round < ROUNDS; round++) {
+        for (size_t k = 0; k < JOBS; k++) {
+            double spent = 0;
+            unsigned times[2];
+            test(&jobs[k], 1);
+            for (int s = 0; s < 2; s++) {
+                double once = taken(&jobs[k], sides[s], 1);
+                times[s] = once < SHORT ? (unsigned)(SHORT / once) + 1 : 1;
+                if (round == 0) best[k][s] = once;
+            }
+            for (int i = 0; i < TURNS || spent < ENOUGH; i++) {
+                for (int s = 0; s < 2; s++) {
+                    double t = taken(&jobs[k], sides[s], times[s]);
+                    spent += t * times[s];
+                    if (t < best[k][s]) best[k][s] = t;
+                }
+            }
+        }
+    }
+    for (size_t k = 0; k < JOBS; k++) printf("%s\t%.0f\t%.0f\n", jobs[k].name, best[k][0], best[k][1]);
+}
+
+/* The growth of each call: each size doubles one number of the size before. */
+static void growth(void)
+{
+    static const unsigned sizes[][3] = {{128, 1024, 16}, {256, 1024, 16}, {256, 2048, 16}, {256, 2048, 32}, {512, 2048, 32}, {512, 4096, 32}, {512, 4096, 64}};
+    for (size_t s = 0; s < sizeof sizes / sizeof *sizes; s++) {
+        unsigned n = sizes[s][0], m = sizes[s][1], rows = sizes[s][2];
+        const job grown[] = {
+            {"open", to_open, open, n, m, rows, 0, ANY},
+            {"offer accepted", to_offer, offer, n, m, rows, 0, rows},
+            {"last clause", to_write, clause, n, m, rows, 0, ANY},
+            {"fill in", to_write, fill_in, n, m, rows, 0, ANY},
+            {"check", to_check, check, n, m, rows, 0, 0},
+            {"descend, per move", to_exchange, descend, n, m, rows, 0, ANY},
+        };
+        for (size_t k = 0; k < sizeof grown / sizeof *grown; k++) {
+            uint64_t value = test(&grown[k], 0);
+            printf("%s\t%u\t%u\t%u\t%d\n", grown[k].name, n, m, rows, grown[k].run == descend ? (int)value : 1);
+        }
+    }
+}
+
+int main(int count, char **words)
+{
+    const char *what = count == 2 ? words[1] : "";
+    if (!strcmp(what, "time")) {
+        time_jobs();
+    } else if (!strcmp(what, "count")) {
+        for (size_t k = 0; k < JOBS; k++) test(&jobs[k], 1);
+    } else if (!strcmp(what, "growth")) {
+        growth();
+    } else {
+        fprintf(stderr, "calls time | count | growth\n");
+        return 2;
+    }
+    return 0;
+}

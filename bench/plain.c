@@ -1,0 +1,440 @@
+/* The calls of include/symbreak.h in plain C, as a C programmer would write them: document 01 says what they do, and nothing here is proved. Like the library
+   they keep nothing between calls and allocate nothing; what they need beside the lent slices is on the stack, at most 64 KB. */
+#include "plain.h"
+
+#include <string.h>
+
+enum { MAX_N = SYMBREAK_MAX_VARIABLES, MAX_M = SYMBREAK_MAX_CLAUSES, MAX_L = SYMBREAK_MAX_LITERALS, MAX_ROWS = SYMBREAK_MAX_ROWS };
+
+/* The store as the calls are lent it. */
+#define RECORD uint64_t n, uint64_t m, uint64_t rows, uint64_t is_open
+#define FORMULA const uint16_t *literals, size_t literals_len, const uint16_t *ends, size_t ends_len
+#define IMAGES const uint16_t *images, size_t images_len
+#define LENT n, m, rows, is_open, literals, literals_len, ends, ends_len, images, images_len
+
+/* From a call that may change the store: with the record as it was lent. */
+#define REFUSE(number, where) return (symbreak_stored){number, where, n, m, rows, is_open != 0}
+
+static symbreak_answer answer(uint64_t value) { return (symbreak_answer){0, 0, value}; }
+static symbreak_answer refused(uint32_t refusal, uint64_t place) { return (symbreak_answer){refusal, place, 0}; }
+
+/* Refusal 20 or 21, or 0; then moved[r] is the count of variables that row r moves. A row is a permutation if no code comes twice: seen holds, for each
+   variable, the number of the last row that had it, so that it need not be cleared between rows. */
+static uint32_t fault(RECORD, FORMULA, IMAGES, uint16_t moved[MAX_ROWS])
+{
+    uint8_t seen[MAX_N] = {0};
+    uint32_t last = 0;
+    if (!is_open) return SYMBREAK_NOT_OPEN;
+    if (n > MAX_N || m > MAX_M || rows > MAX_ROWS || ends_len < m || images_len < rows * n) return SYMBREAK_BADLY_FORMED;
+    for (size_t c = 0; c < m; c++) {
+        if (ends[c] < last) return SYMBREAK_BADLY_FORMED;
+        last = ends[c];
+    }
+    if (last > literals_len || last > MAX_L) return SYMBREAK_BADLY_FORMED;
+    for (size_t i = 0; i < last; i++)
+        if (literals[i] - 2u >= 2 * n) return SYMBREAK_BADLY_FORMED;
+    for (size_t r = 0; r < rows; r++, images += n) {
+        unsigned k = 0;
+        for (size_t i = 0; i < n; i++) {
+            unsigned code = images[i], v = code / 2 - 1;
+            if (code % 2 || v >= n || seen[v] == r + 1) return SYMBREAK_BADLY_FORMED;
+            seen[v] = (uint8_t)(r + 1);
+            k += v != i;
+        }
+        moved[r] = (uint16_t)k;
+    }
+    return 0;
+}
+
+unsigned plain_moved(const uint16_t *row, uint64_t n)
+{
+    unsigned k = 0;
+    for (size_t i = 0; i < n; i++) k += row[i] != 2 * (i + 1);
+    return k;
+}
+
+/* The auxiliaries of a row that moves k variables. */
+static unsigned auxiliaries(unsigned k) { return k ? k - 1 : 0; }
+
+static unsigned all_auxiliaries(const uint16_t *moved, uint64_t rows)
+{
+    unsigned sum = 0;
+    for (size_t r = 0; r < rows; r++) sum += auxiliaries(moved[r]);
+    return sum;
+}
+
+/* Reading. */
+
+typedef struct {
+    const uint8_t *text;
+    size_t at, end, start; /* the text is read from at up to end; the last word began at start */
+} reader;
+
+enum { END, NUMBER, OTHER };
+
+static int blank(uint8_t b) { return b == ' ' || b == '\t' || b == '\n'; }
+
+static int more(reader *in)
+{
+    while (in->at < in->end && blank(in->text[in->at])) in->at++;
+    in->start = in->at;
+    return in->at < in->end;
+}
+
+/* Reads the next word, if it is a number: nobody reads on after another word, so that its end need not be found. */
+static int next(reader *in, int *value)
+{
+    const uint8_t *p, *end = in->text + in->end, *first;
+    int negative, v = 0;
+    if (!more(in)) return END;
+    p = in->text + in->at;
+    negative = *p == '-';
+    first = p += negative;
+    while (p < end && p - first < 7 && (uint8_t)(*p - '0') < 10) v = v * 10 + (*p++ - '0');
+    if (p == first || p - first > 6 || (p < end && !blank(*p)) || (*first == '0' && (p - first > 1 || negative))) return OTHER;
+    in->at = (size_t)(p - in->text);
+    *value = negative ? -v : v;
+    return NUMBER;
+}
+
+static size_t line_end(const uint8_t *text, size_t at, size_t end)
+{
+    const uint8_t *feed = memchr(text + at, '\n', end - at);
+    return feed ? (size_t)(feed - text) : end;
+}
+
+/* Reads the problem line, from in->at to in->end. */
+static int problem_line(reader *in, int *n, int *m)
+{
+    const uint8_t *p = in->text + in->at;
+    if (in->end - in->at < 2 || p[0] != 'p' || !blank(p[1])) return 0;
+    in->at++;
+    more(in);
+    p = in->text + in->at;
+    if (in->end - in->at < 4 || memcmp(p, "cnf", 3) || !blank(p[3])) return 0;
+    in->at += 3;
+    return next(in, n) == NUMBER && *n >= 0 && next(in, m) == NUMBER && *m >= 0 && !more(in);
+}
+
+/* A text is read once, into arrays of the call's own, since a refusal may come as late as its last word. */
+symbreak_stored plain_open(RECORD, const uint8_t *text, size_t text_len, uint16_t *literals, size_t literals_len, uint16_t *ends, size_t ends_len)
+{
+    uint16_t codes[MAX_L], closes[MAX_M];
+    reader in = {text, 0, text_len, 0};
+    int variables = 0, clauses = 0, closed = 0, count = 0, v, kind;
+    while (in.at < text_len && text[in.at] == 'c') in.at = line_end(text, in.at, text_len) + 1;
+    if (in.at >= text_len) REFUSE(SYMBREAK_NO_PROBLEM_LINE, text_len);
+    size_t line = in.at;
+    in.end = line_end(text, line, text_len);
+    if (!problem_line(&in, &variables, &clauses)) REFUSE(SYMBREAK_NO_PROBLEM_LINE, line);
+    if (variables > MAX_N || clauses > MAX_M) REFUSE(SYMBREAK_SIZE_OVER_LIMIT, line);
+    in.end = text_len;
+    while ((kind = next(&in, &v)) != END) {
+        if (closed == clauses) REFUSE(SYMBREAK_CLAUSE_COUNT, in.start);
+        if (kind == OTHER) REFUSE(SYMBREAK_NOT_NUMBER, in.start);
+        if (v == 0) {
+            closes[closed++] = (uint16_t)count;
+        } else {
+            int variable = v < 0 ? -v : v;
+            if (variable > variables) REFUSE(SYMBREAK_LITERAL_BEYOND, in.start);
+            if (count == MAX_L) REFUSE(SYMBREAK_TOO_MANY_LITERALS, in.start);
+            codes[count++] = (uint16_t)(2 * variable + (v < 0));
+        }
+    }
+    if (closed < clauses) REFUSE(SYMBREAK_CLAUSE_COUNT, text_len);
+    if (literals_len < (size_t)count) REFUSE(SYMBREAK_TOO_SHORT, (uint64_t)count);
+    if (ends_len < (size_t)clauses) REFUSE(SYMBREAK_TOO_SHORT, (uint64_t)clauses);
+    if (count) memcpy(literals, codes, (size_t)count * sizeof *codes);
+    if (clauses) memcpy(ends, closes, (size_t)clauses * sizeof *closes);
+    return (symbreak_stored){0, 0, (uint64_t)variables, (uint64_t)clauses, 0, 1};
+}
+
+/* Offers. */
+
+/* A number for each code, so that the sum over a clause's different literals hardly ever agrees for two clauses. */
+static uint32_t mix(uint32_t code)
+{
+    code *= 0x9E3779B1;
+    code ^= code >> 15;
+    code *= 0x85EBCA77;
+    return code ^ code >> 13;
+}
+
+typedef struct {
+    uint32_t key;
+    uint16_t size; /* the count of different literals */
+} digest;
+
+/* Marks the codes of a clause, or with a row of its image, with a stamp that no clause before had. */
+static digest mark(const uint16_t *codes, size_t count, const uint16_t *row, uint16_t stamp, uint16_t marks[2 * MAX_N + 2])
+{
+    digest d = {0, 0};
+    for (size_t i = 0; i < count; i++) {
+        unsigned code = row ? row[codes[i] / 2 - 1] + codes[i] % 2u : codes[i];
+        if (marks[code] == stamp) continue;
+        marks[code] = stamp;
+        d.key += mix(code);
+        d.size++;
+    }
+    return d;
+}
+
+/* The number of the first clause whose image under the row is no clause, or 0. Clauses stand in a hash table by the sum of their literals' mixes; a candidate
+   is the image as a set if it has as many different literals and all of them are marked. */
+static uint64_t first_missing(uint64_t m, const uint16_t *literals, const uint16_t *ends, const uint16_t *row)
+{
+    enum { SLOTS = 2 * MAX_M };
+    uint16_t table[SLOTS] = {0}, marks[2 * MAX_N + 2] = {0};
+    digest digests[MAX_M];
+    for (size_t c = 0, begin = 0; c < m; begin = ends[c++]) {
+        digests[c] = mark(literals + begin, ends[c] - begin, 0, (uint16_t)(c + 1), marks);
+        size_t slot = digests[c].key % SLOTS;
+        while (table[slot]) slot = (slot + 1) % SLOTS;
+        table[slot] = (uint16_t)(c + 1);
+    }
+    for (size_t c = 0, begin = 0; c < m; begin = ends[c++]) {
+        uint16_t stamp = (uint16_t)(MAX_M + c + 1);
+        digest d = mark(literals + begin, ends[c] - begin, row, stamp, marks);
+        size_t slot, other;
+        for (slot = d.key % SLOTS; (other = table[slot]); slot = (slot + 1) % SLOTS) {
+            if (digests[other - 1].key != d.key || digests[other - 1].size != d.size) continue;
+            size_t i = other > 1 ? ends[other - 2] : 0;
+            while (i < ends[other - 1] && marks[literals[i]] == stamp) i++;
+            if (i == ends[other - 1]) break;
+        }
+        if (!other) return c + 1;
+    }
+    return 0;
+}
+
+symbreak_stored plain_offer_untested(RECORD, FORMULA, uint16_t *images, size_t images_len, const uint8_t *names, size_t names_len, const uint8_t *values,
+                                     size_t values_len)
+{
+    enum { NO_NAME, NAME, TAKEN };
+    uint16_t row[MAX_N], name[MAX_N];
+    uint8_t state[MAX_N + 1] = {0};
+    reader in = {names, 0, names_len, 0};
+    int v, kind;
+    size_t count = 0, taken = 0, bad = SIZE_MAX; /* bad: the first word that offends, where none is no number */
+    uint64_t missing, needed = (rows + 1) * n;
+    (void)literals_len, (void)ends_len;
+    if (rows == MAX_ROWS) REFUSE(SYMBREAK_ROWS_FULL, 0);
+    while ((kind = next(&in, &v)) == NUMBER) {
+        if (bad != SIZE_MAX) continue;
+        if (v < 1 || v > (int)n || state[v] == NAME) {
+            bad = in.start;
+        } else {
+            state[v] = NAME;
+            name[count++] = (uint16_t)v;
+        }
+    }
+    if (kind == OTHER) REFUSE(SYMBREAK_NAME_NOT_NUMBER, in.start);
+    if (bad != SIZE_MAX || count == 0) REFUSE(SYMBREAK_BAD_NAME, bad != SIZE_MAX ? bad : names_len);
+    for (size_t i = 0; i < n; i++) row[i] = (uint16_t)(2 * (i + 1));
+    in = (reader){values, 0, values_len, 0};
+    while ((kind = next(&in, &v)) == NUMBER) {
+        if (bad != SIZE_MAX) continue;
+        if (v < 1 || v > (int)n || state[v] != NAME) {
+            bad = in.start;
+        } else {
+            state[v] = TAKEN;
+            row[name[taken++] - 1] = (uint16_t)(2 * v);
+        }
+    }
+    if (kind == OTHER) REFUSE(SYMBREAK_VALUE_NOT_NUMBER, in.start);
+    if (bad != SIZE_MAX || taken < count) REFUSE(SYMBREAK_BAD_VALUE, bad != SIZE_MAX ? bad : values_len);
+    missing = first_missing(m, literals, ends, row);
+    if (missing) REFUSE(SYMBREAK_NO_SYMMETRY, missing);
+    if (images_len < needed) REFUSE(SYMBREAK_TOO_SHORT, needed);
+    memcpy(images + rows * n, row, n * sizeof *row);
+    return (symbreak_stored){0, 0, n, m, rows + 1, 1};
+}
+
+symbreak_stored plain_offer(RECORD, FORMULA, uint16_t *images, size_t images_len, const uint8_t *names, size_t names_len, const uint8_t *values,
+                            size_t values_len)
+{
+    uint16_t moved[MAX_ROWS];
+    uint32_t refusal = fault(LENT, moved);
+    if (refusal) REFUSE(refusal, 0);
+    return plain_offer_untested(LENT, names, names_len, values, values_len);
+}
+
+/* Writing. A line is made in an array of the call's own and copied once its length is known. */
+
+static symbreak_answer hand_over(const uint8_t *line, const uint8_t *end, uint8_t *out, size_t out_len)
+{
+    size_t length = (size_t)(end - line);
+    if (out_len < length) return refused(SYMBREAK_TOO_SHORT, length);
+    memcpy(out, line, length);
+    return answer(length);
+}
+
+symbreak_answer plain_header(RECORD, FORMULA, IMAGES, uint8_t *out, size_t out_len)
+{
+    uint16_t moved[MAX_ROWS];
+    uint8_t line[32] = "p cnf ", *end = line + 6;
+    uint32_t refusal = fault(LENT, moved);
+    if (refusal) return refused(refusal, 0);
+    unsigned sum = all_auxiliaries(moved, rows);
+    end = plain_put(end, (int)(n + sum), ' ');
+    end = plain_put(end, (int)(m + 6 * sum), '\n');
+    return hand_over(line, end, out, out_len);
+}
+
+/* The moved variable of a row after x; the first one after 0. */
+static unsigned after(const uint16_t *row, unsigned x)
+{
+    while (row[x] == 2 * (x + 1)) x++;
+    return x + 1;
+}
+
+symbreak_answer plain_clause(RECORD, FORMULA, IMAGES, uint64_t q, uint8_t *out, size_t out_len)
+{
+    uint16_t moved[MAX_ROWS];
+    uint8_t line[5 * MAX_L + 2], *end = line; /* a plain literal has at most four bytes, an added one six */
+    uint32_t refusal = fault(LENT, moved);
+    if (refusal) return refused(refusal, 0);
+    if (q == 0) return refused(SYMBREAK_NO_SUCH_CLAUSE, 0);
+    if (q <= m) {
+        for (size_t i = q > 1 ? ends[q - 2] : 0; i < ends[q - 1]; i++) end = plain_put(end, literals[i] % 2 ? -(literals[i] / 2) : literals[i] / 2, ' ');
+    } else {
+        uint64_t left = q - m - 1, r = 0;
+        unsigned last = (unsigned)n, x = 0, next, j;
+        int literal[4], count;
+        for (; r < rows && left >= 6 * auxiliaries(moved[r]); r++) {
+            left -= 6 * auxiliaries(moved[r]);
+            last += auxiliaries(moved[r]);
+        }
+        if (r == rows) return refused(SYMBREAK_NO_SUCH_CLAUSE, 0);
+        images += r * n;
+        for (j = 0; j <= left / 6; j++) x = after(images, x);
+        next = after(images, x);
+        count = plain_added((int)j, (int)(left % 6) + 1, (int)x, images[x - 1] / 2, (int)next, images[next - 1] / 2, (int)(last + j), literal);
+        for (int i = 0; i < count; i++) end = plain_put(end, literal[i], ' ');
+    }
+    end = plain_put(end, 0, '\n');
+    return hand_over(line, end, out, out_len);
+}
+
+/* Assignments. Work on single variables is done on bytes, one for each, at its number. */
+
+static size_t words(uint64_t n) { return (n + 63) / 64; }
+
+static int bit(const uint64_t *a, size_t i) { return a[i / 64] >> (63 - i % 64) & 1; }
+
+/* Whether a is an assignment of 1..n. */
+static int is_assignment(const uint64_t *a, size_t a_len, uint64_t n) { return a_len == words(n) && (n % 64 == 0 || a[n / 64] << n % 64 == 0); }
+
+static void unpack(const uint64_t *a, uint64_t n, uint8_t value[MAX_N + 1])
+{
+    for (size_t i = 0; i < n; i++) value[i + 1] = (uint8_t)bit(a, i);
+}
+
+/* Sets the bits from first, count of them. */
+static void set(uint64_t *a, size_t first, size_t count)
+{
+    while (count) {
+        size_t from = first % 64, here = count < 64 - from ? count : 64 - from;
+        a[first / 64] |= ~0ull >> (64 - here) << (64 - from - here);
+        first += here;
+        count -= here;
+    }
+}
+
+/* A row's auxiliaries are true up to the first moved variable at which a and a moved differ, so each row is one run of ones. */
+symbreak_answer plain_fill_in(RECORD, FORMULA, IMAGES, const uint64_t *a, size_t a_len, uint64_t *out, size_t out_len)
+{
+    uint16_t moved[MAX_ROWS];
+    uint8_t value[MAX_N + 1];
+    uint32_t refusal = fault(LENT, moved);
+    if (refusal) return refused(refusal, 0);
+    if (!is_assignment(a, a_len, n)) return refused(SYMBREAK_BAD_ASSIGNMENT, 0);
+    size_t count = words(n + all_auxiliaries(moved, rows)), first = n;
+    if (out_len < count) return refused(SYMBREAK_TOO_SHORT, count);
+    unpack(a, n, value);
+    memset(out, 0, count * sizeof *out);
+    if (n) memcpy(out, a, a_len * sizeof *a);
+    for (size_t r = 0; r < rows; r++, images += n) {
+        unsigned agree = 0, most = auxiliaries(moved[r]);
+        for (size_t i = 0; i < n && value[i + 1] == value[images[i] / 2]; i++) agree += images[i] != 2 * (i + 1);
+        set(out, first, agree < most ? agree : most);
+        first += most;
+    }
+    return answer(count);
+}
+
+symbreak_answer plain_check(RECORD, FORMULA, IMAGES, const uint64_t *a, size_t a_len)
+{
+    uint16_t moved[MAX_ROWS];
+    uint8_t value[MAX_N + 1];
+    uint32_t refusal = fault(LENT, moved);
+    if (refusal) return refused(refusal, 0);
+    if (!is_assignment(a, a_len, n + all_auxiliaries(moved, rows))) return refused(SYMBREAK_BAD_ASSIGNMENT, 0);
+    unpack(a, n, value);
+    for (size_t c = 0, i = 0; c < m; i = ends[c++]) {
+        while (i < ends[c] && value[literals[i] / 2] == literals[i] % 2) i++;
+        if (i == ends[c]) return answer(c + 1);
+    }
+    uint64_t clause = m; /* the number of the last clause looked at */
+    size_t e_at = n;
+    for (size_t r = 0; r < rows; r++, images += n) {
+        unsigned x = 0, most = auxiliaries(moved[r]);
+        int before = 1; /* e(j-1); with 1 for it, the clauses of j = 1 read like the others, but for the first */
+        if (most) x = after(images, x);
+        for (unsigned j = 1; j <= most; j++, clause += 6) {
+            unsigned next = after(images, x);
+            int e = bit(a, e_at++), u = value[x], v = value[images[x - 1] / 2], p = value[next], q = value[images[next - 1] / 2];
+            if (j == 1 ? u && !v : e && !before) return answer(clause + 1);
+            if (e && u && !v) return answer(clause + 2);
+            if (e && !u && v) return answer(clause + 3);
+            if (!e && before && !u && !v) return answer(clause + 4);
+            if (!e && before && u && v) return answer(clause + 5);
+            if (e && p && !q) return answer(clause + 6);
+            before = e;
+            x = next;
+        }
+    }
+    return answer(0);
+}
+
+/* A row is walked from variable 1 to the first at which a and a moved differ, over variables that it does not move as well. */
+symbreak_descent plain_descend(RECORD, FORMULA, IMAGES, uint64_t *a, size_t a_len, uint64_t limit)
+{
+    uint16_t moved[MAX_ROWS];
+    uint8_t first[MAX_N + 1], second[MAX_N + 1], *value = first, *other = second, *kept;
+    uint64_t moves = 0, settled = 1;
+    uint32_t refusal = fault(LENT, moved);
+    if (!refusal && !is_assignment(a, a_len, n)) refusal = SYMBREAK_BAD_ASSIGNMENT;
+    if (refusal) return (symbreak_descent){refusal, 0, 0, 0};
+    unpack(a, n, value);
+    for (size_t r = 0; r < rows;) {
+        const uint16_t *row = images + r * n;
+        size_t i = 0;
+        while (i < n && value[i + 1] == value[row[i] / 2]) i++;
+        if (i == n || !value[i + 1]) {
+            r++;
+            continue;
+        }
+        if (moves == limit) {
+            settled = 0;
+            break;
+        }
+        for (i = 0; i < n; i++) other[i + 1] = value[row[i] / 2];
+        kept = value, value = other, other = kept;
+        moves++;
+        r = 0;
+    }
+    if (moves) {
+        memset(a, 0, a_len * sizeof *a);
+        for (size_t i = 0; i < n; i++) a[i / 64] |= (uint64_t)value[i + 1] << (63 - i % 64);
+    }
+    return (symbreak_descent){0, 0, settled, moves};
+}
+
+symbreak_answer plain_compare(const uint64_t *a, size_t a_len, const uint64_t *b, size_t b_len)
+{
+    if (a_len != b_len || a_len > SYMBREAK_MAX_WORDS) return refused(SYMBREAK_BAD_ASSIGNMENT, 0);
+    for (size_t i = 0; i < a_len; i++)
+        if (a[i] != b[i]) return answer(64 * i + (size_t)__builtin_clzll(a[i] ^ b[i]) + 1);
+    return answer(0);
+}

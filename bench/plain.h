@@ -1,0 +1,55 @@
+/* The calls of include/symbreak.h in plain C, for comparison: the same arguments, answers, refusals and places, under names that start with `plain_`. */
+#ifndef PLAIN_H
+#define PLAIN_H
+
+#include "symbreak.h"
+
+__typeof__(symbreak_open) plain_open;
+__typeof__(symbreak_offer) plain_offer;
+__typeof__(symbreak_header) plain_header;
+__typeof__(symbreak_clause) plain_clause;
+__typeof__(symbreak_fill_in) plain_fill_in;
+__typeof__(symbreak_check) plain_check;
+__typeof__(symbreak_descend) plain_descend;
+__typeof__(symbreak_compare) plain_compare;
+
+/* What program.c takes beside them: it keeps its own store, so that nobody has to test it again, and writes pages. */
+
+/* An offer to an open store known to be well formed: refusals 22, 7 to 11, 23. */
+__typeof__(symbreak_offer) plain_offer_untested;
+
+/* The count of variables that a row of n codes moves. */
+unsigned plain_moved(const uint16_t *row, uint64_t n);
+
+/* Clause r, from 1 to 6, of auxiliary j: x and y are xj and yj, p and q the next pair, e is ej. Gives the count of its literals, 2 to 4. */
+static inline int plain_added(int j, int r, int x, int y, int p, int q, int e, int literal[4])
+{
+    int k = 0;
+    switch (r) {
+    case 1:
+        literal[k++] = j == 1 ? -x : -e;
+        literal[k++] = j == 1 ? y : e - 1;
+        return k;
+    case 2: literal[k++] = -e, literal[k++] = -x, literal[k++] = y; return k;
+    case 3: literal[k++] = -e, literal[k++] = x, literal[k++] = -y; return k;
+    case 6: literal[k++] = -e, literal[k++] = -p, literal[k++] = q; return k;
+    }
+    literal[k++] = e;
+    if (j > 1) literal[k++] = 1 - e;
+    literal[k++] = r == 4 ? x : -x;
+    literal[k++] = r == 4 ? y : -y;
+    return k;
+}
+
+/* Writes a literal and the byte after it; gives the end. */
+static inline uint8_t *plain_put(uint8_t *to, int literal, uint8_t after)
+{
+    unsigned v = literal < 0 ? 0u - (unsigned)literal : (unsigned)literal;
+    int k = v < 10 ? 1 : v < 100 ? 2 : v < 1000 ? 3 : v < 10000 ? 4 : v < 100000 ? 5 : 6;
+    if (literal < 0) *to++ = '-';
+    to[k] = after;
+    for (int i = k - 1; i >= 0; i--, v /= 10) to[i] = (uint8_t)('0' + v % 10);
+    return to + k + 1;
+}
+
+#endif

@@ -1,23 +1,34 @@
 -- A loop that appends values: those taken and those left make up all of them. What is left along a row and over the rows, and what all of it comes to.
 -- Assumes nothing.
 use mathlib.Core.Path.{_≡_, refl, sym, ap, _∙_}
-use mathlib.Core.Bool.{Bool, _&&_}
+use mathlib.Core.Bool.{Bool, true, false, not, cond, Bool·beq}
 use mathlib.Core.List.{List, [], _∷_, _++_, append-nil, append-assoc}
 use Prim.Native.Nat.{ℕ, zero, suc, _+_, _-_, _*_, _≤_, _<_}
 use native.Mathlib.Omega.{arith}
-use lib.ListN.{length, take, drop, length-append, length-take}
+use borrow.Author.Tests.{eqb-true, eqb-false}
+use mir.Val.{boolByte}
+use lib.ListN.{length, getD, take, drop, replicate, length-append, length-take}
+use lib.Dec.{eqb}
+use Rattle.lists.proofs.Cases.{never}
 use Rattle.packed.specs.Words.{bitsOf, wordCount}
+use Rattle.packed.specs.Order.{valueOf}
 use Rattle.packed.proofs.Bits.{length-bits}
 use Rattle.store.specs.Stores.{rowsOf}
 use Rattle.store.proofs.Formed.{rowAt}
-use Rattle.lexleader.specs.Clause.{pairAt, pairsAt, Next}
-use Rattle.lexleader.specs.Made.{agrees, settingsAfter, rowSettings, settings, allAuxiliaries, filledIn, madeVariables}
+use Rattle.lexleader.specs.Models.{literalValue}
+use Rattle.lexleader.specs.Rows.{Pair, pairsOf}
+use Rattle.lexleader.specs.Clause.{pairAt, pairsAt}
+use Rattle.lexleader.specs.Made.{agrees, settingsAfter, rowSettings, settings, auxiliaries, allAuxiliaries, filledIn, madeVariables}
 use Rattle.lexleader.proofs.Settings.{length-settings}
-use Rattle.lexleader.proofs.Walk.{walk-end}
+use Rattle.lexleader.proofs.Walk.{walk-past, walk-moved, walk-end}
 use Rattle.lexleader.proofs.Left.{left, left-step, left-end, row-size, part-is, auxiliaries-most}
 use Rattle.filling.specs.declared.Writer.{Writer}
 use Rattle.valuation.specs.Ready.{Ready}
-use Rattle.filling.specs.Written.{Holds, Some, Room, Appends}
+use Rattle.filling.specs.Written.{Holds, Some, Room, Appends, agreeing}
+
+beq-refl : (b : Bool) → Bool·beq b b ≡ true
+beq-refl true = refl
+beq-refl false = refl
 
 -- from a writer and its buffer to another: of all values some are taken, and the rest are left
 pub record Run (w : Writer) (out : List ℕ) (all rest : List Bool) (v : Writer) (after : List ℕ) : Type 0 where
@@ -56,22 +67,77 @@ module _ {w : Writer} {out : List ℕ} {all : List Bool} {v : Writer} {after : L
         omega (arith, ran .count, s .holds .count, length-append (s .values) (r .done), ap length (r .so), length-append (r .done) rest) in
         record { fits = omega (arith, room .fits, run-size); few = omega (arith, room .few) }
 
--- ---- the auxiliaries of a row
+-- ---- the auxiliaries of a row: a run of true, then one of false
 
-module _ (v : ℕ → Bool) (row : List ℕ) (i : ℕ) (agreed : Bool) where
-  pub along-end : length row ≤ i → settingsAfter v agreed (pairsAt i row) ≡ []
+module _ (v : ℕ → Bool) where
+  after-false : (pairs : List Pair) → settingsAfter v false pairs ≡ replicate (length pairs - 1) false
   unfolding settingsAfter
-  along-end h = rw (walk-end row i h)
+  after-false [] = refl
+  after-false (q ∷ []) = refl
+  after-false (q ∷ p ∷ pairs) =
+      let size : length (q ∷ p ∷ pairs) - 1 ≡ suc (length (p ∷ pairs) - 1) = omega arith in
+      rw (size, after-false (p ∷ pairs))
 
-  module _ (h : i < length row) (here : Next row i i) (r : ℕ) (next : Next row (i + 1) r) where
-    pub along-last : length row ≤ r → settingsAfter v agreed (pairsAt i row) ≡ []
-    unfolding settingsAfter
-    along-last l = rw (here .here h, next .same, walk-end row r l)
+  after-true : (pairs : List Pair) (k : ℕ) → k ≡ agreeing v pairs
+      → (length pairs - 1 ≤ k → settingsAfter v true pairs ≡ replicate (length pairs - 1) true)
+      × (k < length pairs - 1 → settingsAfter v true pairs ≡ replicate k true ++ replicate (length pairs - 1 - k) false)
+  unfolding settingsAfter agreeing
+  after-true [] k is = (λ h. refl, λ h. absurd (omega arith))
+  after-true (q ∷ []) k is = (λ h. refl, λ h. absurd (omega arith))
+  after-true (q ∷ p ∷ pairs) k is = go (after-true (p ∷ pairs) (agreeing v (p ∷ pairs)) refl) (agrees v q) is
+    where
+      size : length (q ∷ p ∷ pairs) - 1 ≡ suc (length (p ∷ pairs) - 1)
+      size = omega arith
 
-    pub along-more : r < length row → (b : Bool) → b ≡ (agreed && agrees v (pairAt row i))
-        → settingsAfter v agreed (pairsAt i row) ≡ (b ∷ []) ++ settingsAfter v b (pairsAt r row)
-    unfolding settingsAfter
-    along-more l b e = rw (here .here h, next .same, next .here l, e)
+      go : (length (p ∷ pairs) - 1 ≤ agreeing v (p ∷ pairs) → settingsAfter v true (p ∷ pairs) ≡ replicate (length (p ∷ pairs) - 1) true)
+          × (agreeing v (p ∷ pairs) < length (p ∷ pairs) - 1
+          → settingsAfter v true (p ∷ pairs) ≡ replicate (agreeing v (p ∷ pairs)) true ++ replicate (length (p ∷ pairs) - 1 - agreeing v (p ∷ pairs)) false)
+          → (b : Bool) → k ≡ cond b (1 + agreeing v (p ∷ pairs)) 0
+          → (length (q ∷ p ∷ pairs) - 1 ≤ k → b ∷ settingsAfter v b (p ∷ pairs) ≡ replicate (length (q ∷ p ∷ pairs) - 1) true)
+          × (k < length (q ∷ p ∷ pairs) - 1 → b ∷ settingsAfter v b (p ∷ pairs) ≡ replicate k true ++ replicate (length (q ∷ p ∷ pairs) - 1 - k) false)
+      go rest true e =
+          let one : k ≡ suc (agreeing v (p ∷ pairs)) = omega arith in
+          let left : suc (length (p ∷ pairs) - 1) - suc (agreeing v (p ∷ pairs)) ≡ length (p ∷ pairs) - 1 - agreeing v (p ∷ pairs) = omega arith in
+          (λ h. rw (size, rest .0 (omega arith)), λ h. rw (one, size, left, rest .1 (omega arith)))
+      go rest false e =
+          let all : suc (length (p ∷ pairs) - 1) - 0 ≡ suc (length (p ∷ pairs) - 1) = omega arith in
+          (λ h. absurd (omega arith), λ h. rw (e, size, all, after-false (p ∷ pairs)))
+
+module _ (row : List ℕ) (bits : List Bool) (all agreed : ℕ) (count : all ≡ auxiliaries row) (is : agreed ≡ agreeing (valueOf bits) (pairsOf row)) where
+  pub settings-alike : all ≤ agreed → rowSettings row bits ≡ replicate all true
+  unfolding rowSettings auxiliaries
+  settings-alike h = rw count (after-true (valueOf bits) (pairsOf row) agreed is .0 (omega (arith, count)))
+
+  pub settings-apart : agreed < all → rowSettings row bits ≡ replicate agreed true ++ replicate (all - agreed) false
+  unfolding rowSettings auxiliaries
+  settings-apart h = rw count (after-true (valueOf bits) (pairsOf row) agreed is .1 (omega (arith, count)))
+
+-- ---- how far a row's variables agree with their images
+
+module _ (v : ℕ → Bool) (row : List ℕ) (i : ℕ) where
+  pub agreeing-end : length row ≤ i → agreeing v (pairsAt i row) ≡ 0
+  unfolding agreeing
+  agreeing-end h = rw (walk-end row i h)
+
+  module _ (own : ℕ) (is : own ≡ 2 * (i + 1)) (h : i < length row) where
+    -- a variable that stays agrees with itself
+    same : getD row i 0 ≡ own → agrees v (pairAt row i) ≡ true
+    unfolding agrees
+    same e = rw (e, is) (beq-refl (literalValue v (2 * (i + 1))))
+
+    pub agreeing-stops : agrees v (pairAt row i) ≡ false → agreeing v (pairsAt i row) ≡ 0
+    unfolding agreeing
+    agreeing-stops differ = rw (walk-moved row i h (λ e. never (sym differ ∙ same (e ∙ sym is))), differ)
+
+    pub agreeing-goes : agrees v (pairAt row i) ≡ true
+        → (agreeing v (pairsAt i row) ≡ boolByte (not (eqb (getD row i 0) own)) + agreeing v (pairsAt (i + 1) row)) × (boolByte (not (eqb (getD row i 0) own)) ≤ 1)
+    unfolding agreeing
+    agreeing-goes agree = go (eqb (getD row i 0) own) refl
+      where
+        go : (b : Bool) → eqb (getD row i 0) own ≡ b
+            → (agreeing v (pairsAt i row) ≡ boolByte (not b) + agreeing v (pairsAt (i + 1) row)) × (boolByte (not b) ≤ 1)
+        go true e = (omega (arith, ap (agreeing v) (walk-past row i h (eqb-true (getD row i 0) own e ∙ is))), omega arith)
+        go false e = (rw (walk-moved row i h (λ q. eqb-false (getD row i 0) own e (q ∙ sym is)), agree), omega arith)
 
 -- ---- the auxiliaries of all rows
 

@@ -1,42 +1,44 @@
--- What a writer holds: after one value more, and when it is finished. A word is the binary number of its values. Assumes nothing.
+-- What a writer holds: after a run of values more, and when it is finished. A word is the binary number of its values. Assumes nothing.
 use mathlib.Core.Path.{_≡_, refl, sym, ap, _∙_}
 use mathlib.Core.Bool.{Bool, true, false, cond}
 use mathlib.Core.List.{List, [], _∷_, _++_}
 use mathlib.Core.Logic.{⊎-elim}
 use Prim.Native.Nat.{ℕ, zero, suc, _+_, _-_, _*_, _/_, _%_, _^_, _≤_, _<_}
 use native.Mathlib.Nat.{pow-suc, add-zero}
-use native.Mathlib.Numerals.{add-one}
 use native.Mathlib.Omega.{arith}
-use mir.Val.{boolByte}
-use lib.ListN.{length, getD, take, drop, set, length-append, length-set, take-append-drop, List·getD-append, List·getD-eq-default}
-use lib.Pow.{pow-mono, shl-exact}
-use lib.Seq.{length-take-le, getD-take, getD-set-same, getD-set-other, getD-at, drop-set-lt, drop-drop, ext-getD}
+use lib.ListN.{length, getD, take, drop, set, replicate, length-append, length-replicate, getD-replicate, length-set, take-append-drop, List·getD-append, List·getD-eq-default}
+use lib.Pow.{pow-pos, pow-mono, shl-exact}
+use lib.Seq.{length-take-le, getD-take, getD-set-same, getD-set-other, getD-append-add, drop-set-lt, drop-drop, ext-getD}
 use Rattle.lists.specs.Tables.{table}
 use Rattle.lists.proofs.Cases.{eq-or-ne}
 use Rattle.lists.proofs.TableLaws.{length-table, getD-table}
 use Rattle.packed.specs.Words.{binary, wordCount, wordsOf}
-use Rattle.packed.proofs.Trips.{digit-lt, binary-lt}
+use Rattle.packed.proofs.Trips.{binary-lt}
 use Rattle.filling.specs.declared.Writer.{Writer}
-use Rattle.filling.specs.Written.{Holds, Some}
+use Rattle.filling.specs.Written.{Holds}
 
--- ---- a value as a digit, and binary numbers
-
-byte-digit : (b : Bool) → boolByte b ≡ cond b 1 0
-byte-digit true = refl
-byte-digit false = refl
+-- ---- binary numbers
 
 binary-same : (k : ℕ) (f g : ℕ → Bool) → ((p : ℕ) → p < k → f p ≡ g p) → binary k f ≡ binary k g
 unfolding binary
 binary-same zero f g s = refl
 binary-same (suc k) f g s = rw (binary-same k f g (λ p h. s p (omega arith)), s k (omega arith))
 
--- digits that are all 0 behind the first r
-binary-spare : (r k : ℕ) (f : ℕ → Bool) → ((p : ℕ) → r ≤ p → f p ≡ false) → binary (r + k) f ≡ binary r f * 2 ^ k
+-- k digits alike behind the first r
+binary-run : (r k : ℕ) (f : ℕ → Bool) (b : Bool) → ((p : ℕ) → r ≤ p → p < r + k → f p ≡ b) → binary (r + k) f ≡ binary r f * 2 ^ k + cond b (2 ^ k - 1) 0
 unfolding binary
-binary-spare r zero f s = rw (add-zero r) (omega arith)
-binary-spare r (suc k) f s =
+binary-run r zero f b s = rw (add-zero r) (go b)
+  where
+    go : (b : Bool) → binary r f ≡ binary r f * 2 ^ 0 + cond b (2 ^ 0 - 1) 0
+    go true = omega arith
+    go false = omega arith
+binary-run r (suc k) f b s =
     let next : r + suc k ≡ suc (r + k) = omega arith in
-    rw (next, s (r + k) (omega arith), binary-spare r k f s, pow-suc 2 k) (omega arith)
+    rw (next, s (r + k) (omega arith) (omega arith), binary-run r k f b (λ p l h. s p l (omega arith)), pow-suc 2 k) (go b)
+  where
+    go : (b : Bool) → (binary r f * 2 ^ k + cond b (2 ^ k - 1) 0) * 2 + cond b 1 0 ≡ binary r f * (2 ^ k * 2) + cond b (2 ^ k * 2 - 1) 0
+    go true = omega (arith, pow-pos k)
+    go false = omega arith
 
 -- ---- the words of a list of values
 
@@ -70,7 +72,11 @@ filled-all values k out old e h f past =
     (λ i l. getD-take k out i 0 (omega arith) ∙ f i (omega arith) ∙ sym (getD-table k (word values) i 0 (omega arith))) in
     sym (take-append-drop k out) ∙ rw (front, past, e)
 
--- ---- one value more: the word goes on, or is whole
+-- ---- a run of values more: the word goes on, or is whole
+
+-- the begun word with k digits more
+abbrev pub longer : ℕ → ℕ → Bool → ℕ
+longer word k v = word * 2 ^ k + cond v (2 ^ k - 1) 0
 
 module _ {values : List Bool} {w : Writer} {old out : List ℕ} (h : Holds values w old out) where
   begun-lt : w .word < 2 ^ (w .taken % 64)
@@ -82,51 +88,55 @@ module _ {values : List Bool} {w : Writer} {old out : List ℕ} (h : Holds value
       h .whole i l
       ∙ binary-same 64 _ _ (λ p q. sym (List·getD-append values more false (i * 64 + p) (omega (arith, h .count))))
 
-  module _ (v : Bool) where
-    taken-more : w .taken + 1 ≡ length (values ++ v ∷ [])
-    taken-more = omega (arith, h .count, length-append values (v ∷ []))
+  module _ (v : Bool) (k : ℕ) where
+    taken-more : w .taken + k ≡ length (values ++ replicate k v)
+    taken-more = omega (arith, h .count, length-append values (replicate k v), length-replicate k v)
 
-    word-more : w .word * 2 + boolByte v ≡ binary (w .taken % 64 + 1) (λ p. getD (values ++ v ∷ []) (w .taken / 64 * 64 + p) false)
-    unfolding binary
+    word-more : longer (w .word) k v ≡ binary (w .taken % 64 + k) (λ p. getD (values ++ replicate k v) (w .taken / 64 * 64 + p) false)
     word-more =
-        let place : length values ≡ w .taken / 64 * 64 + w .taken % 64 = omega (arith, h .count) in
-        let old-digits = binary-same (w .taken % 64) (λ p. getD values (w .taken / 64 * 64 + p) false) (λ p. getD (values ++ v ∷ []) (w .taken / 64 * 64 + p) false)
-        (λ p l. sym (List·getD-append values (v ∷ []) false (w .taken / 64 * 64 + p) (omega arith))) in
-        rw (add-one (w .taken % 64), getD-at values v [] false (w .taken / 64 * 64 + w .taken % 64) place, ← old-digits, h .begun, byte-digit v)
+        let f : ℕ → Bool = λ p. getD (values ++ replicate k v) (w .taken / 64 * 64 + p) false in
+        let before = binary-same (w .taken % 64) (λ p. getD values (w .taken / 64 * 64 + p) false) f
+        (λ p l. sym (List·getD-append values (replicate k v) false (w .taken / 64 * 64 + p) (omega (arith, h .count)))) in
+        let behind : (p : ℕ) → w .taken % 64 ≤ p → p < w .taken % 64 + k → f p ≡ v = λ p l q.
+        let place : w .taken / 64 * 64 + p ≡ length values + (p - w .taken % 64) = omega (arith, h .count) in
+        rw place (getD-append-add values (replicate k v) (p - w .taken % 64) false ∙ getD-replicate k (p - w .taken % 64) v false (omega arith)) in
+        sym (binary-run (w .taken % 64) k f v behind ∙ ap (λ (word : ℕ). longer word k v) (sym (h .begun ∙ before)))
 
-    pub begun-more : ((w .taken + 1) % 64 ≡ 0 → ⊥) → Holds (values ++ v ∷ []) (record { taken = w .taken + 1; word = w .word * 2 + boolByte v }) old out
-    begun-more r =
-        let same : (w .taken + 1) / 64 ≡ w .taken / 64 = omega arith in
-        let next : (w .taken + 1) % 64 ≡ w .taken % 64 + 1 = omega arith in
-        record {
-          count = taken-more;
-          begun = rw (same, next) word-more;
-          size = h .size;
-          whole = rw same (stay (v ∷ []));
-          past = rw same (h .past);
-        }
+    pub longer-fits : w .taken % 64 + k ≤ 64 → longer (w .word) k v < 2 ^ 64
+    longer-fits room =
+        let f : ℕ → Bool = λ p. getD (values ++ replicate k v) (w .taken / 64 * 64 + p) false in
+        omega (arith, word-more, binary-lt (w .taken % 64 + k) f, pow-mono room)
 
-    pub whole-more : (w .taken + 1) % 64 ≡ 0 → w .taken < 64 * length out
-        → Holds (values ++ v ∷ []) (record { taken = w .taken + 1; word = 0 }) old (set out (w .taken / 64) (w .word * 2 + boolByte v))
-    unfolding binary
-    whole-more r l =
-        let next : (w .taken + 1) / 64 ≡ w .taken / 64 + 1 = omega arith in
-        let all : w .taken % 64 + 1 ≡ 64 = omega arith in
-        record {
-          count = taken-more;
-          begun = rw r;
-          size = length-set out (w .taken / 64) (w .word * 2 + boolByte v) ∙ h .size;
-          whole =
-              rw next
-              (filled-more (values ++ v ∷ []) (w .taken / 64) (w .word * 2 + boolByte v) out (omega arith) (stay (v ∷ [])) (rw all at word-more));
-          past = rw next (past-more (w .taken / 64) (w .word * 2 + boolByte v) out old (h .past));
-        }
+    -- the shift loses nothing
+    pub shifted : w .taken % 64 + k ≤ 64 → (w .word * 2 ^ k) % 2 ^ 64 ≡ w .word * 2 ^ k
+    shifted room = shl-exact (w .taken % 64) k 64 begun-lt room
 
--- a word with one digit more is a word
-pub some-fits : {w : Writer} {out : List ℕ} → Some w out → (v : Bool) → w .word * 2 + boolByte v < 2 ^ 64
-some-fits {w} s v =
-    let most : w .taken % 64 ≤ 63 = omega arith in
-    omega (arith, begun-lt (s .holds), pow-mono most, byte-digit v, digit-lt v)
+    module _ (word : ℕ) (is : word ≡ longer (w .word) k v) (room : w .taken % 64 + k ≤ 64) where
+      pub begun-more : ((w .taken + k) % 64 ≡ 0 → ⊥) → Holds (values ++ replicate k v) (record { taken = w .taken + k; word = word }) old out
+      begun-more r =
+          let same : (w .taken + k) / 64 ≡ w .taken / 64 = omega arith in
+          let next : (w .taken + k) % 64 ≡ w .taken % 64 + k = omega arith in
+          record {
+            count = taken-more;
+            begun = rw (same, next) (is ∙ word-more);
+            size = h .size;
+            whole = rw same (stay (replicate k v));
+            past = rw same (h .past);
+          }
+
+      pub whole-more : 1 ≤ k → (w .taken + k) % 64 ≡ 0 → w .taken < 64 * length out
+          → Holds (values ++ replicate k v) (record { taken = w .taken + k; word = 0 }) old (set out (w .taken / 64) word)
+      unfolding binary
+      whole-more some r l =
+          let next : (w .taken + k) / 64 ≡ w .taken / 64 + 1 = omega arith in
+          let all : w .taken % 64 + k ≡ 64 = omega arith in
+          record {
+            count = taken-more;
+            begun = rw r;
+            size = length-set out (w .taken / 64) word ∙ h .size;
+            whole = rw next (filled-more (values ++ replicate k v) (w .taken / 64) word out (omega arith) (stay (replicate k v)) (rw all at (is ∙ word-more)));
+            past = rw next (past-more (w .taken / 64) word out old (h .past));
+          }
 
 -- ---- the start and the end
 
@@ -149,7 +159,8 @@ module _ {values : List Bool} {w : Writer} {old out : List ℕ} (h : Holds value
       let all : rest + (64 - rest) ≡ 64 = omega arith in
       let f : ℕ → Bool = λ p. getD values (k * 64 + p) false in
       let exact : v ≡ w .word * 2 ^ (64 - rest) = shl-exact rest (64 - rest) 64 (begun-lt h) (omega arith) in
-      let spare = binary-spare rest (64 - rest) f (λ p l. List·getD-eq-default values false (omega (arith, h .count))) in
-      let last : v ≡ word values k = exact ∙ ap (λ (m : ℕ). m * 2 ^ (64 - rest)) (h .begun) ∙ sym spare ∙ ap (λ (m : ℕ). binary m f) all in
+      let spare = binary-run rest (64 - rest) f false (λ p l q. List·getD-eq-default values false (omega (arith, h .count))) in
+      let whole : w .word * 2 ^ (64 - rest) ≡ binary (rest + (64 - rest)) f = omega (arith, ap (λ (m : ℕ). m * 2 ^ (64 - rest)) (h .begun), spare) in
+      let last : v ≡ word values k = exact ∙ whole ∙ ap (λ (m : ℕ). binary m f) all in
       filled-all values (k + 1) (set out k v) old (omega (arith, h .count)) (omega (arith, length-set out k v))
       (filled-more values k v out (omega arith) (h .whole) last) (past-more k v out old (h .past))

@@ -1,12 +1,13 @@
 -- Values written into lent words one after another, the highest bit of each word first (document 01, "Assignments, filling in and descent"). Assumes nothing.
 use mathlib.Core.Path.{_≡_}
 use Prim.Native.Nat.{ℕ, _+_, _*_, _/_, _%_, _≤_, _<_}
-use mathlib.Core.Bool.{Bool, false}
-use mathlib.Core.List.{List, _++_}
+use mathlib.Core.Bool.{Bool, false, cond}
+use mathlib.Core.List.{List, [], _∷_, _++_}
 use lib.ListN.{length, getD, drop}
 use Rattle.packed.specs.Words.{bitsOf, binary, wordsOf}
 use Rattle.store.specs.Stores.{maxVariables, maxRows}
-use Rattle.lexleader.specs.Made.{filledIn}
+use Rattle.lexleader.specs.Rows.{Pair}
+use Rattle.lexleader.specs.Made.{agrees, filledIn}
 use Rattle.filling.specs.declared.Writer.{Writer}
 
 -- the values that a writer has taken: whole words lie in the buffer, the begun one in the writer, and the rest of the buffer is as it was
@@ -30,6 +31,11 @@ Appends w more out v after = (values : List Bool) (old : List ℕ) → Holds val
 pub record Room (w : Writer) (more : ℕ) (out : List ℕ) : Type 0 where
   pub fits : w .taken + more ≤ 64 * length out
   pub few : w .taken + more ≤ maxVariables * (maxRows + 1)
+
+-- how many pairs agree before the first that does not
+unfoldable pub agreeing : (ℕ → Bool) → List Pair → ℕ
+agreeing v [] = 0
+agreeing v (q ∷ pairs) = cond (agrees v q) (1 + agreeing v pairs) 0
 
 -- the words that filling in writes
 unfoldable pub filledWords : ℕ → List (List ℕ) → List ℕ → List ℕ

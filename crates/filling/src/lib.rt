@@ -1,17 +1,18 @@
 // Filling in (document 01, "Assignments, filling in and descent"): the assignment itself, and each auxiliary true exactly when the assignment agrees with
-// itself moved on the moved variables so far. A writer takes one value after another and puts whole words into the lent buffer. What carries the proofs:
-// what a writer holds is a list of values (specs/Written.antt), and each function appends to it.
+// itself moved on the moved variables so far. A writer takes runs of equal values and puts whole words into the lent buffer. What carries the proofs: what a
+// writer holds is a list of values (specs/Written.antt), and each function appends to it; a row's settings are a run of true and one of false.
 ghost use mathlib.Core.Path.{_≡_};
-ghost use mathlib.Core.Bool.{Bool, true, _&&_};
-ghost use mathlib.Core.List.{List, [], _∷_, _++_};
-ghost use Prim.Native.Nat.{ℕ, _*_, _/_, _≤_};
-ghost use lib.ListN.{length, drop};
+ghost use mathlib.Core.Bool.{Bool, true, cond};
+ghost use mathlib.Core.List.{List, _++_};
+ghost use Prim.Native.Nat.{ℕ, _+_, _-_, _*_, _%_, _^_, _≤_};
+ghost use lib.ListN.{length, drop, replicate};
 ghost use Rattle.packed.specs.Words.{bitsOf, wordCount, wordsOf};
 ghost use Rattle.packed.specs.Order.{valueOf};
 ghost use Rattle.store.specs.Stores.{isRow, rowsOf};
-ghost use Rattle.lexleader.specs.Made.{auxiliaries, allAuxiliaries, madeVariables, agrees, rowSettings, settings};
+ghost use Rattle.lexleader.specs.Rows.{pairsOf};
+ghost use Rattle.lexleader.specs.Made.{auxiliaries, allAuxiliaries, madeVariables, rowSettings, settings};
 ghost use Rattle.valuation.specs.Ready.{Ready};
-ghost use Rattle.filling.specs.Written.{Holds, Some, Room, Appends, filledWords};
+ghost use Rattle.filling.specs.Written.{Holds, Some, Room, Appends, agreeing, filledWords};
 
 // How many values a writer has taken, and those of the word that is begun.
 pub struct Writer {
@@ -38,7 +39,7 @@ fn fill_plain(n: usize, a: &[u64], out: &mut [u64]) -> Writer
     let mut w = Writer { taken: 0, word: 0 };
     let mut i = 0;
     while i < n {
-        w = push(out, w, packed::value(a, i + 1));
+        w = push(out, w, packed::value(a, i + 1), 1);
         i += 1;
     }
     w
@@ -60,44 +61,81 @@ fn fill_rows(images: &[u16], rows: usize, n: usize, a: &[u64], out: &mut [u64], 
     taken
 }
 
-// The values of a row's auxiliaries: one for each moved variable but the last.
+// The values of a row's auxiliaries, one for each moved variable but the last: true as far as the variables agree with their images, false from there on.
 fn fill_row(row: &[u16], a: &[u64], out: &mut [u64], w: Writer) -> Writer
     requires { ⌜ (length (now row) ≤ 512) × (isRow (length (now row)) (now row) ≡ true) × (length (now row) ≤ 64 * length (now a)) × Some w (now out) × Room w (auxiliaries (now row)) (now out) ⌝ }
     ensures { λ r. ⌜ Appends w (rowSettings (now (row .entry)) (bitsOf (length (now (row .entry))) (now (a .entry)))) (now (out .entry)) r (now (out .exit)) ⌝ }
 {
-    let mut taken = w;
-    let mut agreed = true;
-    let mut i = lexleader::next_moved(row, 0);
+    let added = lexleader::added_by(row);
+    let all = added.auxiliaries;
+    let agreed = agreeing(row, a);
+    if all <= agreed {
+        return push_run(out, w, true, all);
+    }
+    let begun = push_run(out, w, true, agreed);
+    push_run(out, begun, false, all - agreed)
+}
+
+// How many moved variables agree with their images before the first that does not.
+fn agreeing(row: &[u16], a: &[u64]) -> usize
+    requires { ⌜ (length (now row) ≤ 512) × (isRow (length (now row)) (now row) ≡ true) × (length (now row) ≤ 64 * length (now a)) ⌝ }
+    ensures { λ r. ⌜ r ≡ agreeing (valueOf (bitsOf (length (now (row .entry))) (now (a .entry)))) (pairsOf (now (row .entry))) ⌝ }
+{
+    let mut count: usize = 0;
+    let mut own: u16 = 2;
+    let mut i = 0;
     while i < row.len() {
-        let next = lexleader::next_moved(row, i + 1);
-        if next == row.len() {
-            return taken;
+        if packed::value(a, i + 1) != valuation::literal_value(a, row[i] as u32) {
+            return count;
         }
-        agreed = agreed_too(agreed, a, i + 1, row[i]);
-        taken = push(out, taken, agreed);
-        i = next;
+        count += (row[i] != own) as usize;
+        own += 2;
+        i += 1;
+    }
+    count
+}
+
+// Takes a run of k equal values.
+fn push_run(out: &mut [u64], w: Writer, value: bool, k: usize) -> Writer
+    requires { ⌜ Some w (now out) × Room w k (now out) ⌝ }
+    ensures { λ r. ⌜ Appends w (replicate k value) (now (out .entry)) r (now (out .exit)) ⌝ }
+{
+    let mut taken = w;
+    let mut left = k;
+    while 0 < left {
+        let here = at_once(taken.taken, left);
+        taken = push(out, taken, value, here);
+        left -= here;
     }
     taken
 }
 
-// Whether all agreed before and a variable agrees with its image.
-fn agreed_too(before: bool, a: &[u64], variable: usize, image: u16) -> bool
-    requires { ⌜ (1 ≤ variable) × (variable ≤ 64 * length (now a)) × (1 ≤ image / 2) × (image / 2 ≤ 64 * length (now a)) ⌝ }
-    ensures { λ r. ⌜ ((n : ℕ) → variable ≤ n → image / 2 ≤ n → r ≡ (before && agrees (valueOf (bitsOf n (now (a .entry)))) (record { x = 2 * variable; y = image }))) ⌝ }
+// How many of some values go at once behind those taken: no more than the begun word has room for, and no more than 32.
+fn at_once(taken: usize, left: usize) -> usize
+    requires { ⌜ 1 ≤ left ⌝ }
+    ensures { λ r. ⌜ (1 ≤ r) × (r ≤ left) × (r ≤ 32) × (taken % 64 + r ≤ 64) ⌝ }
 {
-    if !before {
-        return false;
-    }
-    packed::value(a, variable) == valuation::literal_value(a, image as u32)
+    let room = 64 - taken % 64;
+    let most = min(left, room);
+    min(most, 32)
 }
 
-// Takes one value more; a word that is whole goes into the buffer.
-fn push(out: &mut [u64], w: Writer, value: bool) -> Writer
-    requires { ⌜ Some w (now out) × Room w 1 (now out) ⌝ }
-    ensures { λ r. ⌜ Appends w (value ∷ []) (now (out .entry)) r (now (out .exit)) ⌝ }
+fn min(a: usize, b: usize) -> usize
+    ensures { λ r. ⌜ (r ≤ a) × (r ≤ b) × ((k : ℕ) → k ≤ a → k ≤ b → k ≤ r) ⌝ }
 {
-    let word = w.word * 2 + value as u64;
-    let taken = w.taken + 1;
+    if a < b {
+        return a;
+    }
+    b
+}
+
+// Takes k equal values that the begun word has room for; a word that is whole goes into the buffer.
+fn push(out: &mut [u64], w: Writer, value: bool, k: usize) -> Writer
+    requires { ⌜ Some w (now out) × Room w k (now out) × (1 ≤ k) × (k ≤ 32) × (w .taken % 64 + k ≤ 64) ⌝ }
+    ensures { λ r. ⌜ Appends w (replicate k value) (now (out .entry)) r (now (out .exit)) ⌝ }
+{
+    let word = (w.word << k) + digits(value, k);
+    let taken = w.taken + k;
     if taken % 64 == 0 {
         let i = w.taken / 64;
         out[i] = word;
@@ -110,6 +148,17 @@ fn push(out: &mut [u64], w: Writer, value: bool) -> Writer
         taken: taken,
         word: word,
     }
+}
+
+// The number of k equal binary digits.
+fn digits(value: bool, k: usize) -> u64
+    requires { ⌜ k ≤ 32 ⌝ }
+    ensures { λ r. ⌜ r ≡ cond value (2 ^ k - 1) 0 ⌝ }
+{
+    if value {
+        return (1u64 << k) - 1;
+    }
+    0
 }
 
 // Puts the begun word into the buffer, its spare bits 0, and answers how many words there are.

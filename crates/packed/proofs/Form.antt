@@ -62,7 +62,7 @@ of-form n ws f =
 
 -- ---- the tests of the code
 
-one-shl : (s : ℕ) → s < 64 → (1 * 2 ^ s) % 2 ^ 64 ≡ 2 ^ s
+pub one-shl : (s : ℕ) → s < 64 → (1 * 2 ^ s) % 2 ^ 64 ≡ 2 ^ s
 one-shl s h = shl-exact {a = 1} 1 s 64 (omega arith) (omega arith) ∙ one-mul (2 ^ s)
 
 pub mask-fits : (s : ℕ) → s < 64 → 1 ≤ (1 * 2 ^ s) % 2 ^ 64

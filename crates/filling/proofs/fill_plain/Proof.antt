@@ -35,6 +35,9 @@ push-requires c κs =
     let at = length-bits (l .loop .i) (s .args .a .now) in (
       record { values = bitsOf (l .loop .i) (s .args .a .now); old = s .args .out .now; holds = h },
       record { fits = omega (arith, h .count, h .size, at); few = omega (arith, h .count, at) },
+      omega arith,
+      omega arith,
+      omega arith,
     )
 
 add-i : tie.Need-add-i Inv-loop μ-loop

@@ -1,18 +1,21 @@
--- `filling::push` meets its contract: the begun word takes one digit more, and goes into the buffer when it has 64. Assumes nothing.
+-- `filling::push` meets its contract: the begun word takes k digits more, and goes into the buffer when it has 64. Assumes nothing.
 use native.Mathlib.Omega.{arith}
 use borrow.Author.Needs.{needs}
-use Rattle.filling.proofs.Writing.{some-fits, begun-more, whole-more}
+use Rattle.filling.proofs.Writing.{shifted, longer-fits, begun-more, whole-more}
 use Rattle.filling.proofs.push.Statement.{statement}
 use Rattle.filling.proofs.push.Tie as tie
 
-mul-word : tie.Need-mul-word
-mul-word c = omega (arith, some-fits (c .before .pre .0) (c .before .args .value))
+shl-word : tie.Need-shl-word
+shl-word c = search needs
 
-cast-word : tie.Need-cast-word
-cast-word c = search needs
+digits-requires : tie.Need-digits-requires
+digits-requires c κs = search needs
 
 add-word : tie.Need-add-word
-add-word c = omega (arith, some-fits (c .before .pre .0) (c .before .args .value))
+add-word c =
+    let s = c .before .before .before in
+    let h = s .pre .0 .holds in
+    omega (arith, shifted h (s .args .value) (s .args .k) (s .pre .4), longer-fits h (s .args .value) (s .args .k) (s .pre .4), c .digits .ensures)
 
 add-taken : tie.Need-add-taken
 add-taken c = search needs
@@ -27,17 +30,23 @@ same-length : tie.Need-same-length
 same-length c = search needs
 
 returns : tie.Need-returns
-returns c values old h = whole-more h (c .before .before .before .before .args .value) (omega arith) (omega arith)
+returns c values old h =
+    let d = c .before .before .before in
+    let s = d .before .before .before in
+    whole-more h (s .args .value) (s .args .k) _ (omega (arith, shifted h (s .args .value) (s .args .k) (s .pre .4), d .digits .ensures)) (s .pre .4) (s .pre .2) (omega arith) (omega arith)
 
 returns-2 : tie.Need-returns-2
-returns-2 c values old h = begun-more h (c .before .before .before .args .value) (omega arith)
+returns-2 c values old h =
+    let d = c .before .before in
+    let s = d .before .before .before in
+    begun-more h (s .args .value) (s .args .k) _ (omega (arith, shifted h (s .args .value) (s .args .k) (s .pre .4), d .digits .ensures)) (s .pre .4) (omega arith)
 
 pub push-spec : {M : Type 1} → statement M
 push-spec =
     tie.close
     (tie.spec
-    mul-word
-    cast-word
+    shl-word
+    digits-requires
     add-word
     add-taken
     mul-out

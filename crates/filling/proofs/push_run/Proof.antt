@@ -1,0 +1,75 @@
+-- `filling::push_run` meets its contract. The invariant: the values left to take are `left` of them. Assumes nothing.
+use mathlib.Core.Path.{_≡_, sym, ap, _∙_}
+use mathlib.Core.List.{_++_}
+use Prim.Native.Nat.{ℕ, _+_, _-_}
+use native.Mathlib.Omega.{arith}
+use borrow.Author.Needs.{needs}
+use lib.ListN.{replicate, length-replicate, replicate-append-replicate}
+use Rattle.filling.proofs.Runs.{Run, run-start, run-more, run-end, run-some, run-size, run-room}
+use Rattle.filling.proofs.push_run.Statement.{statement}
+use Rattle.filling.proofs.push_run.Tie as tie
+
+abbrev Inv-loop : tie.InvT-loop
+Inv-loop out₀ value k taken₀ left₀ out taken left = Run taken₀ out₀ (replicate k value) (replicate left value) taken out
+
+abbrev μ-loop : tie.MeasureT-loop
+μ-loop out₀ value k taken₀ left₀ out taken left = left
+
+loop-holds : tie.Need-loop-holds Inv-loop μ-loop
+loop-holds c = let a = c .before .args in run-start (a .w) (a .out .now) (replicate (a .k) (a .value))
+
+at-once-requires : tie.Need-at-once-requires Inv-loop μ-loop
+at-once-requires c κs = search needs
+
+push-requires : tie.Need-push-requires Inv-loop μ-loop
+push-requires c κs =
+    let o = c .before .at-once .ensures in
+    let l = c .before .before .before in
+    let s = l .before .before in
+    let v = s .args .value in (
+      run-some (s .pre .0) (l .loop .inv),
+      run-room (s .pre .0) (l .loop .inv) _ (omega (arith, o .1, length-replicate (l .loop .left) v)) (rw (length-replicate (s .args .k) v) (s .pre .1)),
+      o .0,
+      o .2,
+      o .3,
+    )
+
+sub-left : tie.Need-sub-left Inv-loop μ-loop
+sub-left c = omega (arith, c .before .before .before .before .at-once .ensures .1)
+
+loop-less : tie.Need-loop-less Inv-loop μ-loop
+loop-less c = omega (arith, c .before .before .before .before .at-once .ensures)
+
+loop-again : tie.Need-loop-again Inv-loop μ-loop
+loop-again c =
+    let o = c .before .before .before .before .at-once in
+    let l = c .before .before .before .before .before .before in
+    let v = l .before .before .args .value in
+    let whole : o .result + (l .loop .left - o .result) ≡ l .loop .left = omega (arith, o .ensures .1) in
+    let split : replicate (l .loop .left) v ≡ replicate (o .result) v ++ replicate (l .loop .left - o .result) v =
+    sym (replicate-append-replicate (o .result) (l .loop .left - o .result) v ∙ ap (λ (m : ℕ). replicate m v) whole) in
+    run-more (rw split at (l .loop .inv)) (c .before .before .push .ensures)
+
+same-length : tie.Need-same-length Inv-loop μ-loop
+same-length c = let l = c .before in run-size (l .before .before .pre .0) (l .loop .inv)
+
+returns : tie.Need-returns Inv-loop μ-loop
+returns c =
+    let l = c .before in
+    let none : l .loop .left ≡ 0 = omega arith in
+    run-end (rw none at (l .loop .inv))
+
+pub push-run-spec : {M : Type 1} → statement M
+push-run-spec =
+    tie.close
+    (tie.spec
+    Inv-loop
+    μ-loop
+    loop-holds
+    at-once-requires
+    push-requires
+    sub-left
+    loop-less
+    loop-again
+    same-length
+    returns)

@@ -67,6 +67,11 @@ module _ {w : Writer} {out : List ℕ} {all : List Bool} {v : Writer} {after : L
         omega (arith, ran .count, s .holds .count, length-append (s .values) (r .done), ap length (r .so), length-append (r .done) rest) in
         record { fits = omega (arith, room .fits, run-size); few = omega (arith, room .few) }
 
+-- the last of them
+pub run-last : {w : Writer} {out : List ℕ} {all some : List Bool} {v u : Writer} {after last : List ℕ}
+    → Run w out all some v after → Appends v some after u last → Appends w all out u last
+run-last {some = some} r f = run-end (run-more (rw (append-nil some) r) f)
+
 -- ---- the auxiliaries of a row: a run of true, then one of false
 
 module _ (v : ℕ → Bool) where

@@ -1,6 +1,5 @@
 -- `filling::fill_row` meets its contract: the row's settings are a run of true and one of false. Assumes nothing.
-use mathlib.Core.List.{[], append-nil}
-use mathlib.Core.Bool.{true, false}
+use mathlib.Core.Bool.{false}
 use Prim.Native.Nat.{_-_}
 use native.Mathlib.Omega.{arith}
 use borrow.Author.Needs.{needs}
@@ -8,7 +7,7 @@ use lib.ListN.{length, replicate, length-replicate}
 use Rattle.packed.specs.Words.{bitsOf}
 use Rattle.lexleader.specs.Made.{rowSettings}
 use Rattle.lexleader.proofs.Settings.{length-row}
-use Rattle.filling.proofs.Runs.{Run, run-start, run-more, run-end, run-some, run-room, settings-alike, settings-apart}
+use Rattle.filling.proofs.Runs.{Run, run-start, run-more, run-last, run-some, run-room, settings-alike, settings-apart}
 use Rattle.filling.proofs.fill_row.Statement.{statement}
 use Rattle.filling.proofs.fill_row.Tie as tie
 
@@ -65,11 +64,7 @@ same-length-2 : tie.Need-same-length-2
 same-length-2 c = search needs
 
 returns-2 : tie.Need-returns-2
-returns-2 c =
-    let p = c .before .before .before .before .before .before in
-    let g = p .before .before .before in
-    run-end
-    (run-more (rw (append-nil (replicate (g .before .added-by .result .auxiliaries - g .agreeing .result) false)) (halfway p)) (c .before .before .push-run3 .ensures))
+returns-2 c = run-last (halfway (c .before .before .before .before .before .before)) (c .before .before .push-run3 .ensures)
 
 pub fill-row-spec : {M : Type 1} → statement M
 fill-row-spec =

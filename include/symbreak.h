@@ -20,6 +20,10 @@ extern "C" {
 #define SYMBREAK_MAX_LITERALS 12288
 #define SYMBREAK_MAX_ROWS 64
 
+/* No call has more bytes than this on the stack, from its return address down. Outside the library only memcpy and memset are called; what they have comes
+ * on top. */
+#define SYMBREAK_MAX_STACK 4096
+
 /* Refusals, each with its place: a byte offset from 0 in the text or line where nothing else is said, and 0 where a refusal has no place. */
 enum symbreak_refusal {
     SYMBREAK_NO_REFUSAL = 0,

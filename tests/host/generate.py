@@ -1,4 +1,5 @@
 """Random input for the tests: formulas that are symmetric by construction, texts and lines that are in order or damaged."""
+import itertools
 import re
 
 
@@ -205,6 +206,40 @@ def repaired(chance, clauses, given):
             literal = chance.choice(chance.choice(false))
             changed[abs(literal) - 1] = "01"[literal > 0]
     return "".join(changed)
+
+
+def store(chance, n, clauses, rows, flag):
+    """The numbers and slices of a store that holds these clauses and rows, with entries of any value past those in use, at times as many as a row."""
+    literals = [2 * abs(literal) + (literal < 0) for clause in clauses for literal in clause]
+    ends = list(itertools.accumulate(len(clause) for clause in clauses))
+    images = [2 * image for row in rows for image in row]
+    spare = [[chance.randrange(65536) for _ in range(chance.choice([0, 0, 1, most]))] for most in (3, 3, n)]
+    return (n, len(clauses), len(rows), flag), literals + spare[0], ends + spare[1], images + spare[2]
+
+
+EDGES = [0, 1, 2, 3, 63, 64, 65, 512, 513, 4096, 4097, 2 ** 16, 2 ** 32, 2 ** 55, 2 ** 63, 2 ** 64 - 1]
+
+
+def damaged_store(chance, record, literals, ends, images):
+    """A store that no call left so: counts, the flag, an entry in use or a slice's length changed."""
+    slices = [list(literals), list(ends), list(images)]
+    for _ in range(chance.choice([1, 1, 1, 2])):
+        kind = chance.randrange(6)
+        if kind == 0:
+            for field in chance.sample(["variables", "clauses", "rows"], chance.choice([1, 1, 1, 2, 3])):
+                record = record._replace(**{field: chance.choice([*EDGES, min(getattr(record, field) + 1, EDGES[-1])])})
+        elif kind == 1:
+            record = record._replace(open=chance.choice([0, 0, 0, 1, 2, 2 ** 32, 2 ** 64 - 1]))
+        else:
+            which = chance.randrange(3)
+            part, used = slices[which], [max(slices[1][:record.clauses], default=0), record.clauses, record.rows * record.variables][which]
+            used = min(used, len(part))
+            if kind == 2:
+                del part[max(chance.choice([used - 1, chance.randint(0, used), 0]), 0):]
+            elif used:
+                at = chance.randrange(used)
+                part[at] = chance.choice([0, 1, 65535, part[at] ^ 1, part[at] + 1, part[at] - 1, chance.choice(part), chance.randrange(300)]) % 65536
+    return record, *slices
 
 
 def misfit(chance, n, words):

@@ -1,16 +1,12 @@
 """The exports against the reference: fixed seeds, ordinary and damaged input. Run by tests/run."""
-import os
 import random
-import sys
 import unittest
 
-sys.path.insert(0, os.path.join(os.path.dirname(os.path.abspath(__file__)), "..", "reference"))
 import generate
 import library
 import reference
-
-LIBRARY = library.load()
-TOP = 2 ** 64 - 1
+from agree import LIBRARY, Agree
+from library import TOP
 
 
 def fresh(literals=64, ends=64, images=256, entry=7):
@@ -18,22 +14,8 @@ def fresh(literals=64, ends=64, images=256, entry=7):
     return library.Host(LIBRARY, reference.new_record(), [entry] * literals, [entry] * ends, [entry] * images)
 
 
-class Stores(unittest.TestCase):
+class Stores(Agree):
     """Opening and offers: the answer, the record and every entry of every lent slice."""
-
-    def open(self, host, text):
-        expected = reference.open_formula(host.record, text, list(host.literals), list(host.ends))
-        images = list(host.images)
-        answer = host.open(text)
-        self.assertEqual((answer, *host.parts()), (*expected, images), text)
-        return answer
-
-    def offer(self, host, names, values):
-        before = host.parts()
-        expected, record, images = reference.offer(*before, names, values)
-        answer = host.offer(names, values)
-        self.assertEqual((answer, *host.parts()), (expected, record, before[1], before[2], images), (before, names, values))
-        return answer
 
     def written(self, host, chance, answers):
         """The header and some clauses, into buffers that are long enough or not."""
@@ -42,13 +24,7 @@ class Stores(unittest.TestCase):
         lines = text.split(b"\n")
         for q in [None, 0, 1, len(lines) - 2, len(lines) - 1, chance.randrange(len(lines) + 1), TOP]:
             out = bytes(chance.randrange(256) for _ in range(chance.choice([64, 64, chance.randrange(24)])))
-            if q is None:
-                answer, expected = host.header(out), reference.header(*before, out)
-            else:
-                answer, expected = host.clause(q, out), reference.clause(*before, q, out)
-            self.assertEqual(answer, expected, (before, q, out))
-            self.assertEqual(host.parts(), before)
-            self.count(answers, answer[0])
+            self.count(answers, self.header(host, out) if q is None else self.clause(host, q, out))
 
     def test_new_record(self):
         record = LIBRARY.symbreak_new_record()
@@ -115,7 +91,7 @@ class Stores(unittest.TestCase):
                 if chance.random() < 0.2:
                     values = generate.damaged(chance, values)
                 if chance.random() < 0.2:
-                    self.damage(chance, host)
+                    host.put(*generate.damaged_store(chance, *host.parts()))
                 self.count(answers, self.offer(host, names, values))
             self.written(host, chance, lines)
         for refusal in [None, 1, 2, 3, 4, 6, 7, 8, 9, 10, 11, 20, 21, 23]:
@@ -127,34 +103,15 @@ class Stores(unittest.TestCase):
         number = answer[1] if answer[0] == "refused" else None
         answers[number] = answers.get(number, 0) + 1
 
-    def damage(self, chance, host):
-        """A store that no call left so: counts, an end, a literal or an image changed."""
-        edges = [0, 1, 2, 3, 64, 65, 512, 513, 4096, 4097, 2 ** 32, TOP]
-        kind = chance.randrange(5)
-        if kind == 0:
-            field = chance.choice(["variables", "clauses", "rows"])
-            host.record = host.record._replace(**{field: chance.choice(edges)})
-        elif kind == 1:
-            host.record = host.record._replace(open=chance.random() < 0.5)
-        else:
-            part = (host.literals, host.ends, host.images)[kind - 2]
-            if len(part):
-                part[chance.randrange(min(len(part), 12))] = chance.choice([0, 1, 2, 3, 5, 12, 65535, chance.randrange(30)])
 
-
-class Compare(unittest.TestCase):
-    def agree(self, a, b):
-        answer = library.said(LIBRARY.symbreak_compare(*library.words(a), *library.words(b)))
-        self.assertEqual(answer, reference.compare(a, b), (a, b))
-        return answer
-
+class Compare(Agree):
     def test_edges(self):
-        self.assertEqual(self.agree([], []), ("done", 0))
-        self.assertEqual(self.agree([1], []), ("refused", 12, 0))
-        self.assertEqual(self.agree([0] * 519, [0] * 518 + [1]), ("done", 33216))
-        self.assertEqual(self.agree([0] * 520, [0] * 520), ("refused", 12, 0))
+        self.assertEqual(self.compare([], []), ("done", 0))
+        self.assertEqual(self.compare([1], []), ("refused", 12, 0))
+        self.assertEqual(self.compare([0] * 519, [0] * 518 + [1]), ("done", 33216))
+        self.assertEqual(self.compare([0] * 520, [0] * 520), ("refused", 12, 0))
         for bit in range(64):
-            self.assertEqual(self.agree([TOP], [TOP ^ (1 << bit)]), ("done", 64 - bit))
+            self.assertEqual(self.compare([TOP], [TOP ^ (1 << bit)]), ("done", 64 - bit))
 
     def test_random(self):
         chance = random.Random(1)
@@ -171,7 +128,7 @@ class Compare(unittest.TestCase):
                     b.append(chance.getrandbits(64))
                 elif b:
                     b.pop()
-            self.agree(a, b)
+            self.compare(a, b)
 
 
 class Efficiency(unittest.TestCase):

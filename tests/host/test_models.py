@@ -1,21 +1,16 @@
 """Filling in, checking and descent against the reference, and demand 3 by brute force: fixed seeds. Run by tests/run."""
-import ctypes
 import functools
 import itertools
 import operator
-import os
 import random
-import sys
 import unittest
 from collections import Counter
 
-sys.path.insert(0, os.path.join(os.path.dirname(os.path.abspath(__file__)), "..", "reference"))
 import generate
 import library
 import reference
-
-LIBRARY = library.load()
-TOP = 2 ** 64 - 1
+from agree import LIBRARY, Agree
+from library import TOP
 
 
 def packed(digits):
@@ -42,29 +37,7 @@ def refusal(answer):
     return answer[1] if answer[0] == "refused" else None
 
 
-class Calls(unittest.TestCase):
-    """The three calls: the answer, as the reference has it, and every entry of every lent slice."""
-
-    def fill_in(self, host, a, out):
-        before = host.parts()
-        answer, written = host.fill_in(a, out)
-        self.assertEqual(((answer, written), host.parts()), (reference.fill_in(*before, a, out), before), (a, out))
-        return answer, written
-
-    def check(self, host, a):
-        before = host.parts()
-        answer = host.check(a)
-        self.assertEqual((answer, host.parts()), (reference.check(*before, a), before), a)
-        return answer
-
-    def descend(self, host, a, limit):
-        before = host.parts()
-        answer, reached = host.descend(a, limit)
-        self.assertEqual(((answer, reached), host.parts()), (reference.descend(*before, a, limit), before), (a, limit))
-        return answer, reached
-
-
-class Worked(Calls):
+class Worked(Agree):
     """Cases of document 01, and edges, worked out by hand."""
 
     def test_listing(self):
@@ -137,7 +110,7 @@ BADLY_FORMED = [
 ]
 
 
-class Refusals(Calls):
+class Refusals(Agree):
     def refused(self, host, number, a=(2 ** 63,), out=(1, 2)):
         """All three calls refuse with this number and place 0, and change nothing."""
         for limit in [0, TOP]:
@@ -229,24 +202,6 @@ def offer_all(chance, host, n, rows, last=TOP):
     return accepted, refused
 
 
-def damage(chance, host):
-    """A store that no call left so: a count, the flag, a slice's length or an entry changed."""
-    counts = host.record._asdict()
-    kind = chance.randrange(4)
-    if kind == 0:
-        field = chance.choice(["variables", "clauses", "rows"])
-        host.record = host.record._replace(**{field: chance.choice([0, 1, 64, 65, 512, 513, 4096, 4097, 2 ** 32, TOP, counts[field] + 1])})
-    elif kind == 1:
-        host.record = host.record._replace(open=chance.random() < 0.3)
-    else:
-        held = {"literals": 2 * counts["clauses"], "ends": counts["clauses"], "images": counts["rows"] * counts["variables"]}
-        name, used = chance.choice(list(held.items()))
-        part = list(getattr(host, name))
-        at = chance.randrange(min(used, len(part)) + 1)
-        part[at:] = [chance.choice([0, 1, 2, 3, 5, 12, 65535, chance.randrange(300)]), *part[at + 1:]] if kind == 2 else []
-        setattr(host, name, library.lend(ctypes.c_uint16, part))
-
-
 def flipped(a, i):
     """An assignment with the value of variable i changed."""
     return [word ^ (1 << 63 - (i - 1) % 64 if at == (i - 1) // 64 else 0) for at, word in enumerate(a)]
@@ -257,13 +212,13 @@ def at_times_misfit(chance, n, a):
     return generate.misfit(chance, n, a) if chance.random() < 0.08 else a
 
 
-class Random(Calls):
+class Random(Agree):
     """Formulas with symmetries, lists of offers, stores damaged at times; assignments that are models or not, at times of the wrong form."""
 
     def descents(self, chance, host, n, a, seen):
         """Descends from an assignment with several limits; what was reached."""
         reached = []
-        for limit in [0, 1, 2, chance.randint(3, 9), TOP]:
+        for limit in [0, 1, 2, 3, chance.randint(4, 9), TOP]:
             answer, left = self.descend(host, at_times_misfit(chance, n, a), limit)
             reached.append(left)
             seen["descend", refusal(answer) or (answer[1], min(answer[2], 3))] += 1
@@ -307,7 +262,7 @@ class Random(Calls):
             host, last = self.offered(chance, n, clauses, rows + [generate.permutation(chance, n)] * (clauses != []), seen)
             for _ in range(2):
                 if chance.random() < 0.15:
-                    damage(chance, host)
+                    host.put(*generate.damaged_store(chance, *host.parts()))
                 a = packed(generate.repaired(chance, clauses, generate.digits(chance, n)))
                 reached = self.descents(chance, host, n, a, seen)
                 filled = self.fillings(chance, host, n, last, [packed(generate.digits(chance, n)), a, reached[-1]], seen)

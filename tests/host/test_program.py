@@ -1,18 +1,18 @@
-"""The program against the reference and against lines worked out by hand from document 01: fixed seeds. Run by tests/run."""
+"""The program against the reference and against lines worked out by hand from document 01: fixed seeds. Run by tests/run. A number on the command line is how
+many random inputs are tried: `python3 tests/host/test_program.py 100000`. Input i is the same whatever that number is."""
 import os
 import random
 import subprocess
-import sys
 import time
 import unittest
 from collections import Counter
 
-sys.path.insert(0, os.path.join(os.path.dirname(os.path.abspath(__file__)), "..", "reference"))
 import generate
 import library
 import reference
 
 BREAKER = os.environ.get("BREAKER", os.path.join(library.ROOT, "target", "bin", "breaker"))
+INPUTS = library.rounds(1500)
 
 LISTING = b"""p cnf 3 2
 1 2 0
@@ -214,17 +214,18 @@ class Program(unittest.TestCase):
         self.prints(identities + b"1", b"refused 22 0\n")
 
     def test_random(self):
-        chance = random.Random(5)
         refused, accepted = Counter(), Counter()
-        for _ in range(750):
-            n = chance.choice([0, 1, 2, 2, 3, 3, 4, 4, 5, 5, 6, 7, 8, 9])
-            data = generate.program_input(chance, n, 40)
-            for each in [data, generate.damaged_input(chance, data)]:
-                printed = self.agree(each)
+        for number in range(INPUTS):
+            chance = random.Random(number)
+            data = generate.program_input(chance, chance.choice([0, 1, 2, 2, 3, 3, 4, 4, 5, 5, 6, 7, 8, 9]), 40)
+            if number % 2:
+                data = generate.damaged_input(chance, data)
+            with self.subTest(input=number):
+                printed = self.agree(data)
                 if printed.startswith(b"refused"):
                     refused[int(printed.split()[1])] += 1
                 else:
-                    accepted[generate.moving_rows(each)] += 1
+                    accepted[generate.moving_rows(data)] += 1
         for number in [1, 2, 3, 4, 6, 7, 8, 9, 10, 11, 15]:
             self.assertGreater(refused[number], 5, number)
         self.assertGreater(sum(times for rows, times in accepted.items() if rows >= 1), 200)

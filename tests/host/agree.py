@@ -1,0 +1,63 @@
+"""Each export beside the reference: the same answer, and the same in every entry of all that was lent."""
+import unittest
+
+import library
+import reference
+
+LIBRARY = library.load()
+
+
+def told(record):
+    """A record as an export answers it: open is 1."""
+    return record._replace(open=bool(record.open))
+
+
+class Agree(unittest.TestCase):
+    def open(self, host, text):
+        record, literals, ends, images = before = host.parts()
+        expected, record, literals, ends = reference.open_formula(record, text, literals, ends)
+        answer = host.open(text)
+        self.assertEqual((answer, *host.parts()), (expected, told(record), literals, ends, images), (before, text))
+        return answer
+
+    def offer(self, host, names, values):
+        before = host.parts()
+        expected, record, images = reference.offer(*before, names, values)
+        answer = host.offer(names, values)
+        self.assertEqual((answer, *host.parts()), (expected, told(record), before[1], before[2], images), (before, names, values))
+        return answer
+
+    def header(self, host, out):
+        before = host.parts()
+        answer, written = host.header(out)
+        self.assertEqual(((answer, written), host.parts()), (reference.header(*before, out), before), (before, out))
+        return answer
+
+    def clause(self, host, q, out):
+        before = host.parts()
+        answer, written = host.clause(q, out)
+        self.assertEqual(((answer, written), host.parts()), (reference.clause(*before, q, out), before), (before, q, out))
+        return answer
+
+    def fill_in(self, host, a, out):
+        before = host.parts()
+        answer, written = host.fill_in(a, out)
+        self.assertEqual(((answer, written), host.parts()), (reference.fill_in(*before, a, out), before), (before, a, out))
+        return answer, written
+
+    def check(self, host, a):
+        before = host.parts()
+        answer = host.check(a)
+        self.assertEqual((answer, host.parts()), (reference.check(*before, a), before), (before, a))
+        return answer
+
+    def descend(self, host, a, limit):
+        before = host.parts()
+        answer, reached = host.descend(a, limit)
+        self.assertEqual(((answer, reached), host.parts()), (reference.descend(*before, a, limit), before), (before, a, limit))
+        return answer, reached
+
+    def compare(self, a, b):
+        answer = library.compare(LIBRARY, a, b)
+        self.assertEqual(answer, reference.compare(a, b), (a, b))
+        return answer

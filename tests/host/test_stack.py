@@ -1,0 +1,71 @@
+"""What the archive asks of a host beside its slices: stack, at most SYMBREAK_MAX_STACK bytes, and memcpy and memset. The stack is added up from the frames in
+the machine code, and measured with each export at the limits (stack.c). Run by tests/run; -v prints the figures."""
+import os
+import re
+import subprocess
+import sys
+import tempfile
+import unittest
+
+import library
+
+HERE = os.path.dirname(os.path.abspath(__file__))
+INCLUDE = os.path.join(library.ROOT, "include")
+OUTSIDE = {"memcpy", "memset"}
+
+
+def output(*command):
+    return subprocess.run(command, check=True, capture_output=True, text=True).stdout
+
+
+def functions():
+    """The bytes that each function has on the stack, with its return address, and the functions that it calls. A way to take stack or to call that can't be
+    added up so, as a call by pointer, is an error; jumps by table stay in their function."""
+    found = {}
+    _, *parts = re.split(r"^[0-9a-f]+ <(.+)>:$", output("objdump", "-dr", "--no-show-raw-insn", library.archive()), flags=re.M)
+    for name, code in zip(parts[::2], parts[1::2]):
+        assert all(re.match(r"(sub|add) +\$0x", each) for each in re.findall(r"\t(.*),%rsp$", code, re.M)), name
+        taken = re.findall(r"\tsub +\$(0x[0-9a-f]+),%rsp", code) + ["8"] * len(re.findall(r"\tpush ", code))
+        below = re.findall(r"-(0x[0-9a-f]+)\(%rsp[,)]", code)
+        calls = re.findall(r"\t(call|j\w+) +.*\n(?:.*R_X86_64_PLT32\t(?:\.text\.)?(\S+)-0x4)?", code)
+        assert ("call", "") not in calls, name
+        found[name] = 8 + sum(int(size, 0) for size in taken) + max((int(size, 0) for size in below), default=0), {called for _, called in calls if called}
+    return found
+
+
+def depth(found, name, above=()):
+    """The most that a function and those that it calls have on the stack at a time; of those outside it is the return address alone."""
+    assert name not in above, "recursion"
+    size, called = found.get(name) or {outside: (8, []) for outside in OUTSIDE}[name]
+    return size + max((depth(found, each, (*above, name)) for each in called), default=0)
+
+
+def measured():
+    """What each export was seen to use."""
+    with tempfile.TemporaryDirectory() as folder:
+        program = os.path.join(folder, "stack")
+        subprocess.run(["gcc", "-std=gnu11", "-O2", "-Wall", "-Wextra", "-Werror", "-maccumulate-outgoing-args", "-Wl,-z,now", "-I" + INCLUDE, "-o", program,
+                        os.path.join(HERE, "stack.c"), library.archive()], check=True)
+        return {name: int(size) for name, size in map(str.split, output(program).splitlines())}
+
+
+class Stack(unittest.TestCase):
+    def test_stack(self):
+        with open(os.path.join(INCLUDE, "symbreak.h")) as header:
+            most = int(re.search(r"#define SYMBREAK_MAX_STACK (\d+)", header.read())[1])
+        found, seen = functions(), measured()
+        self.assertEqual(set(seen), set(library.EXPORTS))
+        for name in library.EXPORTS:
+            added = depth(found, name)
+            if "-v" in sys.argv:
+                print(f"{name:22}{added:6} bytes added up, {seen[name]} measured")
+            self.assertLessEqual(seen[name], added, name)
+            self.assertLessEqual(added, most, name)
+
+    def test_outside(self):
+        """Nothing else is called: no allocation, no input or output, no failure."""
+        self.assertEqual(set(re.findall(r"\bU (\S+)", output("nm", "-u", library.archive()))), OUTSIDE)
+
+
+if __name__ == "__main__":
+    unittest.main()

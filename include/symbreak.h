@@ -1,8 +1,9 @@
-/* symbreak: lex-leader symmetry breaking for propositional formulas, proved correct.
+/* symbreak: lex-leader symmetry breaking for propositional formulas, proved correct. For C and C++; link libsymbreak.a.
  *
  * Every call takes any numbers and any slices. It answers, or refuses with a number and a place; a refusal changes nothing that was lent.
- * A slice is a pointer and a length in elements; a slice of length 0 may have any pointer. Lent slices must not overlap a slice that is written.
- * There is no state between calls, so calls on different stores may run on different threads.
+ * A slice is a pointer and a length in elements; a slice of length 0 may have any pointer. A slice that a call writes must not overlap another that it is lent.
+ * A const slice is only read; of one that is written, nothing changes but what the call says.
+ * There is no state between calls, no allocation, no input or output: any calls may run at once, on any threads, that write no slice of one another.
  */
 #ifndef SYMBREAK_H
 #define SYMBREAK_H
@@ -20,31 +21,32 @@ extern "C" {
 #define SYMBREAK_MAX_LITERALS 12288
 #define SYMBREAK_MAX_ROWS 64
 
-/* No call has more bytes than this on the stack, from its return address down. Outside the library only memcpy and memset are called; what they have comes
- * on top. */
+/* No call has more bytes than this on the stack, from its return address down, with what it keeps below the stack pointer (the red zone). Outside the library
+ * only memcpy and memset are called; what they have comes on top. On x86-64 the registers of SSE2 are used. */
 #define SYMBREAK_MAX_STACK 4096
 
-/* Refusals, each with its place: a byte offset from 0 in the text or line where nothing else is said, and 0 where a refusal has no place. */
+/* Refusals, each with its place. Those of a text or a line have the offset in bytes, from 0, of the word that offends, unless the comment says which
+ * other place; 11 and 23 have a number, as said there; the place of 12, 13, 14, 20, 21 and 22 is always 0. */
 enum symbreak_refusal {
     SYMBREAK_NO_REFUSAL = 0,
-    SYMBREAK_NO_PROBLEM_LINE = 1,   /* text: no problem line `p cnf n m`; the first line that is no comment, or the text's length */
-    SYMBREAK_SIZE_OVER_LIMIT = 2,   /* text: n or m over its limit; the problem line */
+    SYMBREAK_NO_PROBLEM_LINE = 1,   /* text: no problem line `p cnf n m` (place: the first line that is no comment, or the text's length) */
+    SYMBREAK_SIZE_OVER_LIMIT = 2,   /* text: n or m over its limit (place: the problem line) */
     SYMBREAK_NOT_NUMBER = 3,        /* text: a word that is no number */
     SYMBREAK_LITERAL_BEYOND = 4,    /* text: a literal beyond n */
     SYMBREAK_TOO_MANY_LITERALS = 5, /* text: literal 12,289 */
-    SYMBREAK_CLAUSE_COUNT = 6,      /* text: a word after m clauses are closed, or the end before that (place: length) */
+    SYMBREAK_CLAUSE_COUNT = 6,      /* text: a word after m clauses are closed, or the end before that (place: the text's length) */
     SYMBREAK_NAME_NOT_NUMBER = 7,   /* names line: a word that is no number */
-    SYMBREAK_BAD_NAME = 8,          /* names line: a name outside 1..n or repeated, or no name (place: length) */
+    SYMBREAK_BAD_NAME = 8,          /* names line: a name outside 1..n or repeated, or no name (place: the line's length) */
     SYMBREAK_VALUE_NOT_NUMBER = 9,  /* value line: a word that is no number */
-    SYMBREAK_BAD_VALUE = 10,        /* value line: a value that is no name or repeated, or too few (place: length) */
-    SYMBREAK_NO_SYMMETRY = 11,      /* no symmetry; the number, from 1, of the first clause whose image is missing */
+    SYMBREAK_BAD_VALUE = 10,        /* value line: a value that is no name or repeated, or too few (place: the line's length) */
+    SYMBREAK_NO_SYMMETRY = 11,      /* no symmetry (place: the number, from 1, of the first clause whose image is missing) */
     SYMBREAK_BAD_ASSIGNMENT = 12,   /* an assignment of the wrong length or with a spare bit set; in a comparison, unequal lengths or more than 519 words */
     SYMBREAK_NO_SUCH_CLAUSE = 13,   /* clause number 0 or above M */
     SYMBREAK_NO_FIGURE = 14,        /* not unlabelled <= allowed <= labelled, labelled = unlabelled, or labelled over 10^12 */
     SYMBREAK_NOT_OPEN = 20,         /* the store is not open */
     SYMBREAK_BADLY_FORMED = 21,     /* the store is badly formed */
     SYMBREAK_ROWS_FULL = 22,        /* an offer with 64 rows held */
-    SYMBREAK_TOO_SHORT = 23         /* a slice too short; the length needed */
+    SYMBREAK_TOO_SHORT = 23         /* a slice that is to be written is too short (place: the length needed, in elements) */
 };
 
 /* The record of a store: is_open is 0 for closed, and anything else for open. */
@@ -55,8 +57,8 @@ typedef struct {
     uint64_t is_open;
 } symbreak_record;
 
-/* What a call that may change the store answers: refusal 0, or the number of a refusal and its place; and the record to lend at the next call, which
- * a refusal leaves as it was. */
+/* What a call that may change the store answers: refusal 0, or the number of a refusal and its place; and the record to lend at the next call. From a
+ * refusal that is the record lent, with 1 for any is_open but 0. */
 typedef struct {
     uint32_t refusal;
     uint64_t place;
@@ -90,22 +92,28 @@ symbreak_record symbreak_new_record(void);
  *   images    one row of n codes for each accepted permutation, the image of variable i at index i - 1; SYMBREAK_MAX_ROWS * n entries are always enough
  * Entries past those in use are never looked at and never changed. */
 
-/* Opens a formula, DIMACS CNF text as document 01 narrows it: it replaces what the store held and drops its rows. The record lent is not looked at.
- * A carriage return is no blank: it belongs to a word, so that lines that end in one are refused.
- * Refusals 1 to 6; then 23 for literals, then 23 for ends. */
+/* Opens a formula: it replaces what the store held and drops its rows. The record lent is handed back at a refusal and not looked at otherwise.
+ * The text is DIMACS CNF: lines that start with `c`, then the line `p cnf n m`, then m clauses, each a list of literals closed by 0. Words are separated by
+ * spaces, tabs and line feeds; a number is an optional `-` and one to six digits without leading zeros. A carriage return is no blank: it belongs to a
+ * word, so that lines that end in one are refused. Clauses may be empty, repeated, or hold a literal twice or with its negation.
+ * Refusals 1 to 6, the first fault from the left; then 23 for literals, then 23 for ends. */
 symbreak_stored symbreak_open(uint64_t variables, uint64_t clauses, uint64_t rows, uint64_t is_open, const uint8_t *text, size_t text_len,
                               uint16_t *literals, size_t literals_len, uint16_t *ends, size_t ends_len);
 
-/* Offers a permutation: a line of names and a line of values in that order, without line feeds. A symmetry of the formula is held as one row more.
+/* Offers a permutation: a line of names and a line of values in that order, without line feeds; variables that are not named stay. It is held, as one row
+ * more, exactly when it takes the formula's set of clauses to itself. images must have room for (rows + 1) * n entries.
  * Refusals 20, 21, 22, 7, 8, 9, 10, 11, 23, in this order. */
 symbreak_stored symbreak_offer(uint64_t variables, uint64_t clauses, uint64_t rows, uint64_t is_open, const uint16_t *literals, size_t literals_len,
                                const uint16_t *ends, size_t ends_len, uint16_t *images, size_t images_len, const uint8_t *names, size_t names_len,
                                const uint8_t *values, size_t values_len);
 
 /* The made formula: the plain clauses, then those of each row. Header and clauses are written one line at a time, each with its line feed; the value is
- * the line's length in bytes, and bytes past it stay. A header has at most 19 bytes; a line of L literals has at most 7 * L + 2. N and M are the two numbers
- * of the header. Each call looks over the whole store first, so its time grows with the rows held.
- * Refusals 20, 21, 23. */
+ * the line's length in bytes, and bytes past it stay. N and M are the two numbers of the header. A line of L literals has at most 7 * L + 2 bytes, and a
+ * buffer of SYMBREAK_MAX_LINE bytes always has room. Each call looks over the whole store first, so its time grows with the rows held. */
+#define SYMBREAK_MAX_HEADER 19
+#define SYMBREAK_MAX_LINE (7 * SYMBREAK_MAX_LITERALS + 2)
+
+/* The header, `p cnf N M`. Refusals 20, 21, 23. */
 symbreak_answer symbreak_header(uint64_t variables, uint64_t clauses, uint64_t rows, uint64_t is_open, const uint16_t *literals, size_t literals_len,
                                 const uint16_t *ends, size_t ends_len, const uint16_t *images, size_t images_len, uint8_t *out, size_t out_len);
 
@@ -119,8 +127,8 @@ symbreak_answer symbreak_clause(uint64_t variables, uint64_t clauses, uint64_t r
  * formula's model, take its first (n + 63) / 64 words and set the spare bits of the last one to 0, since auxiliaries may stand there. */
 #define SYMBREAK_MAX_WORDS 519
 
-/* Writes the assignment of 1..N that an assignment a of 1..n fills in as: a itself, and each auxiliary true exactly where a agrees with a moved so far. The value
- * is the count of words written; words past them stay. Refusals 20, 21, 12, 23. */
+/* Writes the assignment of 1..N that an assignment a of 1..n fills in as: a itself, and each auxiliary true exactly where a agrees with a moved so far. The
+ * value is the count of words written; words past them stay. Refusals 20, 21, 12, 23. */
 symbreak_answer symbreak_fill_in(uint64_t variables, uint64_t clauses, uint64_t rows, uint64_t is_open, const uint16_t *literals, size_t literals_len,
                                  const uint16_t *ends, size_t ends_len, const uint16_t *images, size_t images_len, const uint64_t *a, size_t a_len,
                                  uint64_t *out, size_t out_len);
@@ -137,7 +145,8 @@ symbreak_descent symbreak_descend(uint64_t variables, uint64_t clauses, uint64_t
                                   const uint16_t *ends, size_t ends_len, const uint16_t *images, size_t images_len, uint64_t *a, size_t a_len,
                                   uint64_t limit);
 
-/* Compares two assignments. The value is the variable at which a and b first differ, or 0 where they are equal; words of any value. Refusal 12. */
+/* Compares two assignments of one length, of at most SYMBREAK_MAX_WORDS words of any value. The value is the variable at which a and b first differ, or 0
+ * where they are equal. Refusal 12. */
 symbreak_answer symbreak_compare(const uint64_t *a, size_t a_len, const uint64_t *b, size_t b_len);
 
 /* The value is 10,000 * (labelled - allowed) / (labelled - unlabelled), cut off downwards: hundredths of a percent. Refusal 14. */

@@ -1,5 +1,5 @@
 /* Calls each export at the limits on a stack that was painted before, and prints a line for each: its name, and how many bytes below its caller's stack
- * pointer are no longer painted. Compiled and run by test_stack.py. */
+ * pointer are no longer painted. Compiled and run by test_archive.py. */
 #include <assert.h>
 #include <stdint.h>
 #include <stdio.h>

@@ -78,7 +78,8 @@ class Stores(Agree):
             n = chance.choice([0, 1, 2, 3, 4, 5, 6, 9])
             clauses, rows = generate.formula(chance, n, 12)
             text = generate.text(chance, n, clauses)
-            host = fresh(chance.choice([64, 64, 64, chance.randrange(40)]), chance.choice([64, 64, chance.randrange(14)]), chance.choice([256, 256, chance.randrange(40)]))
+            sizes = [64, 64, 64, chance.randrange(40)], [64, 64, chance.randrange(14)], [256, 256, chance.randrange(40)]
+            host = fresh(*map(chance.choice, sizes))
             if chance.random() < 0.3:
                 text = generate.damaged(chance, text)
             self.count(answers, self.open(host, text))

@@ -1,5 +1,5 @@
-"""What the archive asks of a host beside its slices: stack, at most SYMBREAK_MAX_STACK bytes, and memcpy and memset. The stack is added up from the frames in
-the machine code, and measured with each export at the limits (stack.c). Run by tests/run; -v prints the figures."""
+"""What the archive asks of a host beside its slices: a C or C++ compiler for its header, stack, at most SYMBREAK_MAX_STACK bytes, and memcpy and memset. The
+stack is added up from the frames in the machine code, and measured with each export at the limits (stack.c). Run by tests/run; -v prints the figures."""
 import os
 import re
 import subprocess
@@ -47,6 +47,19 @@ def measured():
         subprocess.run(["gcc", "-std=gnu11", "-O2", "-Wall", "-Wextra", "-Werror", "-maccumulate-outgoing-args", "-Wl,-z,now", "-I" + INCLUDE, "-o", program,
                         os.path.join(HERE, "stack.c"), library.archive()], check=True)
         return {name: int(size) for name, size in map(str.split, output(program).splitlines())}
+
+
+class Header(unittest.TestCase):
+    def test_languages(self):
+        """The header is C99 and C++98, and what it declares links."""
+        with tempfile.TemporaryDirectory() as folder:
+            for compiler, standard, suffix in [("gcc", "c99", "c"), ("g++", "c++98", "cc")]:
+                source, program = os.path.join(folder, "host." + suffix), os.path.join(folder, "host-" + suffix)
+                with open(source, "w") as file:
+                    file.write('#include "symbreak.h"\nint main() { return (int)symbreak_new_record().is_open; }\n')
+                warnings = ["-Wall", "-Wextra", "-Werror"] + (["-pedantic"] if suffix == "c" else [])
+                subprocess.run([compiler, "-std=" + standard, *warnings, "-I" + INCLUDE, "-o", program, source, library.archive()], check=True)
+                subprocess.run([program], check=True)
 
 
 class Stack(unittest.TestCase):

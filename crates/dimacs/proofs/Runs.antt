@@ -2,12 +2,13 @@
 use mathlib.Core.Path.{_≡_, refl, sym, ap, _∙_}
 use mathlib.Core.Bool.{Bool, true, false, cond, not}
 use mathlib.Core.List.{List, [], _∷_}
-use Prim.Native.Nat.{ℕ, suc, _+_, _-_, _≤_, _<_}
+use Prim.Native.Nat.{ℕ, zero, suc, _+_, _-_, _≤_, _<_}
 use native.Mathlib.Nat.{add-zero, add-sub-cancel-left}
 use native.Mathlib.Numerals.{add-one}
 use native.Mathlib.Omega.{arith}
 use lib.ListN.{length, take, drop, getD, length-drop, drop-of-length-le}
 use lib.Seq.{drop-cons, getD-drop}
+use Rattle.lists.specs.Tests.{allOf}
 use Rattle.dimacs.specs.Words.{run, runEnd}
 
 -- a loop at place i: the run ends here, at the end of the text, or goes on
@@ -54,6 +55,25 @@ module _ (test : ℕ → Bool) where
       by true e k ih = ih (omega arith)
       by false e k ih = e
 
+  pub run-all : (s : List ℕ) → allOf test (run test s) ≡ true
+  unfolding run allOf
+  run-all [] = refl
+  run-all (b ∷ r) = by (test b) refl (run-all r)
+    where
+      by : (t : Bool) → test b ≡ t → allOf test (run test r) ≡ true → allOf test (cond t (b ∷ run test r) []) ≡ true
+      by true e ih = rw (e, ih)
+      by false e ih = refl
+
+  -- a run that is not empty starts with the first byte
+  pub run-first : (s : List ℕ) → 0 < length (run test s) → getD (run test s) 0 0 ≡ getD s 0 0
+  unfolding run
+  run-first [] h = refl
+  run-first (b ∷ r) h = by (test b) h
+    where
+      by : (t : Bool) → 0 < length (cond t (b ∷ run test r) []) → getD (cond t (b ∷ run test r) []) 0 0 ≡ b
+      by true k = refl
+      by false k = absurd (omega arith)
+
   -- a run that starts with a byte that passes is not empty
   pub run-some : (s : List ℕ) → 0 < length s → test (getD s 0 0) ≡ true → 0 < length (run test s)
   unfolding run
@@ -77,6 +97,12 @@ module _ (test : ℕ → Bool) where
     run-forward h e =
         let here : getD (drop at text) 0 0 ≡ getD text at 0 = getD-drop at text 0 0 ∙ ap (λ (n : ℕ). getD text n 0) (add-zero at) in
         omega (arith, run-some (drop at text) (omega (arith, length-drop at text)) (ap test here ∙ e))
+
+-- a byte that is there is read alike whatever would stand for one that is not
+pub there : (s : List ℕ) (i d e : ℕ) → i < length s → getD s i d ≡ getD s i e
+there [] i d e h = absurd (omega arith)
+there (b ∷ r) zero d e h = refl
+there (b ∷ r) (suc i) d e h = there r i d e (omega arith)
 
 -- a test and its opposite
 pub opposite-true : (b : Bool) → b ≡ false → not b ≡ true

@@ -1,19 +1,19 @@
 -- The words of a text: what `next_word` and `read` say of them. Assumes nothing.
-use mathlib.Core.Path.{_≡_, refl, sym, ap, _∙_}
-use mathlib.Core.Bool.{Bool, true, false, cond, not, _&&_}
+use mathlib.Core.Path.{_≡_, refl, ap, _∙_}
+use mathlib.Core.Bool.{Bool, true, false}
 use mathlib.Core.List.{List, [], _∷_}
-use Prim.Native.Nat.{ℕ, suc, _+_, _-_, _≤_, _<_}
+use Prim.Native.Nat.{ℕ, suc, _+_, _≤_, _<_}
 use native.Mathlib.Nat.{add-zero}
 use native.Mathlib.Omega.{arith}
-use lib.ListN.{length, take, drop, getD, drop-of-length-le}
+use lib.ListN.{length, drop, getD, drop-of-length-le}
 use lib.Seq.{drop-cons, drop-drop}
-use Rattle.dimacs.specs.Words.{isBlank, isWordByte, run, runEnd, Piece, pushIf, wordsFrom, wordsAt}
+use Rattle.dimacs.specs.Words.{isBlank, isWordByte, run, runEnd, Piece, wordsFrom, wordsAt}
 use Rattle.dimacs.specs.Numbers.{numberOf, wordAt, readingIf, readingAt}
 use Rattle.dimacs.specs.declared.Number.{Number}
 use Rattle.dimacs.specs.declared.Cursor.{Cursor}
 use Rattle.dimacs.specs.declared.Numeral.{Numeral}
 use Rattle.dimacs.specs.declared.Reading.{Reading}
-use Rattle.dimacs.proofs.Runs.{run-part, run-past, run-within, run-forward, opposite-true}
+use Rattle.dimacs.proofs.Runs.{run-past, run-forward, opposite-true}
 
 -- ---- blanks before the first word, and the rest of a word, are passed
 
@@ -105,7 +105,3 @@ module _ (text : List ℕ) (at : ℕ) where
   pub read-past : length text ≤ at → readingAt text at ≡ Reading.Refused at
   unfolding readingAt numberOf run
   read-past h = rw (drop-of-length-le text h)
-
-  pub read-is : (end : ℕ) (p : Numeral) → end ≡ runEnd isWordByte text at → p ≡ numberOf (take (end - at) (drop at text)) → readingAt text at ≡ readingIf p at end
-  unfolding readingAt
-  read-is end p e q = rw (q, e, run-part isWordByte text at)

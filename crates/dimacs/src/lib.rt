@@ -2,11 +2,12 @@
 // with `let .. else`: a number with the cursor past it, or the place where no number is. What carries the proofs: a text is the list of its
 // words with their places (specs/Words.antt), and each function here finds the head of such a list.
 ghost use mathlib.Core.Path.{_≡_};
-ghost use Prim.Native.Nat.{_≤_};
-ghost use lib.ListN.{length};
-ghost use Rattle.dimacs.specs.Words.{isBlank, isWordByte, runEnd};
+ghost use mathlib.Core.Bool.{cond};
+ghost use Prim.Native.Nat.{min, _≤_};
+ghost use lib.ListN.{length, getD};
+ghost use Rattle.dimacs.specs.Words.{isBlank, isWordByte, run, runEnd};
 ghost use Rattle.dimacs.specs.Lines.{isLineByte};
-ghost use Rattle.dimacs.specs.Numbers.{isDigit, digitsOf, sizeOf, numberOf, readingAt};
+ghost use Rattle.dimacs.specs.Numbers.{isDigit, decimalFrom, readingAt};
 
 pub struct Number {
     pub negative: bool,
@@ -18,13 +19,12 @@ pub struct Cursor {
     pub at: usize,
 }
 
-// What digits say.
+// What digits say, and what a word says: the definitions in specs/ speak of these two, and no function does.
 pub enum Size {
     Is(u32),
     Not,
 }
 
-// What a word says.
 pub enum Numeral {
     Is(Number),
     Not,
@@ -34,6 +34,12 @@ pub enum Numeral {
 pub enum Reading {
     Found(Number, Cursor),
     Refused(usize),
+}
+
+// How many digits there are, and their value.
+struct Digits {
+    count: usize,
+    value: u32,
 }
 
 // The start of the first word at or after `at`, or the text's length. What lies between words is decided here alone.
@@ -51,18 +57,37 @@ pub fn next_word(text: &[u8], at: usize) -> usize
     i
 }
 
-// The number that the word at `at` is.
+// The number that the word at `at` is. A word is walked once: if it is a number, it ends where its digits end.
 pub fn read(text: &[u8], at: usize) -> Reading
     ensures { λ r. ⌜ r ≡ readingAt (now (text .entry)) at ⌝ }
 {
     if text.len() <= at {
         return Reading::Refused(at);
     }
-    let end = word_end(text, at);
-    let Numeral::Is(number) = number_of(&text[at..end]) else {
+    let negative = text[at] == b'-';
+    let start = at + minus_length(negative);
+    let most = at_most_six(text.len() - start);
+    let digits = leading_digits(&text[start..start + most]);
+    let end = start + digits.count;
+    if !word_ends(text, end) {
         return Reading::Refused(at);
-    };
-    Reading::Found(number, Cursor { at: end })
+    }
+    if end == start {
+        return Reading::Refused(at);
+    }
+    // a zero stands alone
+    if text[start] == b'0' {
+        if 1 < end - at {
+            return Reading::Refused(at);
+        }
+    }
+    Reading::Found(
+        Number {
+            negative: negative,
+            size: digits.value,
+        },
+        Cursor { at: end },
+    )
 }
 
 // The end of the word at `at`.
@@ -93,71 +118,57 @@ pub fn line_end(text: &[u8], at: usize) -> usize
     i
 }
 
-// The number that a word is.
-pub fn number_of(word: &[u8]) -> Numeral
-    ensures { λ r. ⌜ r ≡ numberOf (now (word .entry)) ⌝ }
+fn minus_length(negative: bool) -> usize
+    ensures { λ r. ⌜ r ≡ cond negative 1 0 ⌝ }
 {
-    if word.len() == 0 {
-        return Numeral::Not;
+    if negative {
+        return 1;
     }
-    if word[0] == b'-' {
-        let Size::Is(size) = size_of(&word[1..]) else {
-            return Numeral::Not;
-        };
-        if size == 0 {
-            return Numeral::Not;
-        }
-        Numeral::Is(Number {
-            negative: true,
-            size: size,
-        })
-    } else {
-        let Size::Is(size) = size_of(word) else {
-            return Numeral::Not;
-        };
-        Numeral::Is(Number {
-            negative: false,
-            size: size,
-        })
-    }
+    0
 }
 
-// One to six digits with no zero in front of others.
-fn size_of(digits: &[u8]) -> Size
-    ensures { λ r. ⌜ r ≡ sizeOf (now (digits .entry)) ⌝ }
+fn at_most_six(n: usize) -> usize
+    ensures { λ r. ⌜ r ≡ min n 6 ⌝ }
 {
-    let n = digits.len();
-    if n == 0 {
-        return Size::Not;
+    if n < 6 {
+        return n;
     }
-    if 6 < n {
-        return Size::Not;
-    }
-    if digits[0] == b'0' {
-        if 1 < n {
-            return Size::Not;
-        }
-    }
-    value_of(digits)
+    6
 }
 
-// The value of at most six digits.
-fn value_of(digits: &[u8]) -> Size
-    requires { ⌜ length (now digits) ≤ 6 ⌝ }
-    ensures { λ r. ⌜ r ≡ digitsOf (now (digits .entry)) ⌝ }
+// The digits at the front of at most six bytes.
+fn leading_digits(bytes: &[u8]) -> Digits
+    requires { ⌜ length (now bytes) ≤ 6 ⌝ }
+    ensures { λ r. ⌜ (r .count ≡ length (run isDigit (now (bytes .entry)))) × (r .value ≡ decimalFrom 0 (run isDigit (now (bytes .entry)))) ⌝ }
 {
     let mut value: u32 = 0;
     let mut i = 0;
-    while i < digits.len() {
-        let b = digits[i];
+    while i < bytes.len() {
+        let b = bytes[i];
         if digit(b) {
             value = value * 10 + ((b - 48) as u32);
             i += 1;
         } else {
-            return Size::Not;
+            return Digits {
+                count: i,
+                value: value,
+            };
         }
     }
-    Size::Is(value)
+    Digits {
+        count: i,
+        value: value,
+    }
+}
+
+// Whether no word goes on at a place: a blank stands there, or the text ends.
+fn word_ends(text: &[u8], at: usize) -> bool
+    ensures { λ r. ⌜ r ≡ isBlank (getD (now (text .entry)) at 32) ⌝ }
+{
+    if text.len() <= at {
+        return true;
+    }
+    blank(text[at])
 }
 
 fn blank(b: u8) -> bool

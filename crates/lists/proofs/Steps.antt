@@ -1,20 +1,15 @@
 -- A loop over a list from index i on: what is left is its first element and the rest, and what that means for a test. Assumes nothing.
-use mathlib.Core.Path.{_≡_, refl, sym, ap, _∙_}
-use mathlib.Core.Bool.{Bool, true, false, _&&_, _||_}
-use mathlib.Core.List.{List, [], _∷_}
-use Prim.Native.Nat.{ℕ, suc, _+_, _-_, _≤_, _<_}
+use mathlib.Core.Path.{_≡_}
+use mathlib.Core.Bool.{Bool, true, false}
+use mathlib.Core.List.{List, _∷_}
+use Prim.Native.Nat.{ℕ, _+_, _≤_, _<_}
 use native.Mathlib.Numerals.{add-one}
-use native.Mathlib.Omega.{arith}
-use lib.ListN.{length, getD, take, drop, length-drop, drop-of-length-le}
-use lib.Seq.{drop-cons, take-all}
+use lib.ListN.{length, getD, drop, drop-of-length-le}
+use lib.Seq.{drop-cons}
 use Rattle.lists.specs.Tests.{anyOf, allOf}
 
 pub drop-step : {A : Type 0} (l : List A) (i : ℕ) (d : A) → i < length l → drop i l ≡ getD l i d ∷ drop (i + 1) l
 drop-step l i d h = rw add-one (drop-cons l i d h)
-
--- `&s[n..]` is what is left of s after n elements
-pub part-rest : {A : Type 0} (n : ℕ) (s : List A) → take (length s - n) (drop n s) ≡ drop n s
-part-rest n s = take-all (length s - n) (drop n s) (omega (arith, length-drop n s))
 
 module _ {A : Type 0} (q : A → Bool) (l : List A) (i : ℕ) where
   pub all-drop-miss : (d : A) → i < length l → q (getD l i d) ≡ false → allOf q (drop i l) ≡ false

@@ -6,19 +6,20 @@ use mathlib.Core.List.{List}
 use Prim.Native.Nat.{ℕ, zero, suc, _+_, _-_, _*_, _^_, _≤_, _<_}
 use native.Mathlib.Omega.{arith}
 use lib.ListN.{length, getD, take, drop}
-use Rattle.packed.specs.Words.{bitsOf, wordsOf, isAssignment}
+use Rattle.lists.specs.Tests.{allOf}
+use Rattle.packed.specs.Words.{bitsOf, wordCount, wordsOf, isAssignment}
 use Rattle.packed.proofs.Form.{form-count}
 use Rattle.packed.proofs.Trips.{bits-words, words-form, words-bits}
-use Rattle.store.specs.Stores.{rowsOf}
+use Rattle.store.specs.Stores.{isRow, rowsOf}
 use Rattle.store.proofs.Formed.{rowAt, rows-at}
 use Rattle.lexleader.specs.Rows.{moved, lowers}
 use Rattle.lexleader.specs.Descent.{rest, to, stepBy, settled, spent, descendFrom, descend}
 use Rattle.lexleader.proofs.Images.{length-moved}
 use Rattle.lexleader.proofs.Left.{part-is, left, left-all, left-step, left-end, row-size}
 use Rattle.descent.specs.declared.Descended.{Descended}
-use Rattle.valuation.specs.Ready.{Ready}
+use Rattle.valuation.specs.Tables.{Tabled, valuesAt}
 use Rattle.descent.specs.Words.{answerOf, descended}
-use Rattle.descent.proofs.MoveLaws.{Fit, movedWords}
+use Rattle.descent.proofs.MoveLaws.{Fit, values-moved}
 
 -- ---- the search for a row
 
@@ -43,22 +44,33 @@ module _ (n rows : ℕ) (images : List ℕ) (bits : List Bool) (r : ℕ) where
 abbrev partAt : ℕ → ℕ → List ℕ → List ℕ
 partAt n r images = take (r * n + n - r * n) (drop (r * n) images)
 
-module _ (n rows : ℕ) (images a : List ℕ) (ready : Ready n rows images a) where
-  module _ (r : ℕ) (h : r < rows) where
-    part-size : length (partAt n r images) ≡ n
-    part-size = rw (part-is n r images) (row-size n rows images (ready .fits) r h)
+module _ (n rows : ℕ) (images : List ℕ) (fits : rows * n ≤ length images) (r : ℕ) (h : r < rows) where
+  part-size : length (partAt n r images) ≡ n
+  part-size = rw (part-is n r images) (row-size n rows images fits r h)
 
-    pub part-fit : Fit (partAt n r images) a
-    part-fit = rw (part-size, part-is n r images) (ready .small, rows-at n rows images (ready .good) r h, ready .form)
+  pub size-moved : (bits : List Bool) → length (moved (rowAt n r images) bits) ≡ n
+  size-moved bits = length-moved (rowAt n r images) bits ∙ row-size n rows images fits r h
 
-    pub part-lowers : (b : Bool) → b ≡ lowers (partAt n r images) (bitsOf (length (partAt n r images)) a) → lowers (rowAt n r images) (bitsOf n a) ≡ b
-    part-lowers b e = sym (rw (part-size, part-is n r images) at e)
+  pub part-words : (a : List ℕ) → length a ≡ wordCount n → length a ≡ wordCount (length (partAt n r images))
+  part-words a e = rw part-size e
 
-    pub part-moved : (b : List ℕ) → b ≡ movedWords (partAt n r images) a → b ≡ wordsOf (moved (rowAt n r images) (bitsOf n a))
-    part-moved b e = rw (part-size, part-is n r images) at e
+  module _ (good : allOf (isRow n) (rowsOf n rows images) ≡ true) (values : List Bool) where
+    part-good : isRow (length (partAt n r images)) (partAt n r images) ≡ true
+    part-good = rw (part-size, part-is n r images) (rows-at n rows images good r h)
 
-    pub size-moved : (bits : List Bool) → length (moved (rowAt n r images) bits) ≡ n
-    size-moved bits = length-moved (rowAt n r images) bits ∙ row-size n rows images (ready .fits) r h
+    pub part-fit : 2 * n + 2 ≤ length values → Fit (partAt n r images) values
+    part-fit room = (part-good, omega (arith, part-size))
+
+    module _ (bits : List Bool) (tabled : Tabled n bits values) where
+      part-tabled : Tabled (length (partAt n r images)) bits values
+      part-tabled = rw part-size tabled
+
+      pub part-lowers : (b : Bool) → ((bits : List Bool) → Tabled (length (partAt n r images)) bits values → b ≡ lowers (partAt n r images) bits)
+          → lowers (rowAt n r images) bits ≡ b
+      part-lowers b answer = sym (rw (part-is n r images) at (answer bits part-tabled))
+
+      pub part-moved : (next : List ℕ) → next ≡ wordsOf (valuesAt values (partAt n r images)) → next ≡ wordsOf (moved (rowAt n r images) bits)
+      part-moved next e = rw (values-moved (partAt n r images) bits values part-tabled part-good, part-is n r images) at e
 
 -- ---- a turn of the descent
 

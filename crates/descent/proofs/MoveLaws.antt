@@ -1,4 +1,4 @@
--- One row and the table of an assignment: the values in the table, the order of what is left from index i on, and the words of the moved assignment.
+-- One row and the table of an assignment: the values in the table, the order of what is left from index i on, and the words of the assignment.
 -- Assumes nothing.
 use mathlib.Core.Path.{_≡_, refl, sym, ap, _∙_}
 use mathlib.Core.Bool.{Bool, true, false, not, cond, Bool·beq}
@@ -6,12 +6,13 @@ use mathlib.Core.List.{List, _∷_}
 use Prim.Native.Nat.{ℕ, _+_, _-_, _*_, _/_, _^_, _≤_, _<_}
 use native.Mathlib.Numerals.{add-one}
 use native.Mathlib.Omega.{arith}
-use lib.ListN.{length, getD, take, drop, set, length-map, drop-of-length-le, List·getD-eq-default}
+use lib.ListN.{length, getD, take, drop, set, drop-of-length-le, List·getD-eq-default}
 use lib.Pow.{pow-mono}
-use lib.Seq.{ext-getD, take-suc, take-suc-set}
+use lib.Seq.{ext-getD, getD-take, take-suc, take-suc-set}
 use Rattle.lists.proofs.Cases.{never}
 use Rattle.lists.proofs.Steps.{drop-step}
 use Rattle.lists.proofs.Members.{map-at}
+use Rattle.lists.proofs.TableLaws.{length-table, getD-table}
 use Rattle.packed.specs.Words.{binary, wordCount, wordsOf}
 use Rattle.packed.specs.Order.{valueOf, less}
 use Rattle.packed.proofs.Trips.{binary-lt, length-words, getD-words}
@@ -20,8 +21,9 @@ use Rattle.store.proofs.Formed.{row-of}
 use Rattle.lexleader.specs.Models.{literalValue}
 use Rattle.lexleader.specs.Rows.{moved, lowers}
 use Rattle.lexleader.proofs.Images.{length-moved}
-use Rattle.valuation.specs.Tables.{Tabled, valuesAt}
+use Rattle.valuation.specs.Tables.{Tabled, bitsIn}
 use Rattle.valuation.proofs.Values.{positive-value}
+use Rattle.valuation.proofs.TableLaws.{Begun, begun-all}
 
 -- ---- a row and a table of as many variables
 
@@ -32,36 +34,27 @@ Fit row values = (isRow (length row) row ≡ true) × (2 * length row + 2 ≤ le
 pub image-in : (row : List ℕ) (values : List Bool) → Fit row values → (i : ℕ) → i < length row → getD row i 0 < length values
 image-in row values fit i h = omega (arith, row-of (length row) row (fit .0) .high i h, fit .1)
 
-length-values : (values : List Bool) (row : List ℕ) → length (valuesAt values row) ≡ length row
-unfolding valuesAt
-length-values values row = length-map row (λ code. getD values code false)
+-- the value of a variable in the table of an assignment
+own-is : (n : ℕ) (bits values : List Bool) → Tabled n bits values → (i : ℕ) → i < n → getD bits i false ≡ getD values (2 * i + 2) false
+own-is n bits values tabled i h =
+    let here : i ≡ (2 * i + 2) / 2 - 1 = omega arith in
+    positive-value (valueOf bits) (2 * i + 2) (getD bits i false) (ap (λ (j : ℕ). getD bits j false) here) (λ e. omega arith)
+    ∙ sym (tabled .value (2 * i + 2) (omega arith) (omega arith))
 
-pub value-at : (values : List Bool) (row : List ℕ) (i : ℕ) → i < length row → getD (valuesAt values row) i false ≡ getD values (getD row i 0) false
-unfolding valuesAt
-value-at values row i h = map-at (λ code. getD values code false) row i 0 false h
+-- the value of its image, which is its own once the row has moved the assignment
+pub image-is : (row : List ℕ) (bits values : List Bool) → Tabled (length row) bits values → isRow (length row) row ≡ true → (i : ℕ) → i < length row
+    → getD (moved row bits) i false ≡ getD values (getD row i 0) false
+unfolding moved
+image-is row bits values tabled good i h =
+    let r = row-of (length row) row good in
+    map-at (literalValue (valueOf bits)) row i 0 false h ∙ sym (tabled .value (getD row i 0) (r .low i h) (r .high i h))
 
-pub value-past : (values : List Bool) (row : List ℕ) (i : ℕ) → length row ≤ i → getD (valuesAt values row) i false ≡ false
-value-past values row i h = List·getD-eq-default (valuesAt values row) false (omega (arith, length-values values row))
-
--- the values of an assignment, and of the same moved by the row, where the table is the assignment's
-module _ (row : List ℕ) (bits values : List Bool) (tabled : Tabled (length row) bits values) where
-  own-is : (i : ℕ) → i < length row → getD bits i false ≡ getD values (2 * i + 2) false
-  own-is i h =
-      let here : i ≡ (2 * i + 2) / 2 - 1 = omega arith in
-      positive-value (valueOf bits) (2 * i + 2) (getD bits i false) (ap (λ (j : ℕ). getD bits j false) here) (λ e. omega arith)
-      ∙ sym (tabled .value (2 * i + 2) (omega arith) (omega arith))
-
-  module _ (good : isRow (length row) row ≡ true) where
-    image-is : (i : ℕ) → i < length row → getD (moved row bits) i false ≡ getD values (getD row i 0) false
-    unfolding moved
-    image-is i h =
-        let r = row-of (length row) row good in
-        map-at (literalValue (valueOf bits)) row i 0 false h ∙ sym (tabled .value (getD row i 0) (r .low i h) (r .high i h))
-
-    pub values-moved : valuesAt values row ≡ moved row bits
-    values-moved =
-        ext-getD false (valuesAt values row) (moved row bits) (length-values values row ∙ sym (length-moved row bits))
-        (λ i h. let inside : i < length row = omega (arith, length-values values row) in value-at values row i inside ∙ sym (image-is i inside))
+-- the table of the moved assignment, once it is made and written over the first
+pub table-moved : (row : List ℕ) (bits values next out : List Bool) (i : ℕ) → length row < i → Begun (moved row bits) next i → out ≡ take (length values) next
+    → 2 * length row + 2 ≤ length values → Tabled (length row) (moved row bits) out
+table-moved row bits values next out i past begun is room =
+    let t = begun-all (length row) (moved row bits) next i (length-moved row bits) past begun in
+    rw is (record { size = t .size; value = λ code low high. getD-take (length values) next code false (omega arith) ∙ t .value code low high })
 
 -- ---- what is left from index i on
 
@@ -105,7 +98,7 @@ module _ (row : List ℕ) (bits values : List Bool) (tabled : Tabled (length row
       rw (
         drop-step (moved row bits) i false (omega (arith, length-moved row bits)),
         drop-step bits i false (omega (arith, tabled .size)),
-        own-is row bits values tabled i h,
+        own-is (length row) bits values tabled i h,
         image-is row bits values tabled good i h,
       )
 
@@ -130,17 +123,35 @@ module _ (f : ℕ → Bool) where
   unfolding binary
   binary-more k = rw add-one
 
--- the words of the moved assignment
-module _ (values : List Bool) (row : List ℕ) where
-  count : wordCount (length (valuesAt values row)) ≡ wordCount (length row)
-  count = ap wordCount (length-values values row)
+-- the assignment in a table
+module _ (n : ℕ) (values : List Bool) where
+  length-in : length (bitsIn n values) ≡ n
+  unfolding bitsIn
+  length-in = length-table n (λ i. getD values (2 * i + 2) false)
 
-  pub moved-count : length (wordsOf (valuesAt values row)) ≡ wordCount (length row)
-  moved-count = length-words (valuesAt values row) ∙ count
+  pub bit-in : (i : ℕ) → i < n → getD (bitsIn n values) i false ≡ getD values (2 * i + 2) false
+  unfolding bitsIn
+  bit-in i h = getD-table n (λ i. getD values (2 * i + 2) false) i false h
 
-  pub moved-word-at : (j : ℕ) → j < wordCount (length row) → getD (wordsOf (valuesAt values row)) j 0 ≡ binary 64 (λ p. getD (valuesAt values row) (j * 64 + p) false)
-  moved-word-at j h = getD-words (valuesAt values row) j (omega (arith, count))
+  pub bit-past : (i : ℕ) → n ≤ i → getD (bitsIn n values) i false ≡ false
+  bit-past i h = List·getD-eq-default (bitsIn n values) false (omega (arith, length-in))
 
--- a word is written that is the same in both
-pub take-more : (l m : List ℕ) (k v : ℕ) → k < length l → k < length m → take k l ≡ take k m → v ≡ getD m k 0 → take (k + 1) (set l k v) ≡ take (k + 1) m
-take-more l m k v h i e f = rw (add-one, take-suc-set l k v h, take-suc m k 0 i, e, f)
+  pub bits-in : (bits : List Bool) → Tabled n bits values → bitsIn n values ≡ bits
+  bits-in bits tabled =
+      ext-getD false (bitsIn n values) bits (length-in ∙ sym (tabled .size))
+      (λ i h. let inside : i < n = omega (arith, length-in) in bit-in i inside ∙ sym (own-is n bits values tabled i inside))
+
+  -- and its words
+  count : wordCount (length (bitsIn n values)) ≡ wordCount n
+  count = ap wordCount length-in
+
+  pub word-count : length (wordsOf (bitsIn n values)) ≡ wordCount n
+  word-count = length-words (bitsIn n values) ∙ count
+
+  pub word-at : (j : ℕ) → j < wordCount n → getD (wordsOf (bitsIn n values)) j 0 ≡ binary 64 (λ p. getD (bitsIn n values) (j * 64 + p) false)
+  word-at j h = getD-words (bitsIn n values) j (omega (arith, count))
+
+-- an element is written that is the same in both
+pub take-more : {A : Type 0} (l m : List A) (k : ℕ) (v d : A) → k < length l → k < length m → take k l ≡ take k m → v ≡ getD m k d
+    → take (k + 1) (set l k v) ≡ take (k + 1) m
+take-more l m k v d h i e f = rw (add-one, take-suc-set l k v h, take-suc m k d i, e, f)

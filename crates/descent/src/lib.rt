@@ -1,7 +1,7 @@
 // Descent (document 01, "Assignments, filling in and descent"): the first row that makes an assignment smaller moves it, again from the first row on, until
-// no row does or the lent limit is reached. Rows are tried on a table of the values of all literals, made anew after each move. One function decides whether
-// a row lowers an assignment. What carries the proofs: a word is built digit by digit as `binary` says (packed/specs/Words.antt), and each turn of the loop
-// leaves what the descent comes to.
+// no row does or the lent limit is reached. Rows are tried on a table of the values of all literals, which each move changes; the words are written at the
+// end. One function decides whether a row lowers an assignment. What carries the proofs: each turn of the loop leaves what the descent comes to, and a word
+// is built digit by digit as `binary` says (packed/specs/Words.antt).
 ghost use mathlib.Core.Path.{_≡_};
 ghost use mathlib.Core.Bool.{Bool, true, false, cond};
 ghost use mathlib.Core.List.{List};
@@ -13,7 +13,7 @@ ghost use Rattle.store.specs.Stores.{isRow, rowsOf};
 ghost use Rattle.lexleader.specs.Rows.{moved, lowers};
 ghost use Rattle.lexleader.specs.Descent.{rest, to, stepBy, descend};
 ghost use Rattle.valuation.specs.Ready.{Ready};
-ghost use Rattle.valuation.specs.Tables.{Tabled, valuesAt};
+ghost use Rattle.valuation.specs.Tables.{Tabled, bitsIn};
 ghost use Rattle.descent.specs.Words.{answerOf, descended};
 
 // How a descent ends, with the count of its moves.
@@ -34,15 +34,16 @@ pub fn descend(images: &[u16], rows: usize, n: usize, a: &mut [u64], limit: u64)
     loop {
         let r = first_lowering(images, rows, n, &values);
         if r == rows {
+            write(&values, n, a);
             return Descended::Settled(moves);
         }
         if moves == limit {
+            write(&values, n, a);
             return Descended::Spent(moves);
         }
         let from = r * n;
         let to = from + n;
-        move_by(&images[from..to], &values, a);
-        valuation::tabulate(a, n, &mut values);
+        move_by(&images[from..to], &mut values);
         moves += 1;
     }
 }
@@ -81,41 +82,69 @@ pub fn lowers(row: &[u16], values: &[bool]) -> bool
     false
 }
 
-// Writes the words of the assignment of a table moved by a row: at variable i the value of its image.
-fn move_by(row: &[u16], values: &[bool], a: &mut [u64])
-    requires { ⌜ (isRow (length (now row)) (now row) ≡ true) × (2 * length (now row) + 2 ≤ length (now values)) × (length (now a) ≡ wordCount (length (now row))) ⌝ }
-    ensures { λ _. ⌜ now (a .exit) ≡ wordsOf (valuesAt (now (values .entry)) (now (row .entry))) ⌝ }
+// Moves the assignment of a table by a row: at variable i the value of its image.
+fn move_by(row: &[u16], values: &mut [bool])
+    requires { ⌜ (isRow (length (now row)) (now row) ≡ true) × (2 * length (now row) + 2 ≤ length (now values)) × (length (now values) ≤ 1026) ⌝ }
+    ensures { λ _. ⌜ ((bits : List Bool) → Tabled (length (now (row .entry))) bits (now (values .entry)) → Tabled (length (now (row .entry))) (moved (now (row .entry)) bits) (now (values .exit))) ⌝ }
+{
+    let mut next = [false; 1026];
+    let mut i = 1;
+    while i <= row.len() {
+        let value = values[row[i - 1] as usize];
+        next[2 * i] = value;
+        next[2 * i + 1] = !value;
+        i += 1;
+    }
+    copy(&next, values);
+}
+
+// Writes a table over a lent one, as much of it as that is long.
+fn copy(next: &[bool], values: &mut [bool])
+    requires { ⌜ length (now values) ≤ length (now next) ⌝ }
+    ensures { λ _. ⌜ now (values .exit) ≡ take (length (now (values .entry))) (now (next .entry)) ⌝ }
+{
+    let mut k = 0;
+    while k < values.len() {
+        values[k] = next[k];
+        k += 1;
+    }
+}
+
+// Writes the words of the assignment of 1..n in a table.
+fn write(values: &[bool], n: usize, a: &mut [u64])
+    requires { ⌜ (2 * n + 2 ≤ length (now values)) × (length (now a) ≡ wordCount n) ⌝ }
+    ensures { λ _. ⌜ now (a .exit) ≡ wordsOf (bitsIn n (now (values .entry))) ⌝ }
 {
     let mut w = 0;
     while w < a.len() {
-        a[w] = moved_word(row, values, w);
+        a[w] = word(values, n, w);
         w += 1;
     }
 }
 
-// Word w of the moved assignment.
-fn moved_word(row: &[u16], values: &[bool], w: usize) -> u64
-    requires { ⌜ (isRow (length (now row)) (now row) ≡ true) × (2 * length (now row) + 2 ≤ length (now values)) × (w < wordCount (length (now row))) ⌝ }
-    ensures { λ r. ⌜ r ≡ binary 64 (λ p. getD (valuesAt (now (values .entry)) (now (row .entry))) (w * 64 + p) false) ⌝ }
+// Word w of that assignment.
+fn word(values: &[bool], n: usize, w: usize) -> u64
+    requires { ⌜ (2 * n + 2 ≤ length (now values)) × (w < wordCount n) ⌝ }
+    ensures { λ r. ⌜ r ≡ binary 64 (λ p. getD (bitsIn n (now (values .entry))) (w * 64 + p) false) ⌝ }
 {
     let mut word: u64 = 0;
     let mut p = 0;
     while p < 64 {
-        word = word * 2 + digit(row, values, w * 64 + p);
+        word = word * 2 + digit(values, n, w * 64 + p);
         p += 1;
     }
     word
 }
 
-// The value at index i of the moved assignment, as a number; 0 past its end.
-fn digit(row: &[u16], values: &[bool], i: usize) -> u64
-    requires { ⌜ (isRow (length (now row)) (now row) ≡ true) × (2 * length (now row) + 2 ≤ length (now values)) ⌝ }
-    ensures { λ r. ⌜ r ≡ cond (getD (valuesAt (now (values .entry)) (now (row .entry))) i false) 1 0 ⌝ }
+// The value at index i of that assignment, as a number; 0 past its end.
+fn digit(values: &[bool], n: usize, i: usize) -> u64
+    requires { ⌜ 2 * n + 2 ≤ length (now values) ⌝ }
+    ensures { λ r. ⌜ r ≡ cond (getD (bitsIn n (now (values .entry))) i false) 1 0 ⌝ }
 {
-    if row.len() <= i {
+    if n <= i {
         return 0;
     }
-    if values[row[i] as usize] {
+    if values[2 * i + 2] {
         return 1;
     }
     0

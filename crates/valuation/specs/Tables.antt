@@ -1,9 +1,10 @@
--- The values of all literals in a table by code, and values read in one. Assumes nothing.
+-- The values of all literals in a table by code, and the assignment that one is of. Assumes nothing.
 use mathlib.Core.Path.{_≡_}
-use Prim.Native.Nat.{ℕ, _/_, _≤_}
+use Prim.Native.Nat.{ℕ, _+_, _*_, _/_, _≤_}
 use mathlib.Core.Bool.{Bool, false}
-use mathlib.Core.List.{List, map}
+use mathlib.Core.List.{List}
 use lib.ListN.{length, getD}
+use Rattle.lists.specs.Tables.{table}
 use Rattle.packed.specs.Order.{valueOf}
 use Rattle.lexleader.specs.Models.{literalValue}
 
@@ -12,6 +13,6 @@ pub record Tabled (n : ℕ) (bits values : List Bool) : Type 0 where
   pub size : length bits ≡ n
   pub value : (code : ℕ) → 1 ≤ code / 2 → code / 2 ≤ n → getD values code false ≡ literalValue (valueOf bits) code
 
--- the values that a table has for literals, one after the other
-unfoldable pub valuesAt : List Bool → List ℕ → List Bool
-valuesAt values codes = map (λ code. getD values code false) codes
+-- the values of the variables 1..n in a table
+unfoldable pub bitsIn : ℕ → List Bool → List Bool
+bitsIn n values = table n (λ i. getD values (2 * i + 2) false)

@@ -1,23 +1,22 @@
--- `descent::descend` meets its contract. The invariant: from the words reached the descent comes to what it does from the words lent (`Reached`), and the
--- table is theirs. Assumes nothing.
+-- `descent::descend` meets its contract. The invariant: from the assignment of the table the descent comes to what it does from the words lent (`Reached`).
+-- Assumes nothing.
 use mathlib.Core.Path.{_≡_, refl, sym, _∙_}
 use Prim.Native.Nat.{_+_, _-_, _*_, _≤_, _<_}
 use native.Mathlib.Omega.{arith}
 use lib.ListN.{length}
-use Rattle.packed.specs.Words.{bitsOf}
+use Rattle.packed.specs.Words.{bitsOf, wordCount}
 use Rattle.packed.proofs.Form.{form-count, form-room}
 use Rattle.store.specs.Stores.{rowsOf}
 use Rattle.store.proofs.Formed.{rowAt}
 use Rattle.lexleader.specs.Rows.{moved}
 use Rattle.lexleader.proofs.Left.{room}
-use Rattle.valuation.specs.Tables.{Tabled}
-use Rattle.descent.proofs.DescentLaws.{part-fit, part-words, part-moved, size-moved, Reached, reached-none, reached-more, reached-length, ends-settled, ends-spent}
+use Rattle.descent.proofs.DescentLaws.{part-fit, part-moved, Reached, reached-none, reached-more, ends-settled, ends-spent}
 use Rattle.descent.proofs.descend.Statement.{statement}
 use Rattle.descent.proofs.descend.Tie as tie
 
 abbrev Inv-loop : tie.InvT-loop
 Inv-loop images rows n a₀ limit values₀ moves₀ a values moves =
-    Reached n limit (rowsOf n rows images) a₀ a moves × (length values ≡ 1026) × Tabled n (bitsOf n a) values
+    Reached n limit (rowsOf n rows images) (bitsOf n a₀) values moves × (length values ≡ 1026) × (length a ≡ length a₀)
 
 abbrev μ-loop : tie.MeasureT-loop
 μ-loop images rows n a₀ limit values₀ moves₀ a values moves = limit - moves
@@ -31,10 +30,15 @@ tabulate-requires c κs =
     (form-room (s .args .n) (s .args .a .now) (s .pre .form), omega (arith, s .pre .small))
 
 loop-holds : tie.Need-loop-holds Inv-loop μ-loop
-loop-holds c =
-    let t = c .before in
-    let k = t .before .before .before in
-    (reached-none _ _ _ _ (k .before .before .pre .form) (λ j. k .slice-known .given j .fits), t .tabulate .kept .1 .1 .0, t .tabulate .ensures)
+loop-holds c = let t = c .before in (reached-none _ _ _ _ _ (t .tabulate .ensures), t .tabulate .kept .1 .1 .0, refl)
+
+-- there is room for the table, and there are as many words as the assignment has
+module _ (c : tie.At-loop Inv-loop μ-loop) where
+  enough : 2 * c .before .before .before .before .before .before .before .args .n + 2 ≤ length (c .loop .values)
+  enough = let s = c .before .before .before .before .before .before .before in omega (arith, s .pre .small, c .loop .inv .1)
+
+  count : length (c .loop .a) ≡ wordCount (c .before .before .before .before .before .before .before .args .n)
+  count = let s = c .before .before .before .before .before .before .before in c .loop .inv .2 ∙ form-count (s .args .n) (s .args .a .now) (s .pre .form)
 
 slice-aggregate-first-lowering : tie.Need-slice-aggregate-first-lowering Inv-loop μ-loop
 slice-aggregate-first-lowering c = sym (c .before .loop .inv .1)
@@ -43,27 +47,27 @@ first-lowering-requires : tie.Need-first-lowering-requires Inv-loop μ-loop
 first-lowering-requires c κs =
     let l = c .before in
     let s = l .before .before .before .before .before .before .before in
-    (s .pre .fits, s .pre .good, omega (arith, s .pre .small, l .loop .inv .1))
+    (s .pre .fits, s .pre .good, enough l)
 
--- the words reached are as many as those lent
-length-kept : (c : tie.At-loop Inv-loop μ-loop) → let a = c .before .before .before .before .before .before .before .args in length (c .loop .a) ≡ length (a .a .now)
-length-kept c = reached-length _ _ _ _ _ _ (c .loop .inv .0) (c .before .before .before .before .before .before .before .pre .form)
+slice-aggregate-write : tie.Need-slice-aggregate-write Inv-loop μ-loop
+slice-aggregate-write c = sym (c .before .before .before .before .loop .inv .1)
+
+write-requires : tie.Need-write-requires Inv-loop μ-loop
+write-requires c κs = let l = c .before .before .before .before .before in (enough l, count l)
 
 same-length : tie.Need-same-length Inv-loop μ-loop
-same-length c = length-kept (c .before .before .before)
+same-length c = let w = c .before .before in w .write .kept .1 .1 .0 ∙ w .before .before .before .before .before .before .loop .inv .2
 
 returns : tie.Need-returns Inv-loop μ-loop
 returns c =
-    let f = c .before in
+    let w = c .before .before in
+    let f = w .before .before .before .before in
     let l = f .before .before in
-    ends-settled _ _ _ _ _ _ (l .loop .inv .0) (f .first-lowering .ensures .0 _ (l .loop .inv .2) (omega arith))
-
-same-length-2 : tie.Need-same-length-2 Inv-loop μ-loop
-same-length-2 c = length-kept (c .before .before .before .before)
+    let reached = l .loop .inv .0 in
+    ends-settled _ _ _ _ _ _ reached _ (w .write .ensures) (f .first-lowering .ensures .0 (reached .bits) (reached .tabled) (omega arith))
 
 -- a row lowers the assignment, and there is room for it
-inside : (c : tie.Else1 Inv-loop μ-loop) → let a = c .before .before .before .before .before .before .before .before .before .before .args in
-    c .before .first-lowering .result < a .rows
+inside : (c : tie.Else1 Inv-loop μ-loop) → c .before .first-lowering .result < c .before .before .before .before .before .before .before .before .before .before .args .rows
 inside c = omega (arith, c .before .first-lowering .ensures .1 .0)
 
 within : (c : tie.Else1 Inv-loop μ-loop) → let a = c .before .before .before .before .before .before .before .before .before .before .args in
@@ -72,11 +76,22 @@ within c =
     let s = c .before .before .before .before .before .before .before .before .before .before in
     room (s .args .n) (s .args .rows) (s .args .images .now) (s .pre .fits) (c .before .first-lowering .result) (inside c)
 
+slice-aggregate-write-2 : tie.Need-slice-aggregate-write-2 Inv-loop μ-loop
+slice-aggregate-write-2 c = sym (c .before .before .before .before .before .loop .inv .1)
+
+write-requires-2 : tie.Need-write-requires-2 Inv-loop μ-loop
+write-requires-2 c κs = let l = c .before .before .before .before .before .before in (enough l, count l)
+
+same-length-2 : tie.Need-same-length-2 Inv-loop μ-loop
+same-length-2 c = let w = c .before .before in w .write2 .kept .1 .1 .0 ∙ w .before .before .before .before .before .before .before .loop .inv .2
+
 returns-2 : tie.Need-returns-2 Inv-loop μ-loop
 returns-2 c =
-    let f = c .before .before in
-    let l = f .before .before in
-    ends-spent _ _ _ _ _ _ (l .loop .inv .0) _ (omega arith) (f .first-lowering .ensures .1 .1 _ (l .loop .inv .2) (inside (c .before)))
+    let w = c .before .before in
+    let i = w .before .before .before .before in
+    let f = i .before in
+    let reached = f .before .before .loop .inv .0 in
+    ends-spent _ _ _ _ _ _ reached _ (w .write2 .ensures) _ (omega arith) (f .first-lowering .ensures .1 .1 (reached .bits) (reached .tabled) (inside i))
 
 mul-from : tie.Need-mul-from Inv-loop μ-loop
 mul-from c = omega (arith, within (c .before))
@@ -101,49 +116,34 @@ slice-aggregate-move-by c = sym (c .before .before .before .before .before .befo
 
 move-by-requires : tie.Need-move-by-requires Inv-loop μ-loop
 move-by-requires c κs =
-    let i = c .before .before .before .before in
+    let i = c .before .before .before in
     let l = i .before .before .before in
     let s = l .before .before .before .before .before .before .before in
-    let r = i .before .first-lowering .result in
-    let fit = part-fit _ _ _ (s .pre .fits) r (inside i) (s .pre .good) (l .loop .values) (omega (arith, s .pre .small, l .loop .inv .1)) in
-    (fit .0, fit .1, part-words _ _ _ (s .pre .fits) r (inside i) (l .loop .a) (form-count (s .args .n) (l .loop .a) (l .loop .inv .0 .form)))
+    let fit = part-fit _ _ _ (s .pre .fits) (i .before .first-lowering .result) (inside i) (s .pre .good) (l .loop .values) (enough l) in
+    (fit .0, fit .1, omega (arith, l .loop .inv .1))
 
--- the words moved are reached, by one move more
-moved-on : (c : tie.After-move-by Inv-loop μ-loop) → let l = c .before .before .before .before .before .before .before .before in
-    let a = l .before .before .before .before .before .before .before .args in
-    Reached (a .n) (a .limit) (rowsOf (a .n) (a .rows) (a .images .now)) (a .a .now) (c .move-by .last .1 .1 .0) (l .loop .moves + 1)
-moved-on c =
-    let e = c .before .before .before .before in
+add-moves : tie.Need-add-moves Inv-loop μ-loop
+add-moves c = omega (arith, c .before .before .before .before .before .before .before .before .loop .inv .0 .most)
+
+loop-less : tie.Need-loop-less Inv-loop μ-loop
+loop-less c = omega (arith, c .before .before .before .before .before .before .before .before .loop .inv .0 .most)
+
+loop-again : tie.Need-loop-again Inv-loop μ-loop
+loop-again c =
+    let m = c .before in
+    let e = m .before .before .before in
     let i = e .before in
     let l = i .before .before .before in
     let s = l .before .before .before .before .before .before .before in
     let n = s .args .n in
     let r = i .before .first-lowering .result in
-    let bits = moved (rowAt n r (s .args .images .now)) (bitsOf n (l .loop .a)) in
-    reached-more _ _ _ _ _ _ (l .loop .inv .0) bits _ (e .if2 .left) (i .before .first-lowering .ensures .1 .1 _ (l .loop .inv .2) (inside i))
-    (size-moved _ _ _ (s .pre .fits) r (inside i) _)
-    (part-moved _ _ _ (s .pre .fits) r (inside i) (s .pre .good) _ _ (l .loop .inv .2) _ (c .move-by .ensures))
-
-slice-aggregate-tabulate-2 : tie.Need-slice-aggregate-tabulate-2 Inv-loop μ-loop
-slice-aggregate-tabulate-2 c = sym (c .before .before .before .before .before .before .before .before .before .before .before .before .loop .inv .1)
-
-tabulate-requires-2 : tie.Need-tabulate-requires-2 Inv-loop μ-loop
-tabulate-requires-2 c κs =
-    let m = c .before .before .before .before in
-    let l = m .before .before .before .before .before .before .before .before in
-    let s = l .before .before .before .before .before .before .before in
-    (form-room (s .args .n) (m .move-by .last .1 .1 .0) (moved-on m .form), omega (arith, s .pre .small, l .loop .inv .1))
-
-add-moves : tie.Need-add-moves Inv-loop μ-loop
-add-moves c = omega (arith, c .before .before .before .before .before .before .before .before .before .before .before .before .before .before .loop .inv .0 .most)
-
-loop-less : tie.Need-loop-less Inv-loop μ-loop
-loop-less c = omega (arith, c .before .before .before .before .before .before .before .before .before .before .before .before .before .before .loop .inv .0 .most)
-
-loop-again : tie.Need-loop-again Inv-loop μ-loop
-loop-again c =
-    let t = c .before in
-    (moved-on (t .before .before .before .before .before), t .tabulate2 .kept .1 .1 .0 ∙ t .before .before .before .before .before .before .before .before .before .before .before .before .before .loop .inv .1, t .tabulate2 .ensures)
+    let reached = l .loop .inv .0 in (
+      reached-more _ _ _ _ _ _ reached (moved (rowAt n r (s .args .images .now)) (reached .bits)) _ (e .if2 .left)
+          (i .before .first-lowering .ensures .1 .1 (reached .bits) (reached .tabled) (inside i))
+          (part-moved _ _ _ (s .pre .fits) r (inside i) (s .pre .good) _ (reached .bits) (reached .tabled) _ (m .move-by .ensures)),
+      m .move-by .kept .1 .0 ∙ l .loop .inv .1,
+      l .loop .inv .2,
+    )
 
 pub descend-spec : {M : Type 1} → statement M
 descend-spec =
@@ -156,8 +156,12 @@ descend-spec =
     loop-holds
     slice-aggregate-first-lowering
     first-lowering-requires
+    slice-aggregate-write
+    write-requires
     same-length
     returns
+    slice-aggregate-write-2
+    write-requires-2
     same-length-2
     returns-2
     mul-from
@@ -168,8 +172,6 @@ descend-spec =
     part-move-by-end
     slice-aggregate-move-by
     move-by-requires
-    slice-aggregate-tabulate-2
-    tabulate-requires-2
     add-moves
     loop-less
     loop-again)

@@ -1,4 +1,4 @@
--- `descent::moved_word` meets its contract. The invariant: the word is the number of the p digits passed, so below 2^p. Assumes nothing.
+-- `descent::word` meets its contract. The invariant: the word is the number of the p digits passed, so below 2^p. Assumes nothing.
 use mathlib.Core.Path.{_≡_, sym}
 use mathlib.Core.Bool.{Bool, false}
 use mathlib.Core.List.{List}
@@ -7,20 +7,20 @@ use native.Mathlib.Omega.{arith}
 use borrow.Author.Needs.{needs}
 use lib.ListN.{getD}
 use Rattle.packed.specs.Words.{binary, wordCount}
-use Rattle.valuation.specs.Tables.{valuesAt}
+use Rattle.valuation.specs.Tables.{bitsIn}
 use Rattle.descent.proofs.MoveLaws.{binary-fits, binary-none, binary-more}
-use Rattle.descent.proofs.moved_word.Statement.{statement}
-use Rattle.descent.proofs.moved_word.Tie as tie
+use Rattle.descent.proofs.word.Statement.{statement}
+use Rattle.descent.proofs.word.Tie as tie
 
 -- the values from that at the word's first place on
-abbrev digits : List ℕ → List Bool → ℕ → ℕ → Bool
-digits row values w p = getD (valuesAt values row) (w * 64 + p) false
+abbrev digits : List Bool → ℕ → ℕ → ℕ → Bool
+digits values n w p = getD (bitsIn n values) (w * 64 + p) false
 
 abbrev Inv-loop : tie.InvT-loop
-Inv-loop row values w word₀ p₀ word p = (p ≤ 64) × (word ≡ binary p (digits row values w))
+Inv-loop values n w word₀ p₀ word p = (p ≤ 64) × (word ≡ binary p (digits values n w))
 
 abbrev μ-loop : tie.MeasureT-loop
-μ-loop row values w word₀ p₀ word p = 64 - p
+μ-loop values n w word₀ p₀ word p = 64 - p
 
 loop-holds : tie.Need-loop-holds Inv-loop μ-loop
 loop-holds c = (omega arith, sym (binary-none _))
@@ -28,8 +28,8 @@ loop-holds c = (omega arith, sym (binary-none _))
 mul-word : tie.Need-mul-word Inv-loop μ-loop
 mul-word c =
     let l = c .before in
-    let a = l .before .before .before .args in
-    let f = digits (a .row .now) (a .values .now) (a .w) in
+    let a = l .before .before .args in
+    let f = digits (a .values .now) (a .n) (a .w) in
     omega (arith, binary-fits f (l .loop .p + 1) (omega arith), binary-more f (l .loop .p), l .loop .inv .1)
 
 mul-digit : tie.Need-mul-digit Inv-loop μ-loop
@@ -45,8 +45,8 @@ digit-requires c κs = search needs
 
 -- the word with digit p
 more : (c : tie.After-digit Inv-loop μ-loop) → let l = c .before .before in
-    let a = l .before .before .before .args in
-    l .loop .word * 2 + c .digit .result ≡ binary (l .loop .p + 1) (digits (a .row .now) (a .values .now) (a .w))
+    let a = l .before .before .args in
+    l .loop .word * 2 + c .digit .result ≡ binary (l .loop .p + 1) (digits (a .values .now) (a .n) (a .w))
 more c =
     let l = c .before .before in
     rw (l .loop .inv .1, c .digit .ensures) (sym (binary-more _ (l .loop .p)))
@@ -54,8 +54,8 @@ more c =
 add-word : tie.Need-add-word Inv-loop μ-loop
 add-word c =
     let l = c .before .before in
-    let a = l .before .before .before .args in
-    omega (arith, more c, binary-fits (digits (a .row .now) (a .values .now) (a .w)) (l .loop .p + 1) (omega arith))
+    let a = l .before .before .args in
+    omega (arith, more c, binary-fits (digits (a .values .now) (a .n) (a .w)) (l .loop .p + 1) (omega arith))
 
 add-p : tie.Need-add-p Inv-loop μ-loop
 add-p c = omega arith
@@ -71,8 +71,8 @@ returns c =
     let all : c .before .loop .p ≡ 64 = omega arith in
     rw all at (c .before .loop .inv .1)
 
-pub moved-word-spec : {M : Type 1} → statement M
-moved-word-spec =
+pub word-spec : {M : Type 1} → statement M
+word-spec =
     tie.close
     (tie.spec
     Inv-loop

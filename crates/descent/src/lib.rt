@@ -1,15 +1,19 @@
 // Descent (document 01, "Assignments, filling in and descent"): the first row that makes an assignment smaller moves it, again from the first row on, until
-// no row does or the lent limit is reached. One function decides whether a row lowers an assignment. What carries the proofs: a word is built digit by
-// digit as `binary` says (packed/specs/Words.antt), and each turn of the loop leaves what the descent comes to.
+// no row does or the lent limit is reached. Rows are tried on a table of the values of all literals, which each move changes; the words are written at the
+// end. One function decides whether a row lowers an assignment. What carries the proofs: each turn of the loop leaves what the descent comes to, and a word
+// is built digit by digit as `binary` says (packed/specs/Words.antt).
 ghost use mathlib.Core.Path.{_≡_};
-ghost use mathlib.Core.Bool.{true, false, cond};
+ghost use mathlib.Core.Bool.{Bool, true, false, cond};
+ghost use mathlib.Core.List.{List};
 ghost use Prim.Native.Nat.{_+_, _*_, _≤_, _<_};
 ghost use lib.ListN.{length, getD, take, drop};
-ghost use Rattle.packed.specs.Words.{bitsOf, binary, wordsOf, isAssignment};
+ghost use Rattle.lists.specs.Tests.{allOf};
+ghost use Rattle.packed.specs.Words.{bitsOf, binary, wordCount, wordsOf};
 ghost use Rattle.store.specs.Stores.{isRow, rowsOf};
 ghost use Rattle.lexleader.specs.Rows.{moved, lowers};
 ghost use Rattle.lexleader.specs.Descent.{rest, to, stepBy, descend};
 ghost use Rattle.valuation.specs.Ready.{Ready};
+ghost use Rattle.valuation.specs.Tables.{Tabled, bitsIn};
 ghost use Rattle.descent.specs.Words.{answerOf, descended};
 
 // How a descent ends, with the count of its moves.
@@ -24,33 +28,37 @@ pub fn descend(images: &[u16], rows: usize, n: usize, a: &mut [u64], limit: u64)
     ensures answer { λ r. ⌜ r ≡ answerOf (descend limit (rowsOf n rows (now (images .entry))) (bitsOf n (now (a .entry)))) ⌝ }
     ensures reached { λ _. ⌜ now (a .exit) ≡ descended n limit (rowsOf n rows (now (images .entry))) (now (a .entry)) ⌝ }
 {
+    let mut values = [false; 1026];
+    valuation::tabulate(a, n, &mut values);
     let mut moves: u64 = 0;
     loop {
-        let r = first_lowering(images, rows, n, a);
+        let r = first_lowering(images, rows, n, &values);
         if r == rows {
+            write(&values, n, a);
             return Descended::Settled(moves);
         }
         if moves == limit {
+            write(&values, n, a);
             return Descended::Spent(moves);
         }
         let from = r * n;
         let to = from + n;
-        move_by(&images[from..to], a);
+        move_by(&images[from..to], &mut values);
         moves += 1;
     }
 }
 
-// The first row, from 0, that makes an assignment smaller; the count of rows where none does.
-fn first_lowering(images: &[u16], rows: usize, n: usize, a: &[u64]) -> usize
-    requires { ⌜ Ready n rows (now images) (now a) ⌝ }
-    ensures none { λ r. ⌜ (r ≡ rows → stepBy (rowsOf n rows (now (images .entry))) (bitsOf n (now (a .entry))) ≡ rest) ⌝ }
-    ensures some { λ r. ⌜ (r ≤ rows) × (r < rows → stepBy (rowsOf n rows (now (images .entry))) (bitsOf n (now (a .entry))) ≡ to (moved (take n (drop (r * n) (now (images .entry)))) (bitsOf n (now (a .entry))))) ⌝ }
+// The first row, from 0, that makes the assignment of a table smaller; the count of rows where none does.
+fn first_lowering(images: &[u16], rows: usize, n: usize, values: &[bool]) -> usize
+    requires { ⌜ (rows * n ≤ length (now images)) × (allOf (isRow n) (rowsOf n rows (now images)) ≡ true) × (2 * n + 2 ≤ length (now values)) ⌝ }
+    ensures none { λ r. ⌜ ((bits : List Bool) → Tabled n bits (now (values .entry)) → r ≡ rows → stepBy (rowsOf n rows (now (images .entry))) bits ≡ rest) ⌝ }
+    ensures some { λ r. ⌜ (r ≤ rows) × ((bits : List Bool) → Tabled n bits (now (values .entry)) → r < rows → stepBy (rowsOf n rows (now (images .entry))) bits ≡ to (moved (take n (drop (r * n) (now (images .entry)))) bits)) ⌝ }
 {
     let mut r = 0;
     while r < rows {
         let from = r * n;
         let to = from + n;
-        if lowers(&images[from..to], a) {
+        if lowers(&images[from..to], values) {
             return r;
         }
         r += 1;
@@ -58,78 +66,85 @@ fn first_lowering(images: &[u16], rows: usize, n: usize, a: &[u64]) -> usize
     r
 }
 
-// Whether a row makes an assignment smaller: where the two first differ, the moved one has 0.
-pub fn lowers(row: &[u16], a: &[u64]) -> bool
-    requires { ⌜ (length (now row) ≤ 512) × (isRow (length (now row)) (now row) ≡ true) × (isAssignment (length (now row)) (now a) ≡ true) ⌝ }
-    ensures { λ r. ⌜ r ≡ lowers (now (row .entry)) (bitsOf (length (now (row .entry))) (now (a .entry))) ⌝ }
+// Whether a row makes the assignment of a table smaller: where the two first differ, the moved one has 0.
+pub fn lowers(row: &[u16], values: &[bool]) -> bool
+    requires { ⌜ (isRow (length (now row)) (now row) ≡ true) × (2 * length (now row) + 2 ≤ length (now values)) ⌝ }
+    ensures { λ r. ⌜ ((bits : List Bool) → Tabled (length (now (row .entry))) bits (now (values .entry)) → r ≡ lowers (now (row .entry)) bits) ⌝ }
 {
     let mut i = 0;
     while i < row.len() {
-        let own = packed::value(a, i + 1);
-        let image = valuation::literal_value(a, row[i] as u32);
-        if own {
-            if !image {
-                return true;
-            }
-        } else {
-            if image {
-                return false;
-            }
+        let own = values[2 * i + 2];
+        if own != values[row[i] as usize] {
+            return own;
         }
         i += 1;
     }
     false
 }
 
-// Moves an assignment by a row: at variable i the value of its image.
-fn move_by(row: &[u16], a: &mut [u64])
-    requires { ⌜ (length (now row) ≤ 512) × (isRow (length (now row)) (now row) ≡ true) × (isAssignment (length (now row)) (now a) ≡ true) ⌝ }
-    ensures { λ _. ⌜ now (a .exit) ≡ wordsOf (moved (now (row .entry)) (bitsOf (length (now (row .entry))) (now (a .entry)))) ⌝ }
+// Moves the assignment of a table by a row: at variable i the value of its image.
+fn move_by(row: &[u16], values: &mut [bool])
+    requires { ⌜ (isRow (length (now row)) (now row) ≡ true) × (2 * length (now row) + 2 ≤ length (now values)) × (length (now values) ≤ 1026) ⌝ }
+    ensures { λ _. ⌜ ((bits : List Bool) → Tabled (length (now (row .entry))) bits (now (values .entry)) → Tabled (length (now (row .entry))) (moved (now (row .entry)) bits) (now (values .exit))) ⌝ }
 {
-    let mut words = [0u64; 8];
-    let mut i = 0;
-    while i < a.len() {
-        words[i] = moved_word(row, a, i);
+    let mut next = [false; 1026];
+    let mut i = 1;
+    while i <= row.len() {
+        let value = values[row[i - 1] as usize];
+        next[2 * i] = value;
+        next[2 * i + 1] = !value;
         i += 1;
     }
-    copy(&words, a);
+    copy(&next, values);
 }
 
-// Writes words over lent ones, as many as those are.
-fn copy(words: &[u64], a: &mut [u64])
-    requires { ⌜ length (now a) ≤ length (now words) ⌝ }
-    ensures { λ _. ⌜ now (a .exit) ≡ take (length (now (a .entry))) (now (words .entry)) ⌝ }
+// Writes a table over a lent one, as much of it as that is long.
+fn copy(next: &[bool], values: &mut [bool])
+    requires { ⌜ length (now values) ≤ length (now next) ⌝ }
+    ensures { λ _. ⌜ now (values .exit) ≡ take (length (now (values .entry))) (now (next .entry)) ⌝ }
 {
     let mut k = 0;
-    while k < a.len() {
-        a[k] = words[k];
+    while k < values.len() {
+        values[k] = next[k];
         k += 1;
     }
 }
 
-// Word w of an assignment moved by a row.
-fn moved_word(row: &[u16], a: &[u64], w: usize) -> u64
-    requires { ⌜ (length (now row) ≤ 512) × (isRow (length (now row)) (now row) ≡ true) × (isAssignment (length (now row)) (now a) ≡ true) × (w < length (now a)) ⌝ }
-    ensures { λ r. ⌜ r ≡ binary 64 (λ p. getD (moved (now (row .entry)) (bitsOf (length (now (row .entry))) (now (a .entry)))) (w * 64 + p) false) ⌝ }
+// Writes the words of the assignment of 1..n in a table.
+fn write(values: &[bool], n: usize, a: &mut [u64])
+    requires { ⌜ (2 * n + 2 ≤ length (now values)) × (length (now a) ≡ wordCount n) ⌝ }
+    ensures { λ _. ⌜ now (a .exit) ≡ wordsOf (bitsIn n (now (values .entry))) ⌝ }
+{
+    let mut w = 0;
+    while w < a.len() {
+        a[w] = word(values, n, w);
+        w += 1;
+    }
+}
+
+// Word w of that assignment.
+fn word(values: &[bool], n: usize, w: usize) -> u64
+    requires { ⌜ (2 * n + 2 ≤ length (now values)) × (w < wordCount n) ⌝ }
+    ensures { λ r. ⌜ r ≡ binary 64 (λ p. getD (bitsIn n (now (values .entry))) (w * 64 + p) false) ⌝ }
 {
     let mut word: u64 = 0;
     let mut p = 0;
     while p < 64 {
-        word = word * 2 + digit(row, a, w * 64 + p);
+        word = word * 2 + digit(values, n, w * 64 + p);
         p += 1;
     }
     word
 }
 
-// The value at index i of an assignment moved by a row, as a number; 0 past its end.
-fn digit(row: &[u16], a: &[u64], i: usize) -> u64
-    requires { ⌜ (length (now row) ≤ 512) × (isRow (length (now row)) (now row) ≡ true) × (isAssignment (length (now row)) (now a) ≡ true) ⌝ }
-    ensures { λ r. ⌜ r ≡ cond (getD (moved (now (row .entry)) (bitsOf (length (now (row .entry))) (now (a .entry)))) i false) 1 0 ⌝ }
+// The value at index i of that assignment, as a number; 0 past its end.
+fn digit(values: &[bool], n: usize, i: usize) -> u64
+    requires { ⌜ 2 * n + 2 ≤ length (now values) ⌝ }
+    ensures { λ r. ⌜ r ≡ cond (getD (bitsIn n (now (values .entry))) i false) 1 0 ⌝ }
 {
-    if row.len() <= i {
+    if n <= i {
         return 0;
     }
-    if valuation::literal_value(a, row[i] as u32) {
+    if values[2 * i + 2] {
         return 1;
     }
     0

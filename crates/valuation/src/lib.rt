@@ -1,10 +1,12 @@
-// The value of a literal under an assignment lent as words (document 01, "Assignments, filling in and descent"): what descent, filling in and checking read.
+// The value of a literal under an assignment lent as words (document 01, "Assignments, filling in and descent"): what filling in and checking read; and the
+// values of all literals in a table by code, which descent reads many times before the assignment changes.
 ghost use mathlib.Core.Path.{_≡_};
-ghost use Prim.Native.Nat.{ℕ, _*_, _/_, _≤_};
+ghost use Prim.Native.Nat.{ℕ, _+_, _*_, _/_, _≤_};
 ghost use lib.ListN.{length};
 ghost use Rattle.packed.specs.Words.{bitsOf};
 ghost use Rattle.packed.specs.Order.{valueOf};
 ghost use Rattle.lexleader.specs.Models.{literalValue};
+ghost use Rattle.valuation.specs.Tables.{Tabled};
 
 // The value of a literal whose variable is one of those that the words hold.
 pub fn literal_value(a: &[u64], code: u32) -> bool
@@ -16,4 +18,18 @@ pub fn literal_value(a: &[u64], code: u32) -> bool
         return !value;
     }
     value
+}
+
+// Makes the table of the assignment of 1..n that the words hold.
+pub fn tabulate(a: &[u64], n: usize, values: &mut [bool])
+    requires { ⌜ (n ≤ 64 * length (now a)) × (2 * n + 2 ≤ length (now values)) ⌝ }
+    ensures { λ _. ⌜ Tabled n (bitsOf n (now (a .entry))) (now (values .exit)) ⌝ }
+{
+    let mut i = 1;
+    while i <= n {
+        let value = packed::value(a, i);
+        values[2 * i] = value;
+        values[2 * i + 1] = !value;
+        i += 1;
+    }
 }

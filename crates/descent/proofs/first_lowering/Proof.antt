@@ -1,21 +1,26 @@
 -- `descent::first_lowering` meets its contract. The invariant: a step by all rows is a step by row r and those after it. Assumes nothing.
 use mathlib.Core.Path.{_≡_, _∙_}
+use mathlib.Core.Bool.{Bool}
+use mathlib.Core.List.{List}
 use Prim.Native.Nat.{_+_, _-_, _*_, _≤_}
 use native.Mathlib.Omega.{arith}
 use lib.ListN.{length}
-use Rattle.packed.specs.Words.{bitsOf}
 use Rattle.store.specs.Stores.{rowsOf}
+use Rattle.store.proofs.Formed.{rowAt}
+use Rattle.lexleader.specs.Rows.{lowers}
 use Rattle.lexleader.specs.Descent.{stepBy}
 use Rattle.lexleader.proofs.Left.{left, room}
+use Rattle.valuation.specs.Tables.{Tabled}
 use Rattle.descent.proofs.DescentLaws.{step-all, step-here, step-on, step-end, part-fit, part-lowers}
 use Rattle.descent.proofs.first_lowering.Statement.{statement}
 use Rattle.descent.proofs.first_lowering.Tie as tie
 
 abbrev Inv-loop : tie.InvT-loop
-Inv-loop images rows n a r₀ r = (stepBy (rowsOf n rows images) (bitsOf n a) ≡ stepBy (left n rows images r) (bitsOf n a)) × (r ≤ rows)
+Inv-loop images rows n values r₀ r =
+    ((bits : List Bool) → Tabled n bits values → stepBy (rowsOf n rows images) bits ≡ stepBy (left n rows images r) bits) × (r ≤ rows)
 
 abbrev μ-loop : tie.MeasureT-loop
-μ-loop images rows n a r₀ r = rows - r
+μ-loop images rows n values r₀ r = rows - r
 
 -- there is room for row r
 within : (c : tie.In-loop Inv-loop μ-loop) → let l = c .before in
@@ -24,10 +29,10 @@ within : (c : tie.In-loop Inv-loop μ-loop) → let l = c .before in
 within c =
     let l = c .before in
     let s = l .before .before .before in
-    room (s .args .n) (s .args .rows) (s .args .images .now) (s .pre .fits) (l .loop .r) (omega arith)
+    room (s .args .n) (s .args .rows) (s .args .images .now) (s .pre .0) (l .loop .r) (omega arith)
 
 loop-holds : tie.Need-loop-holds Inv-loop μ-loop
-loop-holds c = (step-all _ _ _ _, omega arith)
+loop-holds c = (λ bits tabled. step-all _ _ _ _, omega arith)
 
 mul-from : tie.Need-mul-from Inv-loop μ-loop
 mul-from c = omega (arith, within c)
@@ -50,18 +55,22 @@ part-lowers-end c = omega (arith, within c)
 lowers-requires : tie.Need-lowers-requires Inv-loop μ-loop
 lowers-requires c κs =
     let l = c .before .before in
-    part-fit _ _ _ _ (l .before .before .before .pre) (l .loop .r) (omega arith)
+    let s = l .before .before .before in
+    part-fit _ _ _ (s .pre .0) (l .loop .r) (omega arith) (s .pre .1) (s .args .values .now) (s .pre .2)
+
+-- what `lowers` answers of row r
+lowering : (c : tie.After-lowers Inv-loop μ-loop) → let l = c .before .before .before in
+    let a = l .before .before .before .args in
+    (bits : List Bool) → Tabled (a .n) bits (a .values .now) → lowers (rowAt (a .n) (l .loop .r) (a .images .now)) bits ≡ c .lowers .result
+lowering c bits tabled =
+    let l = c .before .before .before in
+    let s = l .before .before .before in
+    part-lowers _ _ _ (s .pre .0) (l .loop .r) (omega arith) (s .pre .1) _ bits tabled _ (c .lowers .ensures)
 
 returns : tie.Need-returns Inv-loop μ-loop
 returns c =
     let l = c .before .before .before .before in
-    let s = l .before .before .before in (
-      λ e. absurd (omega arith),
-      (
-        omega arith,
-        λ h. l .loop .inv .0 ∙ step-here _ _ _ _ (l .loop .r) h (part-lowers _ _ _ _ (s .pre) (l .loop .r) h _ (c .before .lowers .ensures) ∙ c .if1 .taken),
-      ),
-    )
+    (λ bits tabled e. absurd (omega arith), (omega arith, λ bits tabled h. l .loop .inv .0 bits tabled ∙ step-here _ _ _ _ (l .loop .r) h (lowering (c .before) bits tabled ∙ c .if1 .taken)))
 
 add-r : tie.Need-add-r Inv-loop μ-loop
 add-r c = omega arith
@@ -72,15 +81,11 @@ loop-less c = omega arith
 loop-again : tie.Need-loop-again Inv-loop μ-loop
 loop-again c =
     let l = c .before .before .before .before in
-    let s = l .before .before .before in (
-      l .loop .inv .0
-          ∙ step-on _ _ _ _ (l .loop .r) (omega arith) (part-lowers _ _ _ _ (s .pre) (l .loop .r) (omega arith) _ (c .before .lowers .ensures) ∙ c .if1 .left),
-      omega arith,
-    )
+    (λ bits tabled. l .loop .inv .0 bits tabled ∙ step-on _ _ _ _ (l .loop .r) (omega arith) (lowering (c .before) bits tabled ∙ c .if1 .left), omega arith)
 
 returns-2 : tie.Need-returns-2 Inv-loop μ-loop
 returns-2 c =
-    (λ e. c .before .loop .inv .0 ∙ step-end _ _ _ _ (c .before .loop .r) (omega arith), (omega arith, λ h. absurd (omega arith)))
+    (λ bits tabled e. c .before .loop .inv .0 bits tabled ∙ step-end _ _ _ _ (c .before .loop .r) (omega arith), (omega arith, λ bits tabled h. absurd (omega arith)))
 
 pub first-lowering-spec : {M : Type 1} → statement M
 first-lowering-spec =

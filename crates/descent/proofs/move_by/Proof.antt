@@ -1,33 +1,59 @@
--- `descent::move_by` meets its contract. The invariant: the first i words are those of the moved assignment. Assumes nothing.
-use mathlib.Core.Path.{_≡_, refl, sym, _∙_}
-use Prim.Native.Nat.{_-_, _≤_}
+-- `descent::move_by` meets its contract. The invariant: the table being made has the values of the moved assignment at variables before i. Assumes nothing.
+use mathlib.Core.Path.{_≡_, refl, sym}
+use mathlib.Core.Bool.{Bool}
+use mathlib.Core.List.{List}
+use Prim.Native.Nat.{_+_, _-_, _≤_}
 use native.Mathlib.Omega.{arith}
-use borrow.Author.Needs.{needs}
-use lib.ListN.{length, take, length-set}
-use lib.Seq.{take-all}
-use Rattle.descent.proofs.MoveLaws.{few, take-more, movedWords, moved-count, moved-word-at}
+use lib.ListN.{length, length-set}
+use Rattle.lexleader.specs.Rows.{moved}
+use Rattle.valuation.specs.Tables.{Tabled}
+use Rattle.valuation.proofs.TableLaws.{Begun, begun-none, begun-more}
+use Rattle.descent.proofs.MoveLaws.{image-in, image-is, table-moved}
 use Rattle.descent.proofs.move_by.Statement.{statement}
 use Rattle.descent.proofs.move_by.Tie as tie
 
 abbrev Inv-loop : tie.InvT-loop
-Inv-loop row a words₀ i₀ words i = (i ≤ length a) × (length words ≡ 8) × (take i words ≡ take i (movedWords row a))
+Inv-loop row values next₀ i₀ next i =
+    (1 ≤ i) × (i ≤ length row + 1) × (length next ≡ 1026) × ((bits : List Bool) → Tabled (length row) bits values → Begun (moved row bits) next i)
 
 abbrev μ-loop : tie.MeasureT-loop
-μ-loop row a words₀ i₀ words i = length a - i
+μ-loop row values next₀ i₀ next i = length row + 1 - i
 
 loop-holds : tie.Need-loop-holds Inv-loop μ-loop
-loop-holds c = (omega arith, refl, refl)
+loop-holds c = (omega arith, omega arith, refl, λ bits tabled. begun-none _ _)
 
-moved-word-requires : tie.Need-moved-word-requires Inv-loop μ-loop
-moved-word-requires c κs = search needs
+sub-value : tie.Need-sub-value Inv-loop μ-loop
+sub-value c = omega arith
 
-mul-words : tie.Need-mul-words Inv-loop μ-loop
-mul-words c = omega arith
+mul-value : tie.Need-mul-value Inv-loop μ-loop
+mul-value c = omega arith
 
-array-write-words : tie.Need-array-write-words Inv-loop μ-loop
-array-write-words c =
-    let s = c .before .before .before .before .before .before in
-    omega (arith, few (s .args .row .now) (s .args .a .now) (s .pre))
+shared-slice-read-value : tie.Need-shared-slice-read-value Inv-loop μ-loop
+shared-slice-read-value c = omega arith
+
+cast-value : tie.Need-cast-value Inv-loop μ-loop
+cast-value c = omega (arith, c .shared-slice-known2 .given (c .before .before .loop .i - 1))
+
+slice-read-value : tie.Need-slice-read-value Inv-loop μ-loop
+slice-read-value c =
+    let l = c .before .before .before in
+    let s = l .before .before .before in
+    image-in (s .args .row .now) (s .args .values .now) (s .pre .0, s .pre .1) (l .loop .i - 1) (omega arith)
+
+mul-next : tie.Need-mul-next Inv-loop μ-loop
+mul-next c = omega arith
+
+array-write-next : tie.Need-array-write-next Inv-loop μ-loop
+array-write-next c = omega arith
+
+mul-next-2 : tie.Need-mul-next-2 Inv-loop μ-loop
+mul-next-2 c = omega arith
+
+add-next : tie.Need-add-next Inv-loop μ-loop
+add-next c = omega arith
+
+array-write-next-2 : tie.Need-array-write-next-2 Inv-loop μ-loop
+array-write-next-2 c = omega arith
 
 add-i : tie.Need-add-i Inv-loop μ-loop
 add-i c = omega arith
@@ -38,39 +64,34 @@ loop-less c = omega arith
 loop-again : tie.Need-loop-again Inv-loop μ-loop
 loop-again c =
     let l = c .before .before .before in
-    let s = l .before .before .before in
-    let row = s .args .row .now in
-    let a = s .args .a .now in
-    let i = l .loop .i in (
+    let s = l .before .before .before in (
       omega arith,
-      simp length-set (l .loop .inv .1),
-      take-more (l .loop .words) (movedWords row a) i (c .moved-word .result) (omega (arith, few row a (s .pre)))
-          (omega (arith, moved-count row a (s .pre)))
-          (l .loop .inv .2)
-          (c .moved-word .ensures ∙ sym (moved-word-at row a (s .pre) i (omega arith))),
+      omega arith,
+      simp length-set (l .loop .inv .2),
+      λ bits tabled.
+          begun-more _ _ (l .loop .i) (l .loop .inv .3 bits tabled) (omega (arith, l .loop .inv .2)) _
+          (sym (image-is (s .args .row .now) bits (s .args .values .now) tabled (s .pre .0) (l .loop .i - 1) (omega arith))),
     )
 
 slice-aggregate-copy : tie.Need-slice-aggregate-copy Inv-loop μ-loop
-slice-aggregate-copy c = sym (c .before .before .loop .inv .1)
+slice-aggregate-copy c = sym (c .before .before .loop .inv .2)
 
 copy-requires : tie.Need-copy-requires Inv-loop μ-loop
 copy-requires c κs =
-    let s = c .before .before .before .before .before .before in
-    omega (arith, few (s .args .row .now) (s .args .a .now) (s .pre))
+    let l = c .before .before .before in
+    let s = l .before .before .before in
+    omega (arith, s .pre .2, l .loop .inv .2)
 
 same-length : tie.Need-same-length Inv-loop μ-loop
 same-length c = c .before .before .copy .kept .1 .0
 
 returns : tie.Need-returns Inv-loop μ-loop
-returns c =
-    let l = c .before .before .before .before .before .before in
+returns c bits tabled =
+    let t = c .before .before in
+    let l = t .before .before .before .before in
     let s = l .before .before .before in
-    let row = s .args .row .now in
-    let a = s .args .a .now in
-    let all : l .loop .i ≡ length a = omega arith in
-    c .before .before .copy .ensures
-    ∙ (rw all at (l .loop .inv .2))
-    ∙ take-all (length a) (movedWords row a) (omega (arith, moved-count row a (s .pre)))
+    table-moved (s .args .row .now) bits (s .args .values .now) (l .loop .next) (t .copy .last .1 .0) (l .loop .i) (omega arith) (l .loop .inv .3 bits tabled)
+    (t .copy .ensures) (s .pre .1)
 
 pub move-by-spec : {M : Type 1} → statement M
 move-by-spec =
@@ -79,9 +100,16 @@ move-by-spec =
     Inv-loop
     μ-loop
     loop-holds
-    moved-word-requires
-    mul-words
-    array-write-words
+    sub-value
+    mul-value
+    shared-slice-read-value
+    cast-value
+    slice-read-value
+    mul-next
+    array-write-next
+    mul-next-2
+    add-next
+    array-write-next-2
     add-i
     loop-less
     loop-again

@@ -1,4 +1,4 @@
--- `descent::moved_word` meets its contract. The invariant: the word is the number of the p digits passed, so below 2^p. Assumes nothing.
+-- `descent::word` meets its contract. The invariant: the word is the number of the p digits passed, so below 2^p. Assumes nothing.
 use mathlib.Core.Path.{_≡_, sym}
 use mathlib.Core.Bool.{Bool, false}
 use mathlib.Core.List.{List}
@@ -6,20 +6,21 @@ use Prim.Native.Nat.{ℕ, _+_, _-_, _*_, _≤_}
 use native.Mathlib.Omega.{arith}
 use borrow.Author.Needs.{needs}
 use lib.ListN.{getD}
-use Rattle.packed.specs.Words.{binary}
-use Rattle.descent.proofs.MoveLaws.{movedBits, few, binary-fits, binary-none, binary-more}
-use Rattle.descent.proofs.moved_word.Statement.{statement}
-use Rattle.descent.proofs.moved_word.Tie as tie
+use Rattle.packed.specs.Words.{binary, wordCount}
+use Rattle.valuation.specs.Tables.{bitsIn}
+use Rattle.descent.proofs.MoveLaws.{binary-fits, binary-none, binary-more}
+use Rattle.descent.proofs.word.Statement.{statement}
+use Rattle.descent.proofs.word.Tie as tie
 
 -- the values from that at the word's first place on
-abbrev values : List ℕ → List ℕ → ℕ → ℕ → Bool
-values row a w p = getD (movedBits row a) (w * 64 + p) false
+abbrev digits : List Bool → ℕ → ℕ → ℕ → Bool
+digits values n w p = getD (bitsIn n values) (w * 64 + p) false
 
 abbrev Inv-loop : tie.InvT-loop
-Inv-loop row a w word₀ p₀ word p = (p ≤ 64) × (word ≡ binary p (values row a w))
+Inv-loop values n w word₀ p₀ word p = (p ≤ 64) × (word ≡ binary p (digits values n w))
 
 abbrev μ-loop : tie.MeasureT-loop
-μ-loop row a w word₀ p₀ word p = 64 - p
+μ-loop values n w word₀ p₀ word p = 64 - p
 
 loop-holds : tie.Need-loop-holds Inv-loop μ-loop
 loop-holds c = (omega arith, sym (binary-none _))
@@ -27,23 +28,25 @@ loop-holds c = (omega arith, sym (binary-none _))
 mul-word : tie.Need-mul-word Inv-loop μ-loop
 mul-word c =
     let l = c .before in
-    let a = l .before .before .before .args in
-    let f = values (a .row .now) (a .a .now) (a .w) in
+    let a = l .before .before .args in
+    let f = digits (a .values .now) (a .n) (a .w) in
     omega (arith, binary-fits f (l .loop .p + 1) (omega arith), binary-more f (l .loop .p), l .loop .inv .1)
 
 mul-digit : tie.Need-mul-digit Inv-loop μ-loop
-mul-digit c = let s = c .before .before .before .before in omega (arith, few (s .args .row .now) (s .args .a .now) (s .pre .0, s .pre .1, s .pre .2))
+unfolding wordCount
+mul-digit c = omega arith
 
 add-digit : tie.Need-add-digit Inv-loop μ-loop
-add-digit c = let s = c .before .before .before .before in omega (arith, few (s .args .row .now) (s .args .a .now) (s .pre .0, s .pre .1, s .pre .2))
+unfolding wordCount
+add-digit c = omega arith
 
 digit-requires : tie.Need-digit-requires Inv-loop μ-loop
 digit-requires c κs = search needs
 
 -- the word with digit p
 more : (c : tie.After-digit Inv-loop μ-loop) → let l = c .before .before in
-    let a = l .before .before .before .args in
-    l .loop .word * 2 + c .digit .result ≡ binary (l .loop .p + 1) (values (a .row .now) (a .a .now) (a .w))
+    let a = l .before .before .args in
+    l .loop .word * 2 + c .digit .result ≡ binary (l .loop .p + 1) (digits (a .values .now) (a .n) (a .w))
 more c =
     let l = c .before .before in
     rw (l .loop .inv .1, c .digit .ensures) (sym (binary-more _ (l .loop .p)))
@@ -51,8 +54,8 @@ more c =
 add-word : tie.Need-add-word Inv-loop μ-loop
 add-word c =
     let l = c .before .before in
-    let a = l .before .before .before .args in
-    omega (arith, more c, binary-fits (values (a .row .now) (a .a .now) (a .w)) (l .loop .p + 1) (omega arith))
+    let a = l .before .before .args in
+    omega (arith, more c, binary-fits (digits (a .values .now) (a .n) (a .w)) (l .loop .p + 1) (omega arith))
 
 add-p : tie.Need-add-p Inv-loop μ-loop
 add-p c = omega arith
@@ -68,8 +71,8 @@ returns c =
     let all : c .before .loop .p ≡ 64 = omega arith in
     rw all at (c .before .loop .inv .1)
 
-pub moved-word-spec : {M : Type 1} → statement M
-moved-word-spec =
+pub word-spec : {M : Type 1} → statement M
+word-spec =
     tie.close
     (tie.spec
     Inv-loop

@@ -1,0 +1,77 @@
+-- `valuation::tabulate` meets its contract. The invariant: the table has the values of the literals whose variables are before i (`Begun`).
+-- Assumes nothing.
+use mathlib.Core.Path.{_≡_, refl, _∙_}
+use Prim.Native.Nat.{_+_, _-_, _≤_}
+use native.Mathlib.Omega.{arith}
+use borrow.Author.Needs.{needs}
+use lib.ListN.{length, length-set}
+use Rattle.packed.specs.Words.{bitsOf}
+use Rattle.packed.proofs.Bits.{length-bits, value-is}
+use Rattle.valuation.proofs.TableLaws.{Begun, begun-none, begun-more, begun-all}
+use Rattle.valuation.proofs.tabulate.Statement.{statement}
+use Rattle.valuation.proofs.tabulate.Tie as tie
+
+abbrev Inv-loop : tie.InvT-loop
+Inv-loop a n values₀ i₀ values i = (1 ≤ i) × (i ≤ n + 1) × (length values ≡ length values₀) × Begun (bitsOf n a) values i
+
+abbrev μ-loop : tie.MeasureT-loop
+μ-loop a n values₀ i₀ values i = n + 1 - i
+
+loop-holds : tie.Need-loop-holds Inv-loop μ-loop
+loop-holds c = (omega arith, omega arith, refl, begun-none _ _)
+
+value-requires : tie.Need-value-requires Inv-loop μ-loop
+value-requires c κs = search needs
+
+mul-values : tie.Need-mul-values Inv-loop μ-loop
+mul-values c = omega arith
+
+slice-write-values : tie.Need-slice-write-values Inv-loop μ-loop
+slice-write-values c = omega arith
+
+mul-values-2 : tie.Need-mul-values-2 Inv-loop μ-loop
+mul-values-2 c = omega arith
+
+add-values : tie.Need-add-values Inv-loop μ-loop
+add-values c = omega arith
+
+slice-write-values-2 : tie.Need-slice-write-values-2 Inv-loop μ-loop
+slice-write-values-2 c = simp length-set (omega arith)
+
+add-i : tie.Need-add-i Inv-loop μ-loop
+add-i c = omega arith
+
+loop-less : tie.Need-loop-less Inv-loop μ-loop
+loop-less c = omega arith
+
+loop-again : tie.Need-loop-again Inv-loop μ-loop
+loop-again c =
+    let l = c .before .before in
+    let a = l .before .before .before .args in
+    let is = c .value .ensures ∙ value-is (a .n) (a .a .now) (l .loop .i) (omega arith) (omega arith) in
+    (omega arith, omega arith, simp length-set (l .loop .inv .2), begun-more _ _ _ (l .loop .inv .3) (omega arith) _ is)
+
+same-length : tie.Need-same-length Inv-loop μ-loop
+same-length c = c .before .loop .inv .2
+
+returns : tie.Need-returns Inv-loop μ-loop
+returns c = begun-all _ _ _ _ (length-bits _ _) (omega arith) (c .before .loop .inv .3)
+
+pub tabulate-spec : {M : Type 1} → statement M
+tabulate-spec =
+    tie.close
+    (tie.spec
+    Inv-loop
+    μ-loop
+    loop-holds
+    value-requires
+    mul-values
+    slice-write-values
+    mul-values-2
+    add-values
+    slice-write-values-2
+    add-i
+    loop-less
+    loop-again
+    same-length
+    returns)

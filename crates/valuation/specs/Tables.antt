@@ -1,0 +1,18 @@
+-- The values of all literals in a table by code, and the assignment that one is of. Assumes nothing.
+use mathlib.Core.Path.{_≡_}
+use Prim.Native.Nat.{ℕ, _+_, _*_, _/_, _≤_}
+use mathlib.Core.Bool.{Bool, false}
+use mathlib.Core.List.{List}
+use lib.ListN.{length, getD}
+use Rattle.lists.specs.Tables.{table}
+use Rattle.packed.specs.Order.{valueOf}
+use Rattle.lexleader.specs.Models.{literalValue}
+
+-- the table is that of an assignment of 1..n: at the code of each literal its value
+pub record Tabled (n : ℕ) (bits values : List Bool) : Type 0 where
+  pub size : length bits ≡ n
+  pub value : (code : ℕ) → 1 ≤ code / 2 → code / 2 ≤ n → getD values code false ≡ literalValue (valueOf bits) code
+
+-- the values of the variables 1..n in a table
+unfoldable pub bitsIn : ℕ → List Bool → List Bool
+bitsIn n values = table n (λ i. getD values (2 * i + 2) false)

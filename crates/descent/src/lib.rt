@@ -13,7 +13,7 @@ ghost use Rattle.store.specs.Stores.{isRow, rowsOf};
 ghost use Rattle.lexleader.specs.Rows.{moved, lowers};
 ghost use Rattle.lexleader.specs.Descent.{rest, to, stepBy, descend};
 ghost use Rattle.valuation.specs.Ready.{Ready};
-ghost use Rattle.valuation.specs.Tables.{Tabled, bitsIn};
+ghost use Rattle.valuation.specs.Tables.{maxTable, Tabled, bitsIn};
 ghost use Rattle.descent.specs.Words.{answerOf, descended};
 
 // How a descent ends, with the count of its moves.
@@ -28,7 +28,7 @@ pub fn descend(images: &[u16], rows: usize, n: usize, a: &mut [u64], limit: u64)
     ensures answer { λ r. ⌜ r ≡ answerOf (descend limit (rowsOf n rows (now (images .entry))) (bitsOf n (now (a .entry)))) ⌝ }
     ensures reached { λ _. ⌜ now (a .exit) ≡ descended n limit (rowsOf n rows (now (images .entry))) (now (a .entry)) ⌝ }
 {
-    let mut values = [false; 1026];
+    let mut values = [false; valuation::TABLE];
     valuation::tabulate(a, n, &mut values);
     let mut moves: u64 = 0;
     loop {
@@ -84,10 +84,10 @@ pub fn lowers(row: &[u16], values: &[bool]) -> bool
 
 // Moves the assignment of a table by a row: at variable i the value of its image.
 fn move_by(row: &[u16], values: &mut [bool])
-    requires { ⌜ (isRow (length (now row)) (now row) ≡ true) × (2 * length (now row) + 2 ≤ length (now values)) × (length (now values) ≤ 1026) ⌝ }
+    requires { ⌜ (isRow (length (now row)) (now row) ≡ true) × (2 * length (now row) + 2 ≤ length (now values)) × (length (now values) ≤ maxTable) ⌝ }
     ensures { λ _. ⌜ ((bits : List Bool) → Tabled (length (now (row .entry))) bits (now (values .entry)) → Tabled (length (now (row .entry))) (moved (now (row .entry)) bits) (now (values .exit))) ⌝ }
 {
-    let mut next = [false; 1026];
+    let mut next = [false; valuation::TABLE];
     let mut i = 1;
     while i <= row.len() {
         let value = values[row[i - 1] as usize];

@@ -6,7 +6,12 @@ use mathlib.Core.List.{List}
 use lib.ListN.{length, getD}
 use Rattle.lists.specs.Tables.{table}
 use Rattle.packed.specs.Order.{valueOf}
+use Rattle.store.specs.Stores.{maxVariables}
 use Rattle.lexleader.specs.Models.{literalValue}
+
+-- the places of a table of the literals of as many variables as a store can have, by code from 0
+abbrev pub maxTable : ℕ
+maxTable = 2 * maxVariables + 2
 
 -- the table is that of an assignment of 1..n: at the code of each literal its value
 pub record Tabled (n : ℕ) (bits values : List Bool) : Type 0 where

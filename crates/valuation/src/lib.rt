@@ -8,6 +8,9 @@ ghost use Rattle.packed.specs.Order.{valueOf};
 ghost use Rattle.lexleader.specs.Models.{literalValue};
 ghost use Rattle.valuation.specs.Tables.{Tabled};
 
+// The places of a table of the literals of as many variables as a store can have, by code from 0.
+pub const TABLE: usize = 1026;
+
 // The value of a literal whose variable is one of those that the words hold.
 pub fn literal_value(a: &[u64], code: u32) -> bool
     requires { ⌜ (1 ≤ code / 2) × (code / 2 ≤ 64 * length (now a)) ⌝ }

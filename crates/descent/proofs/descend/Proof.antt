@@ -10,13 +10,14 @@ use Rattle.store.specs.Stores.{rowsOf}
 use Rattle.store.proofs.Formed.{rowAt}
 use Rattle.lexleader.specs.Rows.{moved}
 use Rattle.lexleader.proofs.Left.{room}
+use Rattle.valuation.specs.Tables.{maxTable}
 use Rattle.descent.proofs.DescentLaws.{part-fit, part-moved, Reached, reached-none, reached-more, ends-settled, ends-spent}
 use Rattle.descent.proofs.descend.Statement.{statement}
 use Rattle.descent.proofs.descend.Tie as tie
 
 abbrev Inv-loop : tie.InvT-loop
 Inv-loop images rows n a₀ limit values₀ moves₀ a values moves =
-    Reached n limit (rowsOf n rows images) (bitsOf n a₀) values moves × (length values ≡ 1026) × (length a ≡ length a₀)
+    Reached n limit (rowsOf n rows images) (bitsOf n a₀) values moves × (length values ≡ maxTable) × (length a ≡ length a₀)
 
 abbrev μ-loop : tie.MeasureT-loop
 μ-loop images rows n a₀ limit values₀ moves₀ a values moves = limit - moves

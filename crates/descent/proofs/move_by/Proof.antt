@@ -6,7 +6,7 @@ use Prim.Native.Nat.{_+_, _-_, _≤_}
 use native.Mathlib.Omega.{arith}
 use lib.ListN.{length, length-set}
 use Rattle.lexleader.specs.Rows.{moved}
-use Rattle.valuation.specs.Tables.{Tabled}
+use Rattle.valuation.specs.Tables.{maxTable, Tabled}
 use Rattle.valuation.proofs.TableLaws.{Begun, begun-none, begun-more}
 use Rattle.descent.proofs.MoveLaws.{image-in, image-is, table-moved}
 use Rattle.descent.proofs.move_by.Statement.{statement}
@@ -14,7 +14,7 @@ use Rattle.descent.proofs.move_by.Tie as tie
 
 abbrev Inv-loop : tie.InvT-loop
 Inv-loop row values next₀ i₀ next i =
-    (1 ≤ i) × (i ≤ length row + 1) × (length next ≡ 1026) × ((bits : List Bool) → Tabled (length row) bits values → Begun (moved row bits) next i)
+    (1 ≤ i) × (i ≤ length row + 1) × (length next ≡ maxTable) × ((bits : List Bool) → Tabled (length row) bits values → Begun (moved row bits) next i)
 
 abbrev μ-loop : tie.MeasureT-loop
 μ-loop row values next₀ i₀ next i = length row + 1 - i

@@ -155,12 +155,6 @@ module _ (n rows : ℕ) (images : List ℕ) (a : List Bool) (r : ℕ) where
   unfolding settings
   over-more h = rw (left-step n rows images r h)
 
--- the values of `&images[at..to]` are those of row r
-pub part-settings : (n rows : ℕ) (images words : List ℕ) → rows * n ≤ length images → (r : ℕ) → r < rows
-    → let part = take (r * n + n - r * n) (drop (r * n) images) in
-    rowSettings part (bitsOf (length part) words) ≡ rowSettings (rowAt n r images) (bitsOf n words)
-part-settings n rows images words fits r h = rw (part-is n r images, row-size n rows images fits r h)
-
 all-most : (n rows : ℕ) (images : List ℕ) → n ≤ 512 → allAuxiliaries (rowsOf n rows images) ≤ 512 * rows
 unfolding allAuxiliaries rowsOf
 all-most n zero images small = omega arith

@@ -6,12 +6,14 @@ ghost use mathlib.Core.Bool.{Bool, true, cond};
 ghost use mathlib.Core.List.{List, _++_};
 ghost use Prim.Native.Nat.{ℕ, _+_, _-_, _*_, _%_, _^_, _≤_};
 ghost use lib.ListN.{length, drop, replicate};
+ghost use Rattle.lists.specs.Tests.{allOf};
 ghost use Rattle.packed.specs.Words.{bitsOf, wordCount, wordsOf};
 ghost use Rattle.packed.specs.Order.{valueOf};
 ghost use Rattle.store.specs.Stores.{isRow, rowsOf};
 ghost use Rattle.lexleader.specs.Rows.{pairsOf};
 ghost use Rattle.lexleader.specs.Made.{auxiliaries, allAuxiliaries, madeVariables, rowSettings, settings};
 ghost use Rattle.valuation.specs.Ready.{Ready};
+ghost use Rattle.valuation.specs.Tables.{Tabled, Table};
 ghost use Rattle.filling.specs.Written.{Holds, Some, Room, Appends, agreeing, filledWords};
 
 // How many values a writer has taken, and those of the word that is begun.
@@ -26,8 +28,10 @@ pub fn fill(images: &[u16], rows: usize, n: usize, a: &[u64], out: &mut [u64]) -
     ensures words { λ r. ⌜ r ≡ wordCount (madeVariables n (rowsOf n rows (now (images .entry)))) ⌝ }
     ensures buffer { λ _. ⌜ now (out .exit) ≡ filledWords n (rowsOf n rows (now (images .entry))) (now (a .entry)) ++ drop (wordCount (madeVariables n (rowsOf n rows (now (images .entry))))) (now (out .entry)) ⌝ }
 {
+    let mut values = [false; valuation::TABLE];
+    valuation::tabulate(a, n, &mut values);
     let plain = fill_plain(n, a, out);
-    let all = fill_rows(images, rows, n, a, out, plain);
+    let all = fill_rows(images, rows, n, &values, out, plain);
     finish(out, all)
 }
 
@@ -45,30 +49,37 @@ fn fill_plain(n: usize, a: &[u64], out: &mut [u64]) -> Writer
     w
 }
 
-// The values of the auxiliaries of all rows.
-fn fill_rows(images: &[u16], rows: usize, n: usize, a: &[u64], out: &mut [u64], w: Writer) -> Writer
-    requires { ⌜ Ready n rows (now images) (now a) × Some w (now out) × Room w (allAuxiliaries (rowsOf n rows (now images))) (now out) ⌝ }
-    ensures { λ r. ⌜ Appends w (settings (rowsOf n rows (now (images .entry))) (bitsOf n (now (a .entry)))) (now (out .entry)) r (now (out .exit)) ⌝ }
+// The values of the auxiliaries of all rows, for the assignment of a table.
+fn fill_rows(
+    images: &[u16],
+    rows: usize,
+    n: usize,
+    values: &[bool],
+    out: &mut [u64],
+    w: Writer,
+) -> Writer
+    requires { ⌜ (n ≤ 512) × (rows * n ≤ length (now images)) × (allOf (isRow n) (rowsOf n rows (now images)) ≡ true) × Table n (now values) × Some w (now out) × Room w (allAuxiliaries (rowsOf n rows (now images))) (now out) ⌝ }
+    ensures { λ r. ⌜ ((bits : List Bool) → Tabled n bits (now (values .entry)) → Appends w (settings (rowsOf n rows (now (images .entry))) bits) (now (out .entry)) r (now (out .exit))) ⌝ }
 {
     let mut taken = w;
     let mut r = 0;
     while r < rows {
         let from = r * n;
         let to = from + n;
-        taken = fill_row(&images[from..to], a, out, taken);
+        taken = fill_row(&images[from..to], values, out, taken);
         r += 1;
     }
     taken
 }
 
 // The values of a row's auxiliaries, one for each moved variable but the last: true as far as the variables agree with their images, false from there on.
-fn fill_row(row: &[u16], a: &[u64], out: &mut [u64], w: Writer) -> Writer
-    requires { ⌜ (length (now row) ≤ 512) × (isRow (length (now row)) (now row) ≡ true) × (length (now row) ≤ 64 * length (now a)) × Some w (now out) × Room w (auxiliaries (now row)) (now out) ⌝ }
-    ensures { λ r. ⌜ Appends w (rowSettings (now (row .entry)) (bitsOf (length (now (row .entry))) (now (a .entry)))) (now (out .entry)) r (now (out .exit)) ⌝ }
+fn fill_row(row: &[u16], values: &[bool], out: &mut [u64], w: Writer) -> Writer
+    requires { ⌜ (length (now row) ≤ 512) × (isRow (length (now row)) (now row) ≡ true) × Table (length (now row)) (now values) × Some w (now out) × Room w (auxiliaries (now row)) (now out) ⌝ }
+    ensures { λ r. ⌜ ((bits : List Bool) → Tabled (length (now (row .entry))) bits (now (values .entry)) → Appends w (rowSettings (now (row .entry)) bits) (now (out .entry)) r (now (out .exit))) ⌝ }
 {
     let added = lexleader::added_by(row);
     let all = added.auxiliaries;
-    let agreed = agreeing(row, a);
+    let agreed = agreeing(row, values);
     if all <= agreed {
         return push_run(out, w, true, all);
     }
@@ -77,15 +88,15 @@ fn fill_row(row: &[u16], a: &[u64], out: &mut [u64], w: Writer) -> Writer
 }
 
 // How many moved variables agree with their images before the first that does not.
-fn agreeing(row: &[u16], a: &[u64]) -> usize
-    requires { ⌜ (length (now row) ≤ 512) × (isRow (length (now row)) (now row) ≡ true) × (length (now row) ≤ 64 * length (now a)) ⌝ }
-    ensures { λ r. ⌜ r ≡ agreeing (valueOf (bitsOf (length (now (row .entry))) (now (a .entry)))) (pairsOf (now (row .entry))) ⌝ }
+fn agreeing(row: &[u16], values: &[bool]) -> usize
+    requires { ⌜ (length (now row) ≤ 512) × (isRow (length (now row)) (now row) ≡ true) × (2 * length (now row) + 2 ≤ length (now values)) ⌝ }
+    ensures { λ r. ⌜ ((bits : List Bool) → Tabled (length (now (row .entry))) bits (now (values .entry)) → r ≡ agreeing (valueOf bits) (pairsOf (now (row .entry)))) ⌝ }
 {
     let mut count: usize = 0;
     let mut own: u16 = 2;
     let mut i = 0;
     while i < row.len() {
-        if packed::value(a, i + 1) != valuation::literal_value(a, row[i] as u32) {
+        if values[own as usize] != values[row[i] as usize] {
             return count;
         }
         count += (row[i] != own) as usize;

@@ -1,10 +1,9 @@
 -- Document 01's words and numbers, by computation on the definitions. Assumes nothing.
 use mathlib.Core.Path.{_≡_, refl}
 use mathlib.Core.Bool.{true, false}
-use mathlib.Core.List.{List, [], _∷_, map}
-use Prim.Native.Nat.{ℕ}
+use mathlib.Core.List.{[], _∷_, map}
 use Rattle.lists.specs.Tests.{allOf}
-use Rattle.dimacs.specs.Words.{Piece, isBlank, run, wordsFrom, wordsAt}
+use Rattle.dimacs.specs.Words.{isBlank, run, wordsFrom, wordsAt}
 use Rattle.dimacs.specs.Lines.{linesFrom, linesAt}
 use Rattle.dimacs.specs.Numbers.{isDigit, decimalFrom, digitsOf, sizeOf, numberOf, readingAt}
 use Rattle.dimacs.specs.declared.Numeral.{Numeral}

@@ -1,13 +1,12 @@
 -- The lines of a text: what `line_end` says of them. Assumes nothing.
-use mathlib.Core.Path.{_≡_, refl, sym, ap, _∙_}
-use mathlib.Core.Bool.{Bool, true, false, cond, not}
+use mathlib.Core.Path.{_≡_, refl, ap, _∙_}
+use mathlib.Core.Bool.{Bool, true, false}
 use mathlib.Core.List.{List, [], _∷_}
 use Prim.Native.Nat.{ℕ, suc, _+_, _≤_, _<_}
 use native.Mathlib.Nat.{add-zero}
 use native.Mathlib.Omega.{arith}
 use lib.ListN.{length, drop, getD, drop-of-length-le}
 use lib.Seq.{drop-cons, drop-drop}
-use lib.Dec.{eqb}
 use Rattle.dimacs.specs.Words.{run, runEnd, Piece}
 use Rattle.dimacs.specs.Lines.{isLineFeed, isLineByte, linesFrom, linesAt}
 

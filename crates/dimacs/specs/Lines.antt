@@ -1,7 +1,7 @@
 -- The lines of a text. A line runs up to a line feed or the end, and "a last line feed starts no further line" (document 01, "Quality figure
 -- and program"). Assumes nothing.
 use Prim.Native.Nat.{ℕ, _+_}
-use mathlib.Core.Bool.{Bool, true, false, not}
+use mathlib.Core.Bool.{Bool, true, not}
 use mathlib.Core.List.{List, [], _∷_}
 use lib.ListN.{drop}
 use lib.Dec.{eqb}

@@ -7,8 +7,6 @@ use lib.ListN.{length, getD, drop}
 use lib.Dec.{eqb, leb}
 use Rattle.lists.specs.Tests.{allOf}
 use Rattle.dimacs.specs.Words.{isWordByte, run, runEnd}
-use Rattle.dimacs.specs.declared.Number.{Number}
-use Rattle.dimacs.specs.declared.Cursor.{Cursor}
 use Rattle.dimacs.specs.declared.Size.{Size}
 use Rattle.dimacs.specs.declared.Numeral.{Numeral}
 use Rattle.dimacs.specs.declared.Reading.{Reading}

@@ -1,13 +1,12 @@
 -- The literals of a plain clause lie within the literals slice. Assumes nothing.
-use mathlib.Core.Path.{_≡_, refl, sym, ap, _∙_}
-use mathlib.Core.Bool.{true}
-use Prim.Native.Nat.{ℕ, zero, suc, _-_, _≤_, _<_}
+use mathlib.Core.Path.{_≡_, refl, ap}
+use Prim.Native.Nat.{ℕ, zero, suc, _-_, _≤_}
 use native.Mathlib.Omega.{arith}
 use lib.ListN.{length, getD}
-use Rattle.store.specs.Stores.{Store, literalCount, maxLiterals, wellFormed}
+use Rattle.store.specs.Stores.{Store, literalCount, maxLiterals}
 use Rattle.store.proofs.FormLaws.{count-none, count-last}
 use Rattle.store.proofs.Demands.{used}
-use Rattle.store.proofs.Formed.{Formed, formed}
+use Rattle.store.proofs.Formed.{Formed}
 
 pub record Range (s : Store) (q : ℕ) : Type 0 where
   pub rises : literalCount (q - 1) (s .ends) ≤ literalCount q (s .ends)

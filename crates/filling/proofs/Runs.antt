@@ -21,7 +21,7 @@ use Rattle.lexleader.specs.Clause.{pairAt, pairsAt}
 use Rattle.lexleader.specs.Made.{agrees, settingsAfter, rowSettings, settings, auxiliaries, allAuxiliaries, filledIn, madeVariables}
 use Rattle.lexleader.proofs.Settings.{length-settings}
 use Rattle.lexleader.proofs.Walk.{walk-past, walk-moved, walk-end}
-use Rattle.lexleader.proofs.Left.{left, left-step, left-end, row-size, part-is, auxiliaries-most}
+use Rattle.lexleader.proofs.Left.{left, left-step, left-end, auxiliaries-most}
 use Rattle.filling.specs.declared.Writer.{Writer}
 use Rattle.valuation.specs.Ready.{Ready}
 use Rattle.filling.specs.Written.{Holds, Some, Room, Appends, agreeing}

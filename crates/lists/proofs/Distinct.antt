@@ -1,17 +1,17 @@
 -- Lists in which no number stands twice, and how a loop finds out. Assumes nothing.
 use mathlib.Core.Path.{_≡_, refl, sym, ap, _∙_}
-use mathlib.Core.Bool.{Bool, true, false, not, _&&_, _||_, or-assoc, or-false}
+use mathlib.Core.Bool.{Bool, true, false, not, _||_, or-assoc, or-false}
 use mathlib.Core.List.{List, [], _∷_, _++_}
-use Prim.Native.Nat.{ℕ, zero, suc, _+_, _<_, _≤_}
+use Prim.Native.Nat.{ℕ, zero, suc, _+_, _<_}
 use native.Mathlib.Nat.{not-suc-le-zero, le-of-suc-le-suc}
 use native.Mathlib.Numerals.{add-one}
 use native.Mathlib.Omega.{arith}
 use borrow.Author.Tests.{not-true, eqb-false, ne-eqb}
-use lib.ListN.{length, getD, take, length-take}
+use lib.ListN.{length, getD, take}
 use lib.Seq.{take-suc, getD-take, length-take-le}
 use lib.Dec.{eqb}
 use Rattle.lists.specs.Tests.{anyOf, has, distinct}
-use Rattle.lists.proofs.Cases.{never, and-l, and-r, and-both, or-l-false, or-r-false, not-so}
+use Rattle.lists.proofs.Cases.{never, and-l, and-r, or-l-false, or-r-false, not-so}
 use Rattle.lists.proofs.Members.{place, placed}
 
 -- two places with the same number are one place

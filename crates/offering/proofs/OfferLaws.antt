@@ -1,7 +1,7 @@
 -- What an offer answers: one law for each way out, and what the row and the formula are that it checks. Assumes nothing.
-use mathlib.Core.Path.{_≡_, refl, sym, ap, _∙_}
+use mathlib.Core.Path.{_≡_, _∙_}
 use mathlib.Core.List.{List, _++_}
-use Prim.Native.Nat.{ℕ, _+_, _*_, _≤_, _<_}
+use Prim.Native.Nat.{ℕ, _+_, _≤_, _<_}
 use native.Mathlib.Omega.{arith}
 use borrow.Author.Tests.{eq-eqb, ne-eqb, le-leb, lt-leb}
 use lib.ListN.{length, take, drop, length-append, length-drop}
@@ -15,7 +15,7 @@ use Rattle.permutation.specs.declared.Stated.{Stated}
 use Rattle.permutation.proofs.RowLaws.{row-length}
 use Rattle.symmetry.specs.Symmetry.{firstMissing}
 use Rattle.symmetry.proofs.Facts.{cut-used}
-use Rattle.offering.specs.Offering.{rowFor, imagesNeeded, ifRoom, ifSymmetry, ifStated, offeredBy}
+use Rattle.offering.specs.Offering.{rowFor, imagesNeeded, ifRoom, ifSymmetry, offeredBy}
 use Rattle.offering.specs.declared.Offered.{Offered}
 
 -- the row that was filled: its first n entries are the row stated

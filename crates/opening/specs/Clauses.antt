@@ -1,6 +1,6 @@
 -- The clauses of a text (document 01, "Plain formula"): "then clauses: literals, closed by `0`. .. Exactly m clauses follow." Assumes nothing.
 use Prim.Native.Nat.{ℕ, _+_}
-use mathlib.Core.Bool.{Bool, cond, not}
+use mathlib.Core.Bool.{cond, not}
 use mathlib.Core.List.{List, [], _∷_, _++_}
 use lib.Dec.{eqb, ltb}
 use Rattle.dimacs.specs.Words.{Piece}

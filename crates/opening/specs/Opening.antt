@@ -7,7 +7,7 @@ use lib.Dec.{leb}
 use Rattle.dimacs.specs.Words.{Piece, wordsAt}
 use Rattle.store.specs.declared.refusal.Refusal.{Refusal}
 use Rattle.opening.specs.Problem.{problemOf}
-use Rattle.opening.specs.Clauses.{scanFrom, literalsIn, endsFrom, clausesFrom}
+use Rattle.opening.specs.Clauses.{scanFrom, clausesFrom}
 use Rattle.opening.specs.declared.Problem.{Problem}
 use Rattle.opening.specs.declared.Scanned.{Scanned}
 use Rattle.opening.specs.declared.Opened.{Opened}

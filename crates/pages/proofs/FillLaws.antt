@@ -11,7 +11,7 @@ use Rattle.render.proofs.LineLaws.{line-short, line-some}
 use Rattle.render.proofs.Writing.{length-written}
 use Rattle.cursor.specs.Cursors.{clausesLeft, Points}
 use Rattle.cursor.specs.declared.Cursor.{Cursor}
-use Rattle.pages.specs.Pages.{Filled, fillFrom, longest, Goes}
+use Rattle.pages.specs.Pages.{fillFrom, longest, Goes}
 
 module _ (clause : List ℕ) (clauses : List (List ℕ)) (at : ℕ) (out : List ℕ) where
   pub fill-more : at + length (clauseLine clause) ≤ length out → fillFrom at (clause ∷ clauses) out ≡ fillFrom (at + length (clauseLine clause)) clauses (writtenAt at (clauseLine clause) out)

@@ -1,7 +1,7 @@
 -- The two lines of an offer (document 01, "Permutations"): "a line of names (distinct variables), then a line of values in that order", and where
 -- each has its first fault (7 to 10). Assumes nothing.
 use Prim.Native.Nat.{ℕ}
-use mathlib.Core.Bool.{Bool, true, false, cond, not, _&&_}
+use mathlib.Core.Bool.{cond, not, _&&_}
 use mathlib.Core.List.{List, [], _∷_, map}
 use lib.ListN.{length}
 use lib.Dec.{ltb}

@@ -1,6 +1,6 @@
 -- The permutation that two lines state (document 01, "Permutations"): "Name i goes to its value p(i); variables not named stay." Assumes nothing.
 use Prim.Native.Nat.{ℕ, suc, _*_}
-use mathlib.Core.Bool.{Bool, cond}
+use mathlib.Core.Bool.{cond}
 use mathlib.Core.List.{List, [], _∷_}
 use lib.ListN.{length}
 use lib.Dec.{eqb}

@@ -13,7 +13,7 @@ use Rattle.store.specs.declared.refusal.Refusal.{Refusal}
 use Rattle.render.specs.Text.{refusalLine, headerLine, writtenAt}
 use Rattle.render.proofs.Writing.{length-written}
 use Rattle.render.proofs.LineLaws.{length-header, length-refusal}
-use Rattle.render.proofs.DigitLaws.{digits-some, digits-most}
+use Rattle.render.proofs.DigitLaws.{digits-most}
 use Rattle.emit.specs.Emit.{madeOf, variablesOf, clausesOf, headerOf, linesOf, textOf}
 use Rattle.emit.proofs.WrittenLaws.{at-start}
 use Rattle.cursor.specs.Cursors.{clausesLeft, Points}

@@ -1,6 +1,6 @@
 -- When three counts have an efficiency: one law for each way out of the test, and what it gives. Assumes nothing.
 use mathlib.Core.Path.{_≡_, sym}
-use mathlib.Core.Bool.{Bool, true, false, not, _&&_}
+use mathlib.Core.Bool.{true, false, not, _&&_}
 use Prim.Native.Nat.{ℕ, _≤_, _<_}
 use borrow.Author.Tests.{lt-leb, le-leb, leb-true, eq-eqb, ne-eqb, eqb-false, not-true}
 use native.Mathlib.Omega.{arith}

@@ -1,6 +1,6 @@
 -- A row more behind the rows held: the rows are those held and the new one, and the store stays well formed. Assumes nothing.
 use mathlib.Core.Path.{_≡_, refl, sym, ap, _∙_}
-use mathlib.Core.Bool.{Bool, true, _&&_, and-true}
+use mathlib.Core.Bool.{true}
 use mathlib.Core.List.{List, [], _∷_, _++_}
 use Prim.Native.Nat.{ℕ, zero, suc, _+_, _-_, _*_, _≤_, _<_}
 use native.Mathlib.Omega.{arith}
@@ -10,7 +10,7 @@ use Rattle.lists.specs.Tests.{allOf}
 use Rattle.lists.proofs.Cases.{and-both}
 use Rattle.lists.proofs.Members.{all-append}
 use Rattle.store.specs.Stores.{Store, lent, maxRows, rowsOf, heldRows, isRow, wellFormed}
-use Rattle.store.proofs.Demands.{Rest, rest-of, rows-of, rows-decide}
+use Rattle.store.proofs.Demands.{rest-of, rows-of, rows-decide}
 
 -- what lies past the rows is not looked at
 rows-append : (n k : ℕ) (a b : List ℕ) → length a ≡ k * n → rowsOf n k (a ++ b) ≡ rowsOf n k a

@@ -1,7 +1,6 @@
 -- The demands on a store: where one fails the store is badly formed, and where all but the last hold the last decides. Assumes nothing.
-use mathlib.Core.Path.{_≡_, refl, sym, ap, _∙_}
-use mathlib.Core.Bool.{Bool, true, false, _&&_, and-true}
-use mathlib.Core.List.{List, [], _∷_}
+use mathlib.Core.Path.{_≡_}
+use mathlib.Core.Bool.{true, false, and-true}
 use Prim.Native.Nat.{ℕ, _*_, _≤_, _<_}
 use borrow.Author.Tests.{lt-leb, le-leb, leb-true}
 use lib.ListN.{length, getD, take}

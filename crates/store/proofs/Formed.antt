@@ -1,8 +1,8 @@
 -- What is known of a well formed store, for the functions that rely on it: every demand as a fact about places. Assumes nothing.
-use mathlib.Core.Path.{_≡_, refl, sym, ap, _∙_}
-use mathlib.Core.Bool.{Bool, true, false, not, _&&_}
-use mathlib.Core.List.{List, [], _∷_, map}
-use Prim.Native.Nat.{ℕ, zero, suc, _+_, _-_, _*_, _/_, _%_, _≤_, _<_, suc-le-suc}
+use mathlib.Core.Path.{_≡_, refl, sym, _∙_}
+use mathlib.Core.Bool.{true, not, _&&_}
+use mathlib.Core.List.{List, [], _∷_}
+use Prim.Native.Nat.{ℕ, zero, suc, _+_, _-_, _*_, _/_, _%_, _≤_, _<_}
 use native.Mathlib.Nat.{not-suc-le-zero, le-of-suc-le-suc}
 use native.Mathlib.Omega.{arith}
 use borrow.Author.Tests.{leb-true, eqb-true, eqb-false, not-true}
@@ -14,7 +14,7 @@ use Rattle.lists.proofs.Cases.{and-l, and-r}
 use Rattle.lists.proofs.Members.{all-at}
 use Rattle.lists.proofs.Distinct.{distinct-inj}
 use Rattle.store.specs.Literals.{variableOf, isNegative, isLiteral}
-use Rattle.store.specs.Stores.{Store, maxVariables, maxClauses, maxLiterals, maxRows, rising, literalCount, rowsOf, heldRows, isImage, isRow, wellFormed}
+use Rattle.store.specs.Stores.{Store, maxVariables, maxClauses, maxLiterals, maxRows, rising, rowsOf, heldRows, isImage, isRow, wellFormed}
 use Rattle.store.proofs.FormLaws.{variables, variable-at, literal-low, literal-high, image-literal, count-last}
 use Rattle.store.proofs.Demands.{used, rest-of, rows-of}
 

@@ -1,15 +1,14 @@
 -- Lists of calls: after any list from a fresh opening, refused offers included, the rows are exactly the permutations that the accepted offers state, in
 -- order, repeats included, and the plain formula is the text's. Assumes nothing.
 use mathlib.Core.Path.{_≡_, refl, sym, ap, _∙_}
-use mathlib.Core.Bool.{Bool, true}
+use mathlib.Core.Bool.{true}
 use mathlib.Core.List.{List, [], _∷_, _++_, append-assoc, append-nil, List·Memᴰ, List·Memᴰ·not-nil, List·Memᴰ·cases-cons}
 use mathlib.Core.Logic.{⊎-elim}
 use Prim.Native.Nat.{ℕ}
 use native.Mathlib.Omega.{arith}
 use lib.ListN.{length}
-use Rattle.store.specs.Refusals.{Said, done, refused, saidRefused}
+use Rattle.store.specs.Refusals.{Said, done, refused}
 use Rattle.store.specs.Stores.{Store, wellFormed, plainOf, rowsOf, heldRows, isRow}
-use Rattle.store.specs.declared.record.Record.{Record}
 use Rattle.symmetry.specs.Symmetry.{IsSymmetry}
 use Rattle.opening.specs.Opening.{openedBy, formulaOf}
 use Rattle.opening.specs.declared.Opened.{Opened}

@@ -16,7 +16,7 @@ use Rattle.offering.specs.Offering.{rowFor, offeredBy, imagesAfter}
 use Rattle.offering.specs.declared.Offered.{Offered}
 use Rattle.emit.specs.Emit.{bufferAfter}
 use Rattle.emit.specs.declared.Written.{Written}
-use Rattle.symbreak.specs.Calls.{Accepted, accepted, onStore, saidWritten, bufferLeft, countsOpened, saidOpened, openSays, openStore, saidOffered, offerSays, storeOffered, offerStore}
+use Rattle.symbreak.specs.Calls.{Accepted, onStore, saidWritten, bufferLeft, countsOpened, saidOpened, openSays, openStore, saidOffered, offerSays, offerStore}
 use Rattle.symbreak.specs.Exports.{cStored, cStoredAt}
 use Rattle.symbreak.specs.declared.Offering.{Offering}
 use Rattle.symbreak.specs.declared.exports.CStored.{CStored}

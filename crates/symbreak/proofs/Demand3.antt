@@ -2,8 +2,7 @@
 -- models (lexleader/proofs/Theorems.antt) meets the store that the list leaves (AfterCalls.antt) and the calls on words. Assumes nothing.
 use mathlib.Core.Path.{_≡_, refl, sym, ap, _∙_}
 use mathlib.Core.Bool.{Bool, true, false, cond}
-use mathlib.Core.List.{List, _++_, List·Memᴰ}
-use mathlib.Core.Logic.{_↔_}
+use mathlib.Core.List.{List}
 use Prim.Native.Nat.{ℕ}
 use native.Mathlib.Omega.{arith}
 use lib.ListN.{length, take, drop}
@@ -14,25 +13,24 @@ use Rattle.packed.specs.Words.{bitsOf, wordCount, wordsOf, isAssignment}
 use Rattle.packed.proofs.Form.{form-count}
 use Rattle.packed.proofs.Trips.{bits-words, words-form}
 use Rattle.store.specs.Literals.{isLiteral}
-use Rattle.store.specs.Refusals.{Said, done, refused, numberOf, placeOf, saidRefused}
-use Rattle.store.specs.Stores.{Store, plainOf, heldRows, isRow, standingOf}
+use Rattle.store.specs.Refusals.{done, refused}
+use Rattle.store.specs.Stores.{Store, heldRows, isRow, standingOf}
 use Rattle.store.specs.declared.form.Standing.{Standing}
 use Rattle.store.proofs.Formed.{formed}
 use Rattle.store.proofs.Demands.{rows-of}
 use Rattle.symmetry.proofs.Facts.{literals-within}
-use Rattle.lexleader.specs.Models.{Model, Satisfiable}
 use Rattle.lexleader.specs.Made.{made, madeVariables, settings, filledIn}
-use Rattle.lexleader.specs.Kept.{Completes, Kept, Least, Carried, Symmetric}
+use Rattle.lexleader.specs.Kept.{Symmetric}
 use Rattle.lexleader.specs.Descent.{Ending, settled, spent, descend}
-use Rattle.lexleader.proofs.Theorems.{kept-plain, kept-iff, one-setting, filled-completes, carried-to-kept, satisfiable-iff, settled-kept}
+use Rattle.lexleader.proofs.Theorems.{kept-iff, one-setting, filled-completes, carried-to-kept, satisfiable-iff, settled-kept}
 use Rattle.emit.specs.Emit.{madeOf, variablesOf}
 use Rattle.filling.specs.Written.{filledWords}
 use Rattle.filling.proofs.Runs.{length-filled}
-use Rattle.descent.specs.Words.{answerOf, reachedBy, descended}
+use Rattle.descent.specs.Words.{answerOf, descended}
 use Rattle.descent.specs.declared.Descended.{Descended}
-use Rattle.symbreak.specs.Calls.{Sizes, openSays, openStore, onStore, bufferLeft, fillSays, fillLeaves, wordsLeft, descendSays, descendLeaves}
-use Rattle.symbreak.specs.Lists.{Call, after, accepted}
-use Rattle.symbreak.specs.Demand3.{variables, formula, permutations, left, Plain, IsKept, Demand3}
+use Rattle.symbreak.specs.Calls.{Sizes, openSays, openStore, onStore, fillSays, fillLeaves, descendSays, descendLeaves}
+use Rattle.symbreak.specs.Lists.{Call}
+use Rattle.symbreak.specs.Demand3.{variables, formula, permutations, left, Demand3}
 use Rattle.symbreak.proofs.AfterCalls.{keeps-calls, after-opening}
 
 -- ---- what a call that answered says of the store and the words

@@ -1,10 +1,10 @@
 -- Filling in, checking and descent: one law for each way out of the calls. Assumes nothing.
-use mathlib.Core.Path.{_≡_, refl, sym, ap, _∙_}
-use mathlib.Core.Bool.{Bool, true, false}
+use mathlib.Core.Path.{_≡_, refl, ap, _∙_}
+use mathlib.Core.Bool.{true, false}
 use mathlib.Core.List.{List, _++_}
-use Prim.Native.Nat.{ℕ, _+_, _/_, _≤_, _<_}
+use Prim.Native.Nat.{ℕ, _+_, _≤_, _<_}
 use native.Mathlib.Omega.{arith}
-use borrow.Author.Tests.{eqb-true, eq-eqb, ne-eqb, le-leb, lt-leb}
+use borrow.Author.Tests.{le-leb, lt-leb}
 use lib.ListN.{length, drop}
 use Rattle.packed.specs.Words.{bitsOf, wordCount, wordsOf, isAssignment}
 use Rattle.packed.proofs.Form.{form-count}
@@ -15,7 +15,7 @@ use Rattle.store.specs.declared.form.Standing.{Standing}
 use Rattle.store.specs.declared.refusal.Refusal.{Refusal}
 use Rattle.store.proofs.Formed.{formed}
 use Rattle.store.proofs.Demands.{rows-of}
-use Rattle.lexleader.specs.Made.{filledIn, madeVariables}
+use Rattle.lexleader.specs.Made.{filledIn}
 use Rattle.lexleader.specs.Descent.{descend}
 use Rattle.emit.specs.Emit.{variablesOf}
 use Rattle.checking.specs.Checking.{firstFalse}

@@ -1,7 +1,7 @@
 -- What each public call says, in document 01's numbers, and what the lent store holds afterwards. For each answer enum of the code a definition gives
 -- the numbers and the values of its cases. Assumes nothing.
 use Prim.Native.Nat.{ℕ, _+_}
-use mathlib.Core.Bool.{Bool, true, false, cond, _&&_}
+use mathlib.Core.Bool.{true, cond, _&&_}
 use mathlib.Core.List.{List, _++_}
 use lib.ListN.{length, drop}
 use lib.Dec.{eqb, leb}

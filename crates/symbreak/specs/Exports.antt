@@ -1,6 +1,6 @@
 -- What the exports for C take and return: a record as four numbers, and structs of numbers that hold what the calls say. Assumes nothing.
 use Prim.Native.Nat.{ℕ}
-use mathlib.Core.Bool.{Bool, cond, not}
+use mathlib.Core.Bool.{cond, not}
 use lib.Dec.{eqb}
 use Rattle.store.specs.Refusals.{Said, done, refused}
 use Rattle.store.specs.declared.record.Record.{Record}

@@ -3,7 +3,7 @@ use mathlib.Core.Path.{_≡_, refl, sym, _∙_}
 use Prim.Native.Nat.{_-_}
 use borrow.Author.Needs.{needs}
 use lib.ListN.{length}
-use Rattle.dimacs.specs.Words.{isBlank, isWordByte, runEnd}
+use Rattle.dimacs.specs.Words.{isWordByte, runEnd}
 use Rattle.dimacs.proofs.Runs.{run-stop, run-step, run-end, opposite-true, opposite-false}
 use Rattle.dimacs.proofs.word_end.Statement.{statement}
 use Rattle.dimacs.proofs.word_end.Tie as tie

@@ -1,8 +1,8 @@
 -- `emit::added` meets its contract: the clause is found by its number among those that the rows add. Assumes nothing.
 use mathlib.Core.Path.{_≡_, sym, ap, _∙_}
 use Prim.Native.Nat.{ℕ}
-use mathlib.Core.List.{List, []}
-use lib.ListN.{length, take, getD}
+use mathlib.Core.List.{List}
+use lib.ListN.{length, take}
 use lib.Seq.{length-take-le}
 use Rattle.store.specs.Stores.{Store, lent, heldRows}
 use Rattle.store.proofs.Formed.{Formed, formed}

@@ -1,7 +1,6 @@
 -- `emit::clause` meets its contract: 13, then a plain clause or one that the rows add. Assumes nothing.
 use mathlib.Core.Path.{refl, sym, _∙_}
 use Rattle.store.specs.Stores.{Store, lent}
-use Rattle.emit.specs.Emit.{clausesOf}
 use Rattle.emit.proofs.WrittenLaws.{no-clause-zero, no-clause-above, clause-there}
 use borrow.Author.Needs.{needs}
 use native.Mathlib.Omega.{arith}

@@ -1,5 +1,5 @@
 -- `emit::header` meets its contract. Assumes nothing.
-use mathlib.Core.Path.{_≡_, sym, ap₂, _∙_}
+use mathlib.Core.Path.{ap₂, _∙_}
 use Prim.Native.Nat.{ℕ}
 use lib.ListN.{length}
 use Rattle.store.specs.Stores.{Store, lent}
@@ -7,7 +7,6 @@ use Rattle.render.specs.Text.{headerLine, writtenAt}
 use Rattle.emit.specs.Emit.{headerOf, headerBy}
 use Rattle.emit.proofs.WrittenLaws.{left-alone, put-there}
 use borrow.Author.Needs.{needs}
-use native.Mathlib.Omega.{arith}
 use Rattle.emit.proofs.header.Statement.{statement}
 use Rattle.emit.proofs.header.Tie as tie
 

@@ -1,11 +1,11 @@
 -- `emit::plain` meets its contract: the clause's literals lie between two ends. Assumes nothing.
-use mathlib.Core.Path.{_≡_, sym, ap, ap₂, subst, _∙_}
+use mathlib.Core.Path.{_≡_, sym, ap, ap₂, _∙_}
 use Prim.Native.Nat.{ℕ, _-_, _≤_}
 use mathlib.Core.List.{List}
 use lib.ListN.{length, take, drop, length-take, length-drop}
 use lib.Seq.{slice}
 use Rattle.store.specs.Stores.{Store, lent, maxLiterals}
-use Rattle.store.proofs.Formed.{Formed, formed}
+use Rattle.store.proofs.Formed.{formed}
 use Rattle.render.specs.Text.{clauseLine}
 use Rattle.emit.specs.Emit.{lineOf, writtenIf, bufferAfter}
 use Rattle.emit.proofs.MadeLaws.{made-plain}

@@ -1,13 +1,11 @@
 -- `filling::agreeing` meets its contract. The invariant: the variables before index i agree with their images, and `count` of them are moved. Assumes nothing.
 use mathlib.Core.Path.{_≡_, sym, ap, _∙_}
-use mathlib.Core.Bool.{Bool, false, not, Bool·beq}
+use mathlib.Core.Bool.{Bool, false, Bool·beq}
 use mathlib.Core.List.{List}
-use Prim.Native.Nat.{ℕ, _+_, _-_, _*_, _≤_}
+use Prim.Native.Nat.{_+_, _-_, _*_, _≤_}
 use native.Mathlib.Omega.{arith}
 use borrow.Author.Tests.{not-true, not-false}
-use mir.Val.{boolByte}
 use lib.ListN.{length, getD}
-use lib.Dec.{eqb}
 use Rattle.packed.specs.Order.{valueOf}
 use Rattle.store.proofs.Formed.{row-of}
 use Rattle.lexleader.specs.Rows.{pairsOf}

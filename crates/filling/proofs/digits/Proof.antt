@@ -3,7 +3,6 @@ use mathlib.Core.Path.{ap}
 use Prim.Native.Nat.{ℕ, _-_}
 use native.Mathlib.Omega.{arith}
 use borrow.Author.Needs.{needs}
-use borrow.Author.Tests.{not-false}
 use Rattle.packed.proofs.Form.{one-shl, mask-fits}
 use Rattle.filling.proofs.digits.Statement.{statement}
 use Rattle.filling.proofs.digits.Tie as tie

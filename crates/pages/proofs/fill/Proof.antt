@@ -1,12 +1,11 @@
 -- `pages::fill` meets its contract. The invariant: what fills the buffer from its start is what fills it from `at` on with the clauses that are left.
 -- Assumes nothing.
 use mathlib.Core.Path.{_≡_, refl, sym, _∙_}
-use mathlib.Core.List.{[]}
-use Prim.Native.Nat.{_+_, _-_, _≤_}
+use Prim.Native.Nat.{_-_, _≤_}
 use native.Mathlib.Omega.{arith}
 use lib.ListN.{length}
-use Rattle.store.specs.Stores.{Store, lent}
-use Rattle.pages.specs.Pages.{fillFrom, longest}
+use Rattle.store.specs.Stores.{lent}
+use Rattle.pages.specs.Pages.{fillFrom}
 use Rattle.cursor.specs.Cursors.{clausesLeft, Points}
 use borrow.Author.Needs.{needs}
 use Rattle.pages.proofs.fill.Statement.{statement}

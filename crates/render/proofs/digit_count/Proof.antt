@@ -1,5 +1,5 @@
 -- `render::digit_count` meets its contract. The invariant: n digits are counted, with those of the rest for the last one. Assumes nothing.
-use Prim.Native.Nat.{_+_, _-_}
+use Prim.Native.Nat.{_-_}
 use Rattle.render.proofs.DigitLaws.{digits-most, digits-some, Counted, counted-none, counted-more, counted-all}
 use native.Mathlib.Omega.{arith}
 use Rattle.render.proofs.digit_count.Statement.{statement}

@@ -1,5 +1,5 @@
 -- `render::put_refusal` meets its contract: two numbers after some bytes. Assumes nothing.
-use mathlib.Core.Path.{refl, _∙_}
+use mathlib.Core.Path.{refl}
 use Rattle.render.specs.Text.{refusalLine}
 use Rattle.render.proofs.Writing.{put, put-then}
 use borrow.Author.Needs.{needs}

@@ -1,10 +1,10 @@
 -- `symbreak::check` meets its contract: 20, 21 and 12 are tried, and then the clauses. Assumes nothing.
 use mathlib.Core.Path.{_≡_, sym, ap, _∙_}
 use borrow.Author.Tests.{not-true, not-false}
-use Rattle.store.specs.Stores.{Store, lent, heldRows, standingOf}
+use Rattle.store.specs.Stores.{Store, lent, standingOf}
 use Rattle.store.specs.declared.form.Standing.{Standing}
 use Rattle.store.proofs.StandingLaws.{ready}
-use mathlib.Core.Bool.{Bool, true}
+use mathlib.Core.Bool.{true}
 use Prim.Native.Nat.{ℕ}
 use Rattle.packed.specs.Words.{isAssignment}
 use Rattle.emit.specs.Emit.{variablesOf}

@@ -1,6 +1,5 @@
 -- `symbreak::compare` meets its contract. Assumes nothing.
 use mathlib.Core.Path.{ap}
-use mathlib.Core.List.{List}
 use borrow.Author.Tests.{eq-eqb, ne-eqb, le-leb, lt-leb}
 use Rattle.store.specs.Refusals.{done}
 use Rattle.symbreak.specs.Calls.{compareSays}

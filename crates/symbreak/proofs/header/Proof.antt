@@ -1,8 +1,7 @@
 -- `symbreak::header` meets its contract: 20 and 21 are tried, and then the line is written. Assumes nothing.
 use mathlib.Core.Path.{_≡_, sym, _∙_}
-use mathlib.Core.Bool.{true}
 use lib.ListN.{length}
-use Rattle.store.specs.Stores.{Store, lent, wellFormed, standingOf}
+use Rattle.store.specs.Stores.{Store, lent, standingOf}
 use Rattle.store.specs.declared.form.Standing.{Standing}
 use Rattle.store.proofs.StandingLaws.{ready}
 use Rattle.emit.specs.Emit.{headerOf, headerBy}

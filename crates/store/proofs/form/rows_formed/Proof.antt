@@ -1,7 +1,6 @@
 -- `store::form::rows_formed` meets its contract. The invariant: all rows are permutations if those from row r on, at r·n, are. Assumes nothing.
 use mathlib.Core.Path.{_≡_, sym, ap, _∙_}
 use Prim.Native.Nat.{ℕ, _+_, _-_, _*_, _≤_}
-use mathlib.Core.Bool.{Bool}
 use native.Mathlib.Nat.{mul-le-mul-right}
 use borrow.Author.Tests.{not-true, not-false}
 use lib.ListN.{length, take, drop}

@@ -1,5 +1,4 @@
 -- `store::literal::opposite` meets its contract. Assumes nothing.
-use native.Mathlib.Omega.{arith}
 use borrow.Author.Needs.{needs}
 use borrow.Author.Tests.{eq-eqb, ne-eqb}
 use Rattle.store.proofs.literal.opposite.Statement.{statement}

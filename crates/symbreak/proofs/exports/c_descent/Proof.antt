@@ -1,5 +1,4 @@
 -- `symbreak::exports::c_descent` meets its contract. Assumes nothing.
-use mathlib.Core.Path.{refl}
 use borrow.Author.Needs.{needs}
 use Rattle.symbreak.proofs.exports.c_descent.Statement.{statement}
 use Rattle.symbreak.proofs.exports.c_descent.Tie as tie

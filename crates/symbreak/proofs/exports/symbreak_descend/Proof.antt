@@ -2,8 +2,6 @@
 use mathlib.Core.Path.{_≡_, sym, ap, _∙_}
 use Rattle.store.specs.Stores.{Store, lent}
 use Rattle.store.specs.declared.record.Record.{Record}
-use Rattle.store.specs.Refusals.{Said, refused}
-use Rattle.descent.specs.declared.Descended.{Descended}
 use Rattle.symbreak.specs.Calls.{saidDescent, descendSays, descendLeaves}
 use Rattle.symbreak.specs.Exports.{recordOf, cDescent}
 use borrow.Author.Needs.{needs}

@@ -1,34 +1,17 @@
 -- The clauses of the made formula by number: the first m are the plain ones, cut by the ends, and the others those that the rows add. Assumes nothing.
-use mathlib.Core.Path.{_≡_, refl, sym, ap, _∙_}
+use mathlib.Core.Path.{_≡_, sym, ap, _∙_}
 use mathlib.Core.Bool.{true}
 use mathlib.Core.List.{List, [], _∷_, _++_}
 use Prim.Native.Nat.{ℕ, zero, suc, _+_, _-_, _≤_, _<_}
-use native.Mathlib.Nat.{not-suc-le-zero, le-of-suc-le-suc}
 use native.Mathlib.Omega.{arith}
 use lib.ListN.{length, getD, take, length-append, List·getD-append}
 use lib.Seq.{slice, length-take-le, getD-take, getD-append-add}
-use Rattle.store.specs.Stores.{Store, literalCount, cut, plainOf, heldRows, wellFormed}
-use Rattle.store.proofs.FormLaws.{count-none, count-last}
+use Rattle.store.specs.Stores.{Store, literalCount, plainOf, heldRows, wellFormed}
+use Rattle.store.proofs.FormLaws.{count-last}
+use Rattle.store.proofs.Cuts.{length-cut, cut-at, start-at}
 use Rattle.store.proofs.Demands.{rest-of}
 use Rattle.lexleader.specs.Made.{rowsClauses, made}
 use Rattle.emit.specs.Emit.{madeOf, clausesOf}
-
-length-cut : (from : ℕ) (literals ends : List ℕ) → length (cut from literals ends) ≡ length ends
-unfolding cut
-length-cut from literals [] = refl
-length-cut from literals (e ∷ ends) = ap suc (length-cut e literals ends)
-
--- where clause i, from 0, starts
-starts : ℕ → List ℕ → ℕ → ℕ
-starts from ends zero = from
-starts from ends (suc i) = getD ends i 0
-
-cut-at : (from : ℕ) (literals ends : List ℕ) (i : ℕ) → i < length ends → getD (cut from literals ends) i [] ≡ slice (starts from ends i) (getD ends i 0) literals
-unfolding cut starts
-cut-at from literals [] i h = absurd (not-suc-le-zero h)
-cut-at from literals (e ∷ ends) zero h = refl
-cut-at from literals (e ∷ ends) (suc zero) h = cut-at e literals ends zero (le-of-suc-le-suc h)
-cut-at from literals (e ∷ ends) (suc (suc i)) h = cut-at e literals ends (suc i) (le-of-suc-le-suc h)
 
 module _ (s : Store) (formed : wellFormed s ≡ true) where
   -- the ends of the clauses in use
@@ -50,12 +33,9 @@ module _ (s : Store) (formed : wellFormed s ≡ true) where
   unfolding clausesOf madeOf made
   clauses-are = length-append (plainOf s) addedOf ∙ ap (λ (m : ℕ). m + length addedOf) plain-length
 
-  start-is : (i : ℕ) → i < s .counts .clauses → starts 0 used-ends i ≡ literalCount i (s .ends)
-  unfolding starts
-  start-is zero h = sym (count-none 0 (s .ends) refl)
-  start-is (suc i) h =
-      let last : suc i - 1 ≡ i = omega arith in
-      getD-take (s .counts .clauses) (s .ends) i 0 (omega arith) ∙ ap (λ (k : ℕ). getD (s .ends) k 0) (sym last) ∙ sym (count-last (suc i) (s .ends) (λ e. omega arith))
+  start-is : (i : ℕ) → i < s .counts .clauses → getD (0 ∷ used-ends) i 0 ≡ literalCount i (s .ends)
+  start-is zero h = sym (start-at 0 (s .ends))
+  start-is (suc i) h = getD-take (s .counts .clauses) (s .ends) i 0 (omega arith) ∙ sym (start-at (suc i) (s .ends))
 
   -- a plain clause's literals
   pub plain-at : (q : ℕ) → 1 ≤ q → q ≤ s .counts .clauses → getD (plainOf s) (q - 1) [] ≡ slice (literalCount (q - 1) (s .ends)) (literalCount q (s .ends)) (s .literals)

@@ -1,6 +1,7 @@
 pub mod FormLaws
 pub mod Demands
 pub mod Formed
+pub mod Cuts
 pub mod Append
 pub mod StandingLaws
 pub mod Examples

@@ -1,15 +1,18 @@
--- A loop over the clauses that the ends cut, from clause c on, the first from f on: one law for each way out. Assumes nothing.
+-- The clauses that the ends cut: one by its number, and a loop from clause c on, the first from f on, with one law for each way out. Assumes nothing.
 use mathlib.Core.Path.{_≡_}
 use mathlib.Core.Bool.{true, false}
 use mathlib.Core.List.{List, [], _∷_}
 use Prim.Native.Nat.{ℕ, _+_, _≤_, _<_}
 use lib.ListN.{length, getD, drop, drop-of-length-le}
 use lib.Seq.{slice}
-use Rattle.lists.specs.Tests.{anyOf}
 use Rattle.lists.proofs.Steps.{drop-step}
-use Rattle.store.specs.Stores.{cut}
-use Rattle.symmetry.specs.Sets.{sameSet}
-use Rattle.symmetry.specs.Symmetry.{clauseImage, hasImage, missingFrom}
+use Rattle.store.specs.Stores.{literalCount, cut}
+use Rattle.store.proofs.Cuts.{cut-at, start-at}
+use Rattle.symmetry.specs.Symmetry.{hasImage, missingFrom}
+
+-- clause c, from 0
+pub clause-at : (literals ends : List ℕ) (c start : ℕ) → c < length ends → start ≡ literalCount c ends → getD (cut 0 literals ends) c [] ≡ slice start (getD ends c 0) literals
+clause-at literals ends c start h e = rw (e, start-at c ends) (cut-at 0 literals ends c h)
 
 module _ (literals ends : List ℕ) (f c : ℕ) where
   cut-step : c < length ends → cut f literals (drop c ends) ≡ slice f (getD ends c 0) literals ∷ cut (getD ends c 0) literals (drop (c + 1) ends)
@@ -19,21 +22,6 @@ module _ (literals ends : List ℕ) (f c : ℕ) where
   cut-end : length ends ≤ c → cut f literals (drop c ends) ≡ []
   unfolding cut
   cut-end h = rw (drop-of-length-le ends {i = c} h)
-
-  module _ (row clause : List ℕ) where
-    pub image-hit : c < length ends → sameSet (clauseImage row clause) (slice f (getD ends c 0) literals) ≡ true
-        → hasImage row (cut f literals (drop c ends)) clause ≡ true
-    unfolding hasImage anyOf
-    image-hit h e = rw (cut-step h, e)
-
-    pub image-miss : c < length ends → sameSet (clauseImage row clause) (slice f (getD ends c 0) literals) ≡ false
-        → hasImage row (cut f literals (drop c ends)) clause ≡ hasImage row (cut (getD ends c 0) literals (drop (c + 1) ends)) clause
-    unfolding hasImage anyOf
-    image-miss h e = rw (cut-step h, e)
-
-    pub image-end : length ends ≤ c → hasImage row (cut f literals (drop c ends)) clause ≡ false
-    unfolding hasImage anyOf
-    image-end h = rw (cut-end h)
 
   module _ (row : List ℕ) (formula : List (List ℕ)) (k : ℕ) where
     pub missing-here : c < length ends → hasImage row formula (slice f (getD ends c 0) literals) ≡ false

@@ -2,6 +2,8 @@ pub mod SetLaws
 pub mod ImageLaws
 pub mod Ranges
 pub mod Cuts
+pub mod BucketLaws
+pub mod Looking
 pub mod Finite
 pub mod Onto
 pub mod Theorem

@@ -1,3 +1,4 @@
 pub mod Sets
 pub mod Symmetry
 pub mod Fitting
+pub mod Bucket

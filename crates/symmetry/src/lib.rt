@@ -1,27 +1,68 @@
 // Whether a row is a symmetry of the plain formula (document 01, "Permutations", and refusal 11). Clauses are ranges of the literals slice and are
 // compared as sets; one function decides whether a clause is the image of another. The idea of the proof: a row permutes literals, so mapping
 // clauses to images is injective on sets of literals, and an injective map of a finite set of clauses into itself is onto; hence looking for each
-// clause's image is enough.
+// clause's image is enough. It is looked for in an index of the clauses by bucket, which depends on a clause's set of literals only.
+mod bucket;
+
 ghost use mathlib.Core.Path.{_≡_};
-ghost use Prim.Native.Nat.{_+_, _*_, _≤_};
-ghost use lib.ListN.{length};
+ghost use mathlib.Core.List.{[]};
+ghost use Prim.Native.Nat.{_+_, _*_, _≤_, _<_};
+ghost use lib.ListN.{length, getD, replicate};
 ghost use lib.Seq.{slice};
 ghost use Rattle.lists.specs.Tests.{has};
-ghost use Rattle.store.specs.Stores.{cut};
+ghost use Rattle.store.specs.Stores.{cut, maxClauses};
 ghost use Rattle.symmetry.specs.Sets.{within, sameSet};
 ghost use Rattle.symmetry.specs.Symmetry.{imageOf, clauseImage, hasImage, firstMissing};
 ghost use Rattle.symmetry.specs.Fitting.{Fitting, EndsWithin};
+ghost use Rattle.symmetry.specs.Bucket.{bucketCount, clauseBucket, Indexed};
 
 // The number, from 1, of the first of the clauses that `ends` cuts whose image under `row` is missing among them; 0 where none is.
 pub fn first_missing(literals: &[u16], ends: &[u16], row: &[u16]) -> usize
-    requires { ⌜ Fitting (now literals) (now row) × EndsWithin (now literals) (now ends) ⌝ }
+    requires { ⌜ Fitting (now literals) (now row) × EndsWithin (now literals) (now ends) × (length (now ends) ≤ maxClauses) ⌝ }
+    ensures { λ r. ⌜ r ≡ firstMissing (now (row .entry)) (cut 0 (now (literals .entry)) (now (ends .entry))) ⌝ }
+{
+    let mut heads = [0u16; 4096];
+    let mut nexts = [0u16; 4096];
+    index_clauses(literals, ends, &mut heads, &mut nexts);
+    first_missing_by(literals, ends, row, &heads, &nexts)
+}
+
+// Puts the clauses in an empty index.
+fn index_clauses(literals: &[u16], ends: &[u16], heads: &mut [u16], nexts: &mut [u16])
+    requires { ⌜ EndsWithin (now literals) (now ends) × (now heads ≡ replicate bucketCount 0) × (length (now ends) ≤ length (now nexts)) × (length (now ends) ≤ maxClauses) ⌝ }
+    ensures { λ _. ⌜ Indexed (cut 0 (now (literals .entry)) (now (ends .entry))) (now (heads .exit)) (now (nexts .exit)) ⌝ }
+{
+    for c in 0..ends.len() {
+        buckets::put(heads, nexts, clause_bucket(literals, ends, c), c);
+    }
+}
+
+// The bucket of clause c, from 0.
+fn clause_bucket(literals: &[u16], ends: &[u16], c: usize) -> usize
+    requires { ⌜ (c < length (now ends)) × EndsWithin (now literals) (now ends) ⌝ }
+    ensures { λ r. ⌜ r ≡ clauseBucket (cut 0 (now (literals .entry)) (now (ends .entry))) c ⌝ }
+{
+    let start = store::form::literal_count(ends, c);
+    let end = ends[c] as usize;
+    bucket::of_clause(literals, start, end)
+}
+
+// The number of the first clause whose image is missing, by an index of the clauses.
+fn first_missing_by(
+    literals: &[u16],
+    ends: &[u16],
+    row: &[u16],
+    heads: &[u16],
+    nexts: &[u16],
+) -> usize
+    requires { ⌜ Fitting (now literals) (now row) × EndsWithin (now literals) (now ends) × Indexed (cut 0 (now literals) (now ends)) (now heads) (now nexts) ⌝ }
     ensures { λ r. ⌜ r ≡ firstMissing (now (row .entry)) (cut 0 (now (literals .entry)) (now (ends .entry))) ⌝ }
 {
     let mut c = 0;
     let mut from = 0;
     while c < ends.len() {
         let to = ends[c] as usize;
-        if !has_image(literals, ends, row, from, to) {
+        if !has_image(literals, ends, row, heads, nexts, from, to) {
             return c + 1;
         }
         from = to;
@@ -30,22 +71,38 @@ pub fn first_missing(literals: &[u16], ends: &[u16], row: &[u16]) -> usize
     0
 }
 
-// Whether the image of the clause literals[from..to] is, as a set, one of the clauses.
-fn has_image(literals: &[u16], ends: &[u16], row: &[u16], from: usize, to: usize) -> bool
-    requires { ⌜ (to ≤ length (now literals)) × Fitting (now literals) (now row) × EndsWithin (now literals) (now ends) ⌝ }
+// Whether the image of the clause literals[from..to] is, as a set, one of the clauses: one of those in the image's bucket, then.
+fn has_image(
+    literals: &[u16],
+    ends: &[u16],
+    row: &[u16],
+    heads: &[u16],
+    nexts: &[u16],
+    from: usize,
+    to: usize,
+) -> bool
+    requires { ⌜ (to ≤ length (now literals)) × Fitting (now literals) (now row) × EndsWithin (now literals) (now ends) × Indexed (cut 0 (now literals) (now ends)) (now heads) (now nexts) ⌝ }
     ensures { λ r. ⌜ r ≡ hasImage (now (row .entry)) (cut 0 (now (literals .entry)) (now (ends .entry))) (slice from to (now (literals .entry))) ⌝ }
 {
-    let mut c = 0;
-    let mut start = 0;
-    while c < ends.len() {
-        let end = ends[c] as usize;
-        if is_image(literals, row, from, to, start, end) {
+    let mut left = buckets::head(heads, bucket::of_image(literals, row, from, to));
+    while left != 0 {
+        let c = left - 1;
+        if is_clause(literals, ends, row, from, to, c) {
             return true;
         }
-        start = end;
-        c += 1;
+        left = buckets::next(nexts, c);
     }
     false
+}
+
+// Whether the image of literals[from..to] is, as a set, clause c, from 0.
+fn is_clause(literals: &[u16], ends: &[u16], row: &[u16], from: usize, to: usize, c: usize) -> bool
+    requires { ⌜ (to ≤ length (now literals)) × (c < length (now ends)) × Fitting (now literals) (now row) × EndsWithin (now literals) (now ends) ⌝ }
+    ensures { λ r. ⌜ r ≡ sameSet (clauseImage (now (row .entry)) (slice from to (now (literals .entry)))) (getD (cut 0 (now (literals .entry)) (now (ends .entry))) c []) ⌝ }
+{
+    let start = store::form::literal_count(ends, c);
+    let end = ends[c] as usize;
+    is_image(literals, row, from, to, start, end)
 }
 
 // Whether the image of literals[from..to] is, as a set, literals[start..end]. No other function compares clauses.

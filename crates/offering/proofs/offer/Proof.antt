@@ -86,7 +86,7 @@ slice-aggregate-first-missing-3 : tie.Need-slice-aggregate-first-missing-3
 slice-aggregate-first-missing-3 c = sym (filled-prefix (c .before .before .before .before .before))
 
 first-missing-requires : tie.Need-first-missing-requires
-first-missing-requires c κs = let s = c .before .before .before .before .before .before .before .before .before .before .before .before .before .before .before in let f = facts s in (rw (c .before .before .before .literal-count .ensures) (fitting (S s) _ f (filled-prefix (c .before .before .before .before .before))), rw (c .before .before .before .literal-count .ensures) (ends-within (S s) f))
+first-missing-requires c κs = let s = c .before .before .before .before .before .before .before .before .before .before .before .before .before .before .before in let f = facts s in (rw (c .before .before .before .literal-count .ensures) (fitting (S s) _ f (filled-prefix (c .before .before .before .before .before))), rw (c .before .before .before .literal-count .ensures) (ends-within (S s) f), omega (arith, length-take-le (s .args .counts .clauses) (s .args .ends .now) (f .ends-long), f .clauses-fit))
 
 returns-2 : tie.Need-returns-2
 returns-2 c = let s = c .before .before .before .before .before .before .before .before .before .before .before .before .before .before .before .before .before in (sym (not-symmetric (S s) _ _ (stated (c .before .before .before .before .before .before .before .before .before)) _ (missing-is (c .before)) (c .if1 .taken)), refl)

@@ -1,64 +1,70 @@
--- `symmetry::has_image` meets its contract. The invariant: the image is among the clauses if it is among those from clause c on, the first from
--- `start` on. Assumes nothing.
-use mathlib.Core.Path.{_≡_, refl, sym, _∙_}
+-- `symmetry::has_image` meets its contract. The invariant: the image is among the clauses if it is among those up to number `left`. Assumes nothing.
+use mathlib.Core.Path.{sym, _∙_}
 use Prim.Native.Nat.{_-_}
-use lib.ListN.{length, drop}
 use lib.Seq.{slice}
 use Rattle.store.specs.Stores.{cut}
-use Rattle.symmetry.specs.Symmetry.{hasImage}
-use Rattle.symmetry.proofs.Cuts.{image-hit, image-miss, image-end}
-use borrow.Author.Needs.{needs}
+use Rattle.store.proofs.Cuts.{length-cut}
+use Rattle.symmetry.specs.Symmetry.{clauseImage}
+use Rattle.symmetry.proofs.BucketLaws.{bucket-low}
+use Rattle.symmetry.proofs.Looking.{Looking, look-begin, look-on, look-falls, look-hit, look-end}
 use native.Mathlib.Omega.{arith}
 use Rattle.symmetry.proofs.has_image.Statement.{statement}
 use Rattle.symmetry.proofs.has_image.Tie as tie
 
 abbrev Inv-loop : tie.InvT-loop
-Inv-loop literals ends row from to c₀ start₀ c start = hasImage row (cut 0 literals ends) (slice from to literals) ≡ hasImage row (cut start literals (drop c ends)) (slice from to literals)
+Inv-loop literals ends row heads nexts from to left₀ left = Looking row (slice from to literals) (cut 0 literals ends) left
 
 abbrev μ-loop : tie.MeasureT-loop
-μ-loop literals ends row from to c₀ start₀ c start = length ends - c
+μ-loop literals ends row heads nexts from to left₀ left = left
+
+of-image-requires : tie.Need-of-image-requires Inv-loop μ-loop
+of-image-requires c κs = let s = c .before .before .before .before .before in (s .pre .0, s .pre .1)
+
+head-requires : tie.Need-head-requires Inv-loop μ-loop
+head-requires c κs =
+    let s = c .before .before .before .before .before .before in
+    omega (arith, c .of-image .ensures, bucket-low (clauseImage (s .args .row .now) (slice (s .args .from) (s .args .to) (s .args .literals .now))), s .pre .3 .heads-long)
 
 loop-holds : tie.Need-loop-holds Inv-loop μ-loop
-loop-holds c = refl
+loop-holds c =
+    let s = c .before .before .before .before .before .before .before in
+    look-begin _ _ _ (s .args .heads .now) (s .args .nexts .now) (s .pre .3) _ _ (c .before .of-image .ensures) (c .head .ensures)
 
-mul-end : tie.Need-mul-end Inv-loop μ-loop
-mul-end c = omega arith
+sub-c : tie.Need-sub-c Inv-loop μ-loop
+sub-c c = omega arith
 
-shared-slice-read-end : tie.Need-shared-slice-read-end Inv-loop μ-loop
-shared-slice-read-end c = omega arith
-
-cast-end : tie.Need-cast-end Inv-loop μ-loop
-cast-end c = omega (arith, c .shared-slice-known4 .given (c .before .before .loop .c))
-
-is-image-requires : tie.Need-is-image-requires Inv-loop μ-loop
-is-image-requires c κs =
-    let at = c .before .before in
-    let s = at .before .before .before .before in
-    (s .pre .0, s .pre .2 (at .loop .c) (search needs), s .pre .1)
+is-clause-requires : tie.Need-is-clause-requires Inv-loop μ-loop
+is-clause-requires c κs =
+    let at = c .before in
+    let s = at .before .before .before .before .before .before .before .before in
+    (s .pre .0, omega (arith, at .loop .inv .within, length-cut 0 (s .args .literals .now) (s .args .ends .now)), s .pre .1, s .pre .2)
 
 returns : tie.Need-returns Inv-loop μ-loop
 returns c =
-    let at = c .before .before .before .before in
-    let a = at .before .before .before .before .args in
-    sym (at .loop .inv ∙ image-hit (a .literals .now) (a .ends .now) (at .loop .start) (at .loop .c) _ _ (search needs) (sym (c .before .is-image .ensures) ∙ c .if1 .taken))
+    let at = c .before .before .before in
+    sym (look-hit _ _ _ (at .loop .left) (at .loop .left - 1) (at .loop .inv) (omega arith) (sym (c .before .is-clause .ensures) ∙ c .if1 .taken))
 
-add-c : tie.Need-add-c Inv-loop μ-loop
-add-c c = omega arith
+next-requires : tie.Need-next-requires Inv-loop μ-loop
+next-requires c κs =
+    let at = c .before .before .before in
+    let s = at .before .before .before .before .before .before .before .before in
+    omega (arith, at .loop .inv .within, s .pre .3 .nexts-long)
 
 loop-less : tie.Need-loop-less Inv-loop μ-loop
-loop-less c = omega arith
+loop-less c =
+    let at = c .before .before .before .before in
+    let s = at .before .before .before .before .before .before .before .before in
+    omega (arith, c .next .ensures, look-falls _ _ _ (s .args .heads .now) (s .args .nexts .now) (s .pre .3) (at .loop .left) (at .loop .left - 1) (at .loop .inv) (omega arith))
 
 loop-again : tie.Need-loop-again Inv-loop μ-loop
 loop-again c =
     let at = c .before .before .before .before in
-    let a = at .before .before .before .before .args in
-    at .loop .inv ∙ image-miss (a .literals .now) (a .ends .now) (at .loop .start) (at .loop .c) _ _ (search needs) (sym (c .before .is-image .ensures) ∙ c .if1 .left)
+    let s = at .before .before .before .before .before .before .before .before in
+    look-on _ _ _ (s .args .heads .now) (s .args .nexts .now) (s .pre .3) (at .loop .left) (at .loop .left - 1) _ (at .loop .inv) (omega arith)
+    (sym (c .before .before .is-clause .ensures) ∙ c .before .if1 .left) (c .next .ensures)
 
 returns-2 : tie.Need-returns-2 Inv-loop μ-loop
-returns-2 c =
-    let at = c .before in
-    let a = at .before .before .before .before .args in
-    sym (at .loop .inv ∙ image-end (a .literals .now) (a .ends .now) (at .loop .start) (at .loop .c) _ _ (search needs))
+returns-2 c = let at = c .before in sym (look-end _ _ _ (at .loop .left) (at .loop .inv) (omega arith))
 
 pub has-image-spec : {M : Type 1} → statement M
 has-image-spec =
@@ -66,13 +72,13 @@ has-image-spec =
     (tie.spec
     Inv-loop
     μ-loop
+    of-image-requires
+    head-requires
     loop-holds
-    mul-end
-    shared-slice-read-end
-    cast-end
-    is-image-requires
+    sub-c
+    is-clause-requires
     returns
-    add-c
+    next-requires
     loop-less
     loop-again
     returns-2)

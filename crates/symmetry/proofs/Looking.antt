@@ -1,0 +1,43 @@
+-- The image of a clause is looked for in its bucket: a clause in another bucket has other literals. Assumes nothing.
+use mathlib.Core.Path.{_≡_, ap, _∙_}
+use mathlib.Core.Bool.{true, false}
+use mathlib.Core.List.{List, []}
+use Prim.Native.Nat.{ℕ, _+_, _≤_, _<_}
+use native.Mathlib.Omega.{arith}
+use lib.ListN.{length, getD}
+use Rattle.buckets.proofs.Index.{next-below}
+use Rattle.buckets.proofs.Walks.{Walk, begin, go-on, hit, end}
+use Rattle.symmetry.specs.Sets.{sameSet}
+use Rattle.symmetry.specs.Symmetry.{clauseImage, hasImage}
+use Rattle.symmetry.specs.Bucket.{bucketOf, clauseBucket, Indexed}
+use Rattle.symmetry.proofs.BucketLaws.{same-bucket, bucket-low}
+
+module _ (row clause : List ℕ) (formula : List (List ℕ)) where
+  abbrev image : List ℕ
+  image = clauseImage row clause
+
+  -- the clauses up to number `left`, from 1, are still to be compared
+  abbrev pub Looking : ℕ → Type 0
+  Looking left = Walk (sameSet image) formula [] (clauseBucket formula) (bucketOf image) left
+
+  pub look-hit : (left c : ℕ) → Looking left → left ≡ c + 1 → sameSet image (getD formula c []) ≡ true → hasImage row formula clause ≡ true
+  unfolding hasImage
+  look-hit left c w e t = hit (sameSet image) formula [] (clauseBucket formula) (bucketOf image) left c w e t
+
+  pub look-end : (left : ℕ) → Looking left → left ≡ 0 → hasImage row formula clause ≡ false
+  unfolding hasImage
+  look-end left w e = end (sameSet image) formula [] (clauseBucket formula) (bucketOf image) left w e
+
+  module _ (heads nexts : List ℕ) (index : Indexed formula heads nexts) where
+    own : (c : ℕ) → c < length formula → sameSet image (getD formula c []) ≡ true → clauseBucket formula c ≡ bucketOf image
+    own c h t = same-bucket image (getD formula c []) t
+
+    pub look-begin : (b left : ℕ) → b ≡ bucketOf image → left ≡ getD heads b 0 → Looking left
+    look-begin b left e f =
+        begin (sameSet image) formula [] (clauseBucket formula) (bucketOf image) heads nexts (index .holds) own (omega (arith, bucket-low image, index .heads-long)) left (f ∙ ap (λ (k : ℕ). getD heads k 0) e)
+
+    pub look-on : (left c then : ℕ) → Looking left → left ≡ c + 1 → sameSet image (getD formula c []) ≡ false → then ≡ getD nexts c 0 → Looking then
+    look-on left c then w e t f = go-on (sameSet image) formula [] (clauseBucket formula) (bucketOf image) heads nexts (index .holds) own left c w e t then f
+
+    pub look-falls : (left c : ℕ) → Looking left → left ≡ c + 1 → getD nexts c 0 ≤ c
+    look-falls left c w e = next-below (clauseBucket formula) (length formula) c heads nexts (index .holds) (omega (arith, w .within))

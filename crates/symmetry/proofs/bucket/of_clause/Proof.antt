@@ -1,0 +1,70 @@
+-- `symmetry::bucket::of_clause` meets its contract. The invariant: the bucket is that of the codes from i on, with the least and the greatest of those
+-- before them. Assumes nothing.
+use mathlib.Core.Path.{_≡_, refl, sym, _∙_}
+use Prim.Native.Nat.{_-_}
+use lib.Seq.{slice}
+use Rattle.symmetry.specs.Bucket.{bucketFrom, bucketOf}
+use Rattle.symmetry.proofs.BucketLaws.{clause-more, clause-end}
+use borrow.Author.Needs.{needs}
+use native.Mathlib.Omega.{arith}
+use Rattle.symmetry.proofs.bucket.of_clause.Statement.{statement}
+use Rattle.symmetry.proofs.bucket.of_clause.Tie as tie
+
+abbrev Inv-loop : tie.InvT-loop
+Inv-loop literals from to least₀ greatest₀ i₀ least greatest i = bucketOf (slice from to literals) ≡ bucketFrom least greatest (slice i to literals)
+
+abbrev μ-loop : tie.MeasureT-loop
+μ-loop literals from to least₀ greatest₀ i₀ least greatest i = to - i
+
+loop-holds : tie.Need-loop-holds Inv-loop μ-loop
+loop-holds c = refl
+
+mul-code : tie.Need-mul-code Inv-loop μ-loop
+mul-code c = omega arith
+
+shared-slice-read-code : tie.Need-shared-slice-read-code Inv-loop μ-loop
+shared-slice-read-code c = omega arith
+
+lesser-requires : tie.Need-lesser-requires Inv-loop μ-loop
+lesser-requires c κs = search needs
+
+greater-requires : tie.Need-greater-requires Inv-loop μ-loop
+greater-requires c κs = search needs
+
+add-i : tie.Need-add-i Inv-loop μ-loop
+add-i c = omega arith
+
+loop-less : tie.Need-loop-less Inv-loop μ-loop
+loop-less c = omega arith
+
+loop-again : tie.Need-loop-again Inv-loop μ-loop
+loop-again c =
+    let at = c .before .before .before .before in
+    let s = at .before .before in
+    at .loop .inv ∙ clause-more (s .args .literals .now) (at .loop .i) (s .args .to) (s .pre) _ _ (search needs) _ _ (c .before .lesser .ensures) (c .greater .ensures)
+
+number-requires : tie.Need-number-requires Inv-loop μ-loop
+number-requires c κs = search needs
+
+returns : tie.Need-returns Inv-loop μ-loop
+returns c =
+    let at = c .before .before in
+    let s = at .before .before in
+    c .number .ensures ∙ sym (at .loop .inv ∙ clause-end (s .args .literals .now) (at .loop .i) (s .args .to) (s .pre) _ _ (search needs))
+
+pub of-clause-spec : {M : Type 1} → statement M
+of-clause-spec =
+    tie.close
+    (tie.spec
+    Inv-loop
+    μ-loop
+    loop-holds
+    mul-code
+    shared-slice-read-code
+    lesser-requires
+    greater-requires
+    add-i
+    loop-less
+    loop-again
+    number-requires
+    returns)

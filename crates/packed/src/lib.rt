@@ -2,7 +2,7 @@
 // values words; every definition above is over lists of values. The idea of the proofs: a list of words is the table of its bits, and two
 // tables first differ where the exclusive or of their first unequal words has its highest bit.
 ghost use mathlib.Core.Path.{_≡_};
-ghost use mathlib.Core.Bool.{Bool, true, false};
+ghost use mathlib.Core.Bool.{false};
 ghost use Prim.Native.Nat.{_-_, _*_, _≤_};
 ghost use lib.ListN.{length};
 ghost use Rattle.packed.specs.Words.{maxWords, bitAt, isAssignment};

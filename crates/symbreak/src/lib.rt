@@ -8,7 +8,7 @@ use store::form::Standing;
 use store::record::Record;
 use store::refusal::Refusal;
 ghost use mathlib.Core.Path.{_≡_};
-ghost use mathlib.Core.List.{List, []};
+ghost use mathlib.Core.List.{[]};
 ghost use lib.ListN.{length};
 ghost use Rattle.store.specs.Stores.{lent, closedRecord};
 ghost use Rattle.packed.specs.Order.{part, lesserOf};

@@ -1,6 +1,5 @@
 -- "Clauses are sets of literals and formulas are sets of clauses" (document 01, "Permutations"): the tests, and what they decide.
 -- Assumes nothing.
-use mathlib.Core.Path.{_≡_}
 use Prim.Native.Nat.{ℕ}
 use mathlib.Core.Bool.{Bool, _&&_}
 use mathlib.Core.List.{List, List·Memᴰ}

@@ -2,8 +2,7 @@
 use mathlib.Core.Path.{_≡_, ap}
 use Prim.Native.Nat.{_+_, _-_, _*_, _≤_}
 use native.Mathlib.Omega.{arith}
-use borrow.Author.Needs.{needs}
-use lib.ListN.{length, getD}
+use lib.ListN.{length}
 use Rattle.lexleader.specs.Rows.{pairsOf}
 use Rattle.lexleader.specs.Clause.{pairsAt}
 use Rattle.lexleader.proofs.Walk.{pairs-start, walk-counts, walk-end}

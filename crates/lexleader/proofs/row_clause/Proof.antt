@@ -1,10 +1,9 @@
 -- `lexleader::row_clause` meets its contract: the place of the clause's number has the clause. Assumes nothing.
 use mathlib.Core.Path.{_≡_, refl, ap, _∙_}
 use Prim.Native.Nat.{ℕ, _+_, _-_, _/_, _≤_}
-use mathlib.Core.List.{List}
 use native.Mathlib.Omega.{arith}
-use lib.ListN.{length, drop, length-drop}
-use Rattle.lexleader.specs.Rows.{Pair, pairsOf}
+use lib.ListN.{length, drop}
+use Rattle.lexleader.specs.Rows.{pairsOf}
 use Rattle.lexleader.specs.Clause.{pairsAt}
 use Rattle.lexleader.proofs.Walk.{pairs-length}
 use Rattle.lexleader.proofs.Numbers.{row-most}

@@ -77,7 +77,7 @@ pub fn read(text: &[u8], at: usize) -> Reading
     }
     // a zero stands alone
     if text[start] == b'0' {
-        if 1 < end - at {
+        if at + 1 < end {
             return Reading::Refused(at);
         }
     }

@@ -91,8 +91,8 @@ returns-3 c =
 shared-slice-read-if4 : tie.Need-shared-slice-read-if4
 shared-slice-read-if4 c = omega (arith, walked-within (walked (c .before .before .before .before)))
 
-sub-if5 : tie.Need-sub-if5
-sub-if5 c = search needs
+add-if5 : tie.Need-add-if5
+add-if5 c = omega (arith, walked-within (walked (c .before .before .before .before .before)))
 
 returns-4 : tie.Need-returns-4
 returns-4 c =
@@ -132,7 +132,7 @@ read-spec =
     returns-2
     returns-3
     shared-slice-read-if4
-    sub-if5
+    add-if5
     returns-4
     returns-5
     returns-6)

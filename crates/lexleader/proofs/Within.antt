@@ -1,7 +1,7 @@
 -- The made formula is one of the variables 1..N: every literal of it is a literal of these. Assumes nothing.
 use mathlib.Core.Path.{_≡_, refl, _∙_}
 use mathlib.Core.Bool.{Bool, true, false, cond, _&&_}
-use mathlib.Core.List.{List, [], _∷_, _++_}
+use mathlib.Core.List.{List, [], _∷_}
 use Prim.Native.Nat.{ℕ, _+_, _-_, _*_, _/_, _%_, _≤_}
 use native.Mathlib.Omega.{arith}
 use borrow.Author.Tests.{eqb-true, eqb-false, le-leb}
@@ -33,7 +33,7 @@ all-literals-more n N h (code ∷ clause) e =
     and-both (literal-more n N code h (and-l (isLiteral n code) _ e)) (all-literals-more n N h clause (and-r (isLiteral n code) _ e))
 
 -- every clause of a formula
-formula-more : (n N : ℕ) → n ≤ N → (formula : List (List ℕ)) → allOf (allOf (isLiteral n)) formula ≡ true → allOf (allOf (isLiteral N)) formula ≡ true
+pub formula-more : (n N : ℕ) → n ≤ N → (formula : List (List ℕ)) → allOf (allOf (isLiteral n)) formula ≡ true → allOf (allOf (isLiteral N)) formula ≡ true
 unfolding allOf
 formula-more n N h [] e = refl
 formula-more n N h (clause ∷ formula) e =

@@ -1,18 +1,20 @@
--- The first false clause: a clause that holds is passed, one that does not is the answer. The literals that are tried are those of 1..N. Assumes nothing.
-use mathlib.Core.Path.{_≡_, refl, ap, _∙_}
+-- The first false clause: clauses that hold are passed, one that does not is the answer. The literals that are tried are those of 1..N. Assumes nothing.
+use mathlib.Core.Path.{_≡_, refl, sym, ap, _∙_}
 use mathlib.Core.Bool.{Bool, true, false}
-use mathlib.Core.List.{List, [], _∷_}
-use Prim.Native.Nat.{ℕ, _+_, _<_}
+use mathlib.Core.List.{List, [], _∷_, _++_}
+use Prim.Native.Nat.{ℕ, suc, _+_, _<_}
+use native.Mathlib.Nat.{add-zero}
 use native.Mathlib.Omega.{arith}
 use lib.ListN.{length, getD}
 use Rattle.lists.specs.Tests.{allOf}
-use Rattle.lists.proofs.Cases.{and-r}
+use Rattle.lists.proofs.Cases.{and-l, and-r}
+use Rattle.lists.proofs.Members.{all-append}
 use Rattle.store.specs.Literals.{isLiteral}
 use Rattle.store.specs.Stores.{Store, wellFormed, plainOf, heldRows}
 use Rattle.store.proofs.Demands.{rows-of}
 use Rattle.store.proofs.Formed.{formed}
 use Rattle.symmetry.proofs.Facts.{literals-within}
-use Rattle.lexleader.specs.Models.{clauseHolds}
+use Rattle.lexleader.specs.Models.{clauseHolds, formulaHolds}
 use Rattle.lexleader.proofs.Within.{made-within}
 use Rattle.emit.specs.Emit.{madeOf, variablesOf}
 use Rattle.checking.specs.Checking.{falseFrom}
@@ -33,11 +35,21 @@ module _ (q : ℕ) (v : ℕ → Bool) where
   unfolding falseFrom
   passed clauses rest is h = ap (falseFrom q v) is ∙ rw h
 
--- every literal of the made formula is one of 1..N, and so is every one after the first clause
+-- clauses that all hold
+pub passed-all : (q : ℕ) (v : ℕ → Bool) (clauses rest : List (List ℕ)) → formulaHolds v clauses ≡ true → falseFrom q v (clauses ++ rest) ≡ falseFrom (q + length clauses) v rest
+unfolding falseFrom formulaHolds allOf
+passed-all q v [] rest h = rw add-zero
+passed-all q v (clause ∷ clauses) rest h =
+    let on : q + 1 + length clauses ≡ q + suc (length clauses) = omega arith in
+    rw (and-l (clauseHolds v clause) (formulaHolds v clauses) h) (passed-all (q + 1) v clauses rest (and-r (clauseHolds v clause) (formulaHolds v clauses) h) ∙ rw on)
+
+-- every literal of the made formula is one of 1..N, and so is every one of its parts
 pub store-within : (s : Store) → wellFormed s ≡ true → allOf (allOf (isLiteral (variablesOf s))) (madeOf s) ≡ true
 unfolding variablesOf madeOf
 store-within s f = made-within (s .counts .variables) (plainOf s) (heldRows s) (literals-within s (formed s f)) (rows-of s f)
 
-pub rest-within : (q : List ℕ → Bool) {clause : List ℕ} (clauses rest : List (List ℕ)) → clauses ≡ clause ∷ rest → allOf q clauses ≡ true → allOf q rest ≡ true
-unfolding allOf
-rest-within q {clause} clauses rest is h = and-r (q clause) (allOf q rest) (rw is at h)
+pub rest-within : (q : List ℕ → Bool) {clauses : List (List ℕ)} (front rest : List (List ℕ)) → clauses ≡ front ++ rest → allOf q clauses ≡ true → allOf q rest ≡ true
+rest-within q front rest is h = and-r (allOf q front) (allOf q rest) (sym (all-append q front rest) ∙ (rw is at h))
+
+pub front-within : (q : List ℕ → Bool) {clauses : List (List ℕ)} (front rest : List (List ℕ)) → clauses ≡ front ++ rest → allOf q clauses ≡ true → allOf q front ≡ true
+front-within q front rest is h = and-l (allOf q front) (allOf q rest) (sym (all-append q front rest) ∙ (rw is at h))

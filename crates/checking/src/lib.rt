@@ -1,21 +1,26 @@
 // Checking an assignment of the made formula's variables (document 01, "Assignments, filling in and descent"): the clauses are tried one after another, by a
-// cursor, until one is false. What carries the proofs: the first false clause of all is the first false one of those that are left.
+// cursor, until one is false; where the six of an auxiliary all hold they are passed at once. What carries the proofs: the first false clause of all is the
+// first false one of those that are left.
 use cursor::Cursor;
+use lexleader::Place;
 use store::record::Record;
 ghost use mathlib.Core.Path.{_≡_};
 ghost use mathlib.Core.Bool.{true};
 ghost use mathlib.Core.List.{[]};
-ghost use Prim.Native.Nat.{ℕ, _*_, _<_};
+ghost use Prim.Native.Nat.{ℕ, _*_, _≤_, _<_};
 ghost use lib.ListN.{length, getD};
 ghost use Rattle.lists.specs.Tests.{allOf};
 ghost use Rattle.packed.specs.Words.{bitsOf, isAssignment};
 ghost use Rattle.packed.specs.Order.{valueOf};
 ghost use Rattle.store.specs.Literals.{isLiteral};
 ghost use Rattle.store.specs.Stores.{lent, wellFormed};
-ghost use Rattle.lexleader.specs.Models.{clauseHolds};
-ghost use Rattle.cursor.specs.Cursors.{clausesLeft, Points};
+ghost use Rattle.lexleader.specs.Models.{clauseHolds, formulaHolds};
+ghost use Rattle.lexleader.specs.Made.{agrees};
+ghost use Rattle.lexleader.specs.Clause.{pairAt};
+ghost use Rattle.lexleader.specs.Places.{sixAt};
+ghost use Rattle.cursor.specs.Cursors.{rowAt, clausesLeft, Points, AtAuxiliary};
 ghost use Rattle.emit.specs.Emit.{variablesOf};
-ghost use Rattle.checking.specs.Checking.{firstFalse};
+ghost use Rattle.checking.specs.Checking.{firstFalse, Within, ordered, due};
 
 // The number of the first clause of the made formula that an assignment of 1..N makes false, 0 where there is none.
 pub fn first_false(
@@ -33,6 +38,11 @@ pub fn first_false(
     let mut at = cursor::start(counts, literals, ends, images);
     let mut q = 1;
     while q <= clauses {
+        if six_hold(counts, literals, ends, images, at, a) {
+            at = cursor::next_auxiliary(counts, literals, ends, images, at);
+            q += 6;
+            continue;
+        }
         if !holds_at(counts, literals, ends, images, at, a) {
             return q;
         }
@@ -40,6 +50,89 @@ pub fn first_false(
         q += 1;
     }
     0
+}
+
+// Whether a cursor stands at the first of an auxiliary's six clauses and they all hold.
+fn six_hold(
+    counts: Record,
+    literals: &[u16],
+    ends: &[u16],
+    images: &[u16],
+    at: Cursor,
+    a: &[u64],
+) -> bool
+    requires { ⌜ (wellFormed (lent counts (now literals) (now ends) (now images)) ≡ true) × Points counts (now images) at × (isAssignment (variablesOf (lent counts (now literals) (now ends) (now images))) (now a) ≡ true) × (allOf (allOf (isLiteral (variablesOf (lent counts (now literals) (now ends) (now images))))) (clausesLeft (lent counts (now literals) (now ends) (now images)) at) ≡ true) ⌝ }
+    ensures { λ r. ⌜ (r ≡ true → AtAuxiliary counts at × (formulaHolds (valueOf (bitsOf (variablesOf (lent counts (now (literals .entry)) (now (ends .entry)) (now (images .entry)))) (now (a .entry)))) (sixAt (rowAt counts (now (images .entry)) (at .row)) (at .place)) ≡ true)) ⌝ }
+{
+    if !cursor::at_auxiliary(counts, at) {
+        return false;
+    }
+    let from = at.row * counts.variables;
+    let to = from + counts.variables;
+    let place = at.place;
+    table_holds(&images[from..to], place, a)
+}
+
+// Whether the six clauses of the auxiliary at a place hold: it is true exactly when it is due, the next pair is ordered where it is true, and so is the
+// pair of the row's first auxiliary.
+fn table_holds(row: &[u16], place: Place, a: &[u64]) -> bool
+    requires { ⌜ (length (now row) ≤ 512) × (place .index < length (now row)) × (place .next < length (now row)) × (place .auxiliary ≤ 80000) × (allOf (allOf (isLiteral (64 * length (now a)))) (sixAt (now row) place) ≡ true) ⌝ }
+    ensures { λ r. ⌜ ((n : ℕ) → allOf (allOf (isLiteral n)) (sixAt (now (row .entry)) place) ≡ true → r ≡ formulaHolds (valueOf (bitsOf n (now (a .entry)))) (sixAt (now (row .entry)) place)) ⌝ }
+{
+    let i = place.index;
+    let next = place.next;
+    let due = is_due(row, place, a);
+    if valuation::literal_value(a, 2 * place.auxiliary) {
+        if !due {
+            return false;
+        }
+        return is_ordered(row, next, a);
+    }
+    if due {
+        return false;
+    }
+    if place.first {
+        return is_ordered(row, i, a);
+    }
+    true
+}
+
+// Whether the auxiliary at a place has to be true.
+fn is_due(row: &[u16], place: Place, a: &[u64]) -> bool
+    requires { ⌜ (length (now row) ≤ 512) × (place .index < length (now row)) × (place .auxiliary ≤ 80000) × (allOf (allOf (isLiteral (64 * length (now a)))) (sixAt (now row) place) ≡ true) ⌝ }
+    ensures { λ r. ⌜ ((n : ℕ) → allOf (allOf (isLiteral n)) (sixAt (now (row .entry)) place) ≡ true → r ≡ due (valueOf (bitsOf n (now (a .entry)))) (now (row .entry)) place) ⌝ }
+{
+    let i = place.index;
+    if place.first {
+        return pair_agrees(row, i, a);
+    }
+    if !valuation::literal_value(a, 2 * (place.auxiliary - 1)) {
+        return false;
+    }
+    pair_agrees(row, i, a)
+}
+
+// Whether a variable and its image have the same value.
+fn pair_agrees(row: &[u16], i: usize, a: &[u64]) -> bool
+    requires { ⌜ (i < length (now row)) × (i ≤ 512) × Within (64 * length (now a)) (pairAt (now row) i) ⌝ }
+    ensures { λ r. ⌜ ((n : ℕ) → Within n (pairAt (now (row .entry)) i) → r ≡ agrees (valueOf (bitsOf n (now (a .entry)))) (pairAt (now (row .entry)) i)) ⌝ }
+{
+    let x = lexleader::own_code(i);
+    let y = store::literal::wide(row[i]);
+    valuation::literal_value(a, x) == valuation::literal_value(a, y)
+}
+
+// Whether a variable's image is true where the variable is.
+fn is_ordered(row: &[u16], i: usize, a: &[u64]) -> bool
+    requires { ⌜ (i < length (now row)) × (i ≤ 512) × Within (64 * length (now a)) (pairAt (now row) i) ⌝ }
+    ensures { λ r. ⌜ ((n : ℕ) → Within n (pairAt (now (row .entry)) i) → r ≡ ordered (valueOf (bitsOf n (now (a .entry)))) (pairAt (now (row .entry)) i)) ⌝ }
+{
+    let x = lexleader::own_code(i);
+    let y = store::literal::wide(row[i]);
+    if !valuation::literal_value(a, x) {
+        return true;
+    }
+    valuation::literal_value(a, y)
 }
 
 // Whether the clause at a cursor has a true literal.

@@ -31,10 +31,6 @@ begins s c none all =
     let n = s .counts .variables in
     rw (none, all) (ap (λ (rows : List (List ℕ)). plainOf s ++ rowsClauses (n + 1) rows) (left-all n (s .counts .rows) (s .images)))
 
--- the first clause is the head
-pub by-head : {l : List (List ℕ)} {x : List ℕ} {r : List (List ℕ)} → l ≡ x ∷ r → l ≡ getD l 0 [] ∷ r
-by-head e = rw e
-
 -- ---- the next clause
 
 module _ (s : Store) (formed : wellFormed s ≡ true) (c : Cursor) where
@@ -77,9 +73,9 @@ module _ (s : Store) (formed : wellFormed s ≡ true) (c : Cursor) where
       go (inl l) = l
       go (inr l) = absurd (omega (arith, ap length (past-plain h ∙ nothing-added (s .counts) (s .images) (c .row) l (c .place))))
 
--- past a clause that a row adds
-pub next-there : (s : Store) → wellFormed s ≡ true → (c d : Cursor) → s .counts .clauses ≤ c .plain → d .plain ≡ c .plain → (x : List ℕ)
-    → addedLeft (rowsLeft (s .counts) (s .images) (c .row)) (c .place) ≡ x ∷ addedLeft (rowsLeft (s .counts) (s .images) (d .row)) (d .place)
-    → clausesLeft s c ≡ getD (clausesLeft s c) 0 [] ∷ clausesLeft s d
-next-there s formed c d h same x e =
-    by-head (past-plain s formed c h ∙ e ∙ ap (λ (l : List (List ℕ)). x ∷ l) (sym (past-plain s formed d (omega arith))))
+-- past clauses that a row adds
+pub past-added : (s : Store) → wellFormed s ≡ true → (c d : Cursor) → s .counts .clauses ≤ c .plain → d .plain ≡ c .plain → (clauses : List (List ℕ))
+    → addedLeft (rowsLeft (s .counts) (s .images) (c .row)) (c .place) ≡ clauses ++ addedLeft (rowsLeft (s .counts) (s .images) (d .row)) (d .place)
+    → clausesLeft s c ≡ clauses ++ clausesLeft s d
+past-added s formed c d h same clauses e =
+    past-plain s formed c h ∙ e ∙ ap (λ (l : List (List ℕ)). clauses ++ l) (sym (past-plain s formed d (omega arith)))

@@ -1,25 +1,26 @@
--- The rows that are left, and what they add from a place on: a row that adds nothing is passed, and a clause taken leaves those after it. Assumes nothing.
+-- The rows that are left, and what they add from a place on: a row that adds nothing is passed, and clauses taken leave those after them. Assumes nothing.
 use mathlib.Core.Path.{_≡_, sym, ap, ap₂, subst, _∙_}
-use mathlib.Core.List.{List, [], _∷_, _++_}
+use mathlib.Core.Bool.{false}
+use mathlib.Core.List.{List, [], _∷_, _++_, append-assoc}
 use Prim.Native.Nat.{ℕ, _+_, _-_, _*_, _≤_, _<_}
 use native.Mathlib.Omega.{arith}
 use lib.ListN.{length, getD, take, drop, List·getD-append}
 use Rattle.store.specs.declared.record.Record.{Record}
 use Rattle.lexleader.specs.Made.{rowClauses, auxiliaries, rowsClauses}
-use Rattle.lexleader.specs.Places.{clausesAt, auxiliaryAfter, Stands}
+use Rattle.lexleader.specs.Clause.{pairsAt}
+use Rattle.lexleader.specs.Places.{clausesOn, clausesAt, sixAt, auxiliaryAfter, Stands}
 use Rattle.lexleader.specs.declared.Place.{Place}
 use Rattle.lexleader.proofs.Left.{part-is, left-step, left-end, row-size, auxiliaries-most}
-use Rattle.lexleader.proofs.Places.{past, some-clause}
+use Rattle.lexleader.proofs.Places.{past, then-next, some-clause}
 use Rattle.cursor.specs.Cursors.{rowAt, rowsLeft, addedLeft, Points}
-use Rattle.cursor.specs.declared.Cursor.{Cursor}
 
 -- p is the place of a row's first clause, whose first auxiliary is e
 abbrev pub First : ℕ → List ℕ → Place → Type 0
 First e row p = Stands row p × (clausesAt row p ≡ rowClauses e row) × (auxiliaryAfter row p ≡ e + auxiliaries row)
 
--- q is the place after p
-abbrev pub After : List ℕ → Place → Place → Type 0
-After row p q = Stands row q × (clausesAt row p ≡ getD (clausesAt row p) 0 [] ∷ clausesAt row q) × (auxiliaryAfter row q ≡ auxiliaryAfter row p)
+-- q is the place after p, past these clauses
+abbrev pub After : List ℕ → List (List ℕ) → Place → Place → Type 0
+After row clauses p q = Stands row q × (clausesAt row p ≡ clauses ++ clausesAt row q) × (auxiliaryAfter row q ≡ auxiliaryAfter row p)
 
 module _ (counts : Record) (images : List ℕ) where
   -- a slice `&images[from..to]` is row r
@@ -59,8 +60,45 @@ module _ (counts : Record) (images : List ℕ) where
         let some = some-clause row p s (omega (arith, row-size (counts .variables) (counts .rows) images fits r h)) in
         ap (λ (l : List (List ℕ)). getD l 0 []) (added-here p) ∙ List·getD-append (clausesAt row p) (rowsClauses (auxiliaryAfter row p) later) [] 0 some
 
-    -- ---- a row's first place
+    -- the clauses of an auxiliary, from the first of them on
+    pub here-six : (p : Place) → Stands row p → p .r ≡ 1 → p .index < counts .variables → p .next < counts .variables → counts .rows * counts .variables ≤ length images
+        → (rest : List (List ℕ)) × (addedLeft (rowsLeft counts images r) p ≡ sixAt row p ++ rest)
+    here-six p s first inside more fits =
+        let size = row-size (counts .variables) (counts .rows) images fits r h in
+        let none : p .r - 1 ≡ 0 = omega arith in
+        let next = clausesOn false (p .auxiliary + 1) (pairsAt (p .next) row) in
+        let others = rowsClauses (auxiliaryAfter row p) later in (
+          next ++ others,
+          added-here p
+              ∙ ap (λ (l : List (List ℕ)). l ++ others) (then-next row p s (omega arith) (omega arith) ∙ ap (λ (k : ℕ). drop k (sixAt row p) ++ next) none)
+              ∙ append-assoc (sixAt row p) next others,
+        )
 
+    -- ---- a place of the row
+
+    module _ (p : Place) where
+      pub place-points : {plain : ℕ} → plain ≤ counts .clauses → Stands row p → p .index < counts .variables → auxiliaryAfter row p ≤ 513 + 512 * (r + 1)
+          → Points counts images (record { plain = plain; row = r; place = p })
+      place-points written stands inside low = record {
+        plain = written;
+        row = omega arith;
+        place = λ _. stands;
+        there = λ _. inside;
+        few = λ _. low;
+      }
+
+      -- past the row's last clause
+      module _ (fits : counts .rows * counts .variables ≤ length images) (none : counts .variables ≤ p .index) where
+        nothing : (clausesAt row p ≡ []) × (auxiliaryAfter row p ≡ p .auxiliary)
+        nothing = past row p (omega (arith, row-size (counts .variables) (counts .rows) images fits r h))
+
+        pub place-past : addedLeft (rowsLeft counts images r) p ≡ rowsClauses (p .auxiliary) later
+        place-past = added-here p ∙ ap₂ (λ (l : List (List ℕ)) (k : ℕ). l ++ rowsClauses k later) (nothing .0) (nothing .1)
+
+        pub place-few : auxiliaryAfter row p ≤ 513 + 512 * (r + 1) → p .auxiliary ≤ 513 + 512 * (r + 1)
+        place-few low = omega (arith, nothing .1)
+
+    -- the row's first place
     module _ (e : ℕ) (p : Place) (f : First e row p) where
       pub first-here : addedLeft (rowsLeft counts images r) p ≡ rowsClauses e (rowsLeft counts images r)
       unfolding rowsClauses
@@ -69,56 +107,14 @@ module _ (counts : Record) (images : List ℕ) where
           ∙ ap₂ (λ (l : List (List ℕ)) (k : ℕ). l ++ rowsClauses k later) (f .1) (f .2)
           ∙ sym (ap (rowsClauses e) here)
 
-      pub first-points : {plain : ℕ} → plain ≤ counts .clauses → p .index < counts .variables → counts .variables ≤ 512
-          → counts .rows * counts .variables ≤ length images → e ≤ 513 + 512 * r → Points counts images (record { plain = plain; row = r; place = p })
-      first-points written inside small fits low = record {
-        plain = written;
-        row = omega arith;
-        place = λ _. f .0;
-        there = λ _. inside;
-        few = λ _. omega (arith, f .2, auxiliaries-most row, row-size (counts .variables) (counts .rows) images fits r h);
-      }
+      pub first-few : counts .rows * counts .variables ≤ length images → counts .variables ≤ 512 → e ≤ 513 + 512 * r → auxiliaryAfter row p ≤ 513 + 512 * (r + 1)
+      first-few fits small low = omega (arith, f .2, auxiliaries-most row, row-size (counts .variables) (counts .rows) images fits r h)
 
-      -- the row adds nothing
-      module _ (fits : counts .rows * counts .variables ≤ length images) (none : counts .variables ≤ p .index) where
-        nothing : (clausesAt row p ≡ []) × (auxiliaryAfter row p ≡ p .auxiliary)
-        nothing = past row p (omega (arith, row-size (counts .variables) (counts .rows) images fits r h))
-
-        pub first-past : rowsClauses e (rowsLeft counts images r) ≡ rowsClauses (p .auxiliary) later
-        first-past = sym first-here ∙ added-here p ∙ ap₂ (λ (l : List (List ℕ)) (k : ℕ). l ++ rowsClauses k later) (nothing .0) (nothing .1)
-
-        pub first-few : counts .variables ≤ 512 → e ≤ 513 + 512 * r → p .auxiliary ≤ 513 + 512 * (r + 1)
-        first-few small low = omega (arith, nothing .1, f .2, auxiliaries-most row, row-size (counts .variables) (counts .rows) images fits r h)
-
-    -- ---- the next place
-
-    module _ (p q : Place) (f : After row p q) where
-      pub after-here : addedLeft (rowsLeft counts images r) p ≡ getD (clausesAt row p) 0 [] ∷ addedLeft (rowsLeft counts images r) q
-      after-here =
-          added-here p
-          ∙ ap₂ (λ (l : List (List ℕ)) (k : ℕ). l ++ rowsClauses k later) (f .1) (sym (f .2))
-          ∙ ap (λ (l : List (List ℕ)). getD (clausesAt row p) 0 [] ∷ l) (sym (added-here q))
-
-      pub after-points : (c : Cursor) → c .row ≡ r → c .place ≡ p → Points counts images c → q .index < counts .variables
-          → Points counts images (record { plain = c .plain; row = c .row; place = q })
-      after-points c at is old inside = record {
-        plain = old .plain;
-        row = old .row;
-        place = λ _. rw at (f .0);
-        there = λ _. inside;
-        few = λ h. let before = rw (at, is) at (old .few h) in rw at (omega (arith, f .2, before));
-      }
-
-      -- past the row's last clause
-      module _ (fits : counts .rows * counts .variables ≤ length images) (none : counts .variables ≤ q .index) where
-        over : (clausesAt row q ≡ []) × (auxiliaryAfter row q ≡ q .auxiliary)
-        over = past row q (omega (arith, row-size (counts .variables) (counts .rows) images fits r h))
-
-        pub after-past : addedLeft (rowsLeft counts images r) p ≡ getD (clausesAt row p) 0 [] ∷ rowsClauses (q .auxiliary) later
-        after-past =
-            after-here
-            ∙ ap (λ (l : List (List ℕ)). getD (clausesAt row p) 0 [] ∷ l)
-            (added-here q ∙ ap₂ (λ (l : List (List ℕ)) (k : ℕ). l ++ rowsClauses k later) (over .0) (over .1))
-
-        pub after-few : auxiliaryAfter row p ≤ 513 + 512 * (r + 1) → q .auxiliary ≤ 513 + 512 * (r + 1)
-        after-few low = omega (arith, over .1, f .2)
+    -- a later place
+    pub after-here : (clauses : List (List ℕ)) (p q : Place) → After row clauses p q
+        → addedLeft (rowsLeft counts images r) p ≡ clauses ++ addedLeft (rowsLeft counts images r) q
+    after-here clauses p q f =
+        added-here p
+        ∙ ap₂ (λ (l : List (List ℕ)) (k : ℕ). l ++ rowsClauses k later) (f .1) (sym (f .2))
+        ∙ append-assoc clauses (clausesAt row q) (rowsClauses (auxiliaryAfter row q) later)
+        ∙ ap (λ (l : List (List ℕ)). clauses ++ l) (sym (added-here q))

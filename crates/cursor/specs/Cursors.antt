@@ -33,3 +33,10 @@ pub record Points (counts : Record) (images : List ℕ) (c : Cursor) : Type 0 wh
   pub place : c .row < counts .rows → Stands (rowAt counts images (c .row)) (c .place)
   pub there : c .row < counts .rows → c .place .index < counts .variables
   pub few : c .row < counts .rows → auxiliaryAfter (rowAt counts images (c .row)) (c .place) ≤ 513 + 512 * (c .row + 1)
+
+-- a cursor at the first of an auxiliary's six clauses
+pub record AtAuxiliary (counts : Record) (c : Cursor) : Type 0 where
+  pub added : counts .clauses ≤ c .plain
+  pub row : c .row < counts .rows
+  pub first : c .place .r ≡ 1
+  pub more : c .place .next < counts .variables

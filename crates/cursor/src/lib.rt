@@ -5,14 +5,14 @@ use lexleader::Place;
 use store::record::Record;
 ghost use mathlib.Core.Path.{_≡_};
 ghost use mathlib.Core.Bool.{true};
-ghost use mathlib.Core.List.{[], _∷_};
+ghost use mathlib.Core.List.{[], _∷_, _++_};
 ghost use Prim.Native.Nat.{_+_, _*_, _≤_, _<_};
 ghost use lib.ListN.{length, getD};
 ghost use Rattle.store.specs.Stores.{lent, wellFormed};
 ghost use Rattle.lexleader.specs.Made.{rowsClauses};
-ghost use Rattle.lexleader.specs.Places.{clausesAt};
+ghost use Rattle.lexleader.specs.Places.{clausesAt, sixAt, auxiliaryAfter, Stands};
 ghost use Rattle.emit.specs.Emit.{madeOf};
-ghost use Rattle.cursor.specs.Cursors.{rowAt, rowsLeft, addedLeft, clausesLeft, Points};
+ghost use Rattle.cursor.specs.Cursors.{rowAt, rowsLeft, addedLeft, clausesLeft, Points, AtAuxiliary};
 
 // How many plain clauses are passed, the row whose clauses come next, and the place among them.
 pub struct Cursor {
@@ -63,6 +63,51 @@ pub fn next_added(counts: Record, images: &[u16], cursor: Cursor) -> Cursor
     let to = from + counts.variables;
     let here = cursor.place;
     let place = lexleader::next_place(&images[from..to], here);
+    at_place(counts, images, cursor, place)
+}
+
+// Whether a cursor stands at the first of an auxiliary's six clauses.
+pub fn at_auxiliary(counts: Record, cursor: Cursor) -> bool
+    ensures { λ r. ⌜ (r ≡ true → AtAuxiliary counts cursor) ⌝ }
+{
+    if cursor.plain < counts.clauses {
+        return false;
+    }
+    if cursor.row >= counts.rows {
+        return false;
+    }
+    let place = cursor.place;
+    if place.r != 1 {
+        return false;
+    }
+    place.next < counts.variables
+}
+
+// The cursor after the six clauses of an auxiliary, from one at the first of them.
+pub fn next_auxiliary(
+    counts: Record,
+    literals: &[u16],
+    ends: &[u16],
+    images: &[u16],
+    cursor: Cursor,
+) -> Cursor
+    requires { ⌜ (wellFormed (lent counts (now literals) (now ends) (now images)) ≡ true) × Points counts (now images) cursor × AtAuxiliary counts cursor ⌝ }
+    ensures points { λ r. ⌜ Points counts (now (images .entry)) r ⌝ }
+    ensures left { λ r. ⌜ clausesLeft (lent counts (now (literals .entry)) (now (ends .entry)) (now (images .entry))) cursor ≡ sixAt (rowAt counts (now (images .entry)) (cursor .row)) (cursor .place) ++ clausesLeft (lent counts (now (literals .entry)) (now (ends .entry)) (now (images .entry))) r ⌝ }
+{
+    let from = cursor.row * counts.variables;
+    let to = from + counts.variables;
+    let here = cursor.place;
+    let place = lexleader::next_auxiliary(&images[from..to], here);
+    at_place(counts, images, cursor, place)
+}
+
+// The cursor at a place of its row, or past the row's last clause at the first one of a later row.
+fn at_place(counts: Record, images: &[u16], cursor: Cursor, place: Place) -> Cursor
+    requires { ⌜ (counts .variables ≤ 512) × (counts .rows ≤ 64) × (counts .rows * counts .variables ≤ length (now images)) × (cursor .plain ≤ counts .clauses) × (cursor .row < counts .rows) × Stands (rowAt counts (now images) (cursor .row)) place × (auxiliaryAfter (rowAt counts (now images) (cursor .row)) place ≤ 513 + 512 * (cursor .row + 1)) ⌝ }
+    ensures points { λ r. ⌜ Points counts (now (images .entry)) r × (r .plain ≡ cursor .plain) ⌝ }
+    ensures left { λ r. ⌜ addedLeft (rowsLeft counts (now (images .entry)) (cursor .row)) place ≡ addedLeft (rowsLeft counts (now (images .entry)) (r .row)) (r .place) ⌝ }
+{
     if place.index < counts.variables {
         return Cursor {
             plain: cursor.plain,

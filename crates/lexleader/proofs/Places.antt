@@ -9,13 +9,13 @@ use native.Mathlib.Omega.{arith}
 use borrow.Author.Tests.{eq-eqb, ne-eqb}
 use lib.Dec.{eqb}
 use lib.ListN.{length, getD, drop, length-append, length-drop, List·getD-append}
-use lib.Seq.{drop-append-add, getD-drop}
+use lib.Seq.{drop-append-le, drop-append-add, getD-drop}
 use Rattle.lists.proofs.Cases.{lt-or-le}
 use Rattle.lists.proofs.Steps.{drop-step}
 use Rattle.lexleader.specs.Rows.{Pair, pairsOf}
 use Rattle.lexleader.specs.Made.{laterSix, laterClauses, pairClauses, rowClauses, auxiliaries}
 use Rattle.lexleader.specs.Clause.{tableOf, pairAt, pairsAt, Next}
-use Rattle.lexleader.specs.Places.{clausesOn, clausesAt, auxiliaryAfter, pastLast, Stands}
+use Rattle.lexleader.specs.Places.{clausesOn, clausesAt, sixAt, auxiliaryAfter, pastLast, Stands}
 use Rattle.lexleader.specs.declared.Place.{Place}
 use Rattle.lexleader.proofs.Walk.{pairs-start, pairs-length, walk-end}
 use Rattle.lexleader.proofs.Numbers.{row-few, row-many}
@@ -43,6 +43,15 @@ row-on e row = pairs-on e (pairsOf row) ∙ ap (clausesOn true e) (pairs-start r
 six : (first : Bool) (e : ℕ) (q p : Pair) → length (tableOf first e q p) ≡ 6
 six true e q p = refl
 six false e q p = refl
+
+pub six-length : (row : List ℕ) (p : Place) → length (sixAt row p) ≡ 6
+unfolding sixAt
+six-length row p = six (p .first) (p .auxiliary) (pairAt row (p .index)) (pairAt row (p .next))
+
+-- the last of them
+last-of-six : (first : Bool) (e : ℕ) (q p : Pair) → drop 5 (tableOf first e q p) ≡ getD (drop 5 (tableOf first e q p)) 0 [] ∷ []
+last-of-six true e q p = refl
+last-of-six false e q p = refl
 
 -- past the clauses of the first auxiliary
 past-six : (first : Bool) (e : ℕ) (q p : Pair) (pairs : List Pair) (k : ℕ)
@@ -81,6 +90,10 @@ pairs-from e (q ∷ p ∷ pairs) (suc j) h =
 
 -- ---- what stands at a place
 
+-- the first clause is the head
+pub by-head : {l : List (List ℕ)} {x : List ℕ} {r : List (List ℕ)} → l ≡ x ∷ r → l ≡ getD l 0 [] ∷ r
+by-head e = rw e
+
 module _ (row : List ℕ) (p : Place) where
   -- no clause stands past the last
   pub past : length row ≤ p .index → (clausesAt row p ≡ []) × (auxiliaryAfter row p ≡ p .auxiliary)
@@ -90,6 +103,15 @@ module _ (row : List ℕ) (p : Place) where
       drop-none : (k : ℕ) → drop {A = List ℕ} k [] ≡ []
       drop-none zero = refl
       drop-none (suc k) = refl
+
+  -- the last clause of an auxiliary
+  pub last-clause : p .r ≡ 6 → {rest : List (List ℕ)} → clausesAt row p ≡ drop (p .r - 1) (sixAt row p) ++ rest → clausesAt row p ≡ getD (clausesAt row p) 0 [] ∷ rest
+  unfolding sixAt
+  last-clause e {rest} is =
+      let r : p .r - 1 ≡ 5 = omega arith in
+      by-head (is
+      ∙ ap (λ (k : ℕ). drop k (sixAt row p) ++ rest) r
+      ∙ ap (λ (l : List (List ℕ)). l ++ rest) (last-of-six (p .first) (p .auxiliary) (pairAt row (p .index)) (pairAt row (p .next))))
 
   pub few-auxiliaries : Stands row p → p .auxiliary ≤ 80000
   unfolding auxiliaryAfter
@@ -179,17 +201,23 @@ module _ (row : List ℕ) (p : Place) where
         refl,
       )
 
-      -- the first clause of the next auxiliary
-      pub then-next : p .r ≡ 6 → clausesAt row p ≡ getD (clausesAt row p) 0 [] ∷ clausesOn false (p .auxiliary + 1) (pairsAt (p .next) row)
-      then-next e =
-          let r : p .r - 1 + 1 ≡ 6 + 0 = omega arith in
-          step
-          ∙ ap (λ (l : List (List ℕ)). getD (clausesAt row p) 0 [] ∷ l)
-          (ap (λ (k : ℕ). drop k all) r ∙ past-six (p .first) (p .auxiliary) own next (pairsAt (p .next + 1) row) 0 ∙ ap (clausesOn false (p .auxiliary + 1)) (sym here-next))
+      -- the clauses of the auxiliary, and those of the next ones
+      pub then-next : clausesAt row p ≡ drop (p .r - 1) (sixAt row p) ++ clausesOn false (p .auxiliary + 1) (pairsAt (p .next) row)
+      unfolding clausesOn sixAt
+      then-next =
+          at-place
+          ∙ drop-append-le (p .r - 1) (tableOf (p .first) (p .auxiliary) own next) (clausesOn false (p .auxiliary + 1) (next ∷ pairsAt (p .next + 1) row)) (omega (arith, s .high, six (p .first) (p .auxiliary) own next))
+          ∙ ap (λ (pairs : List Pair). drop (p .r - 1) (tableOf (p .first) (p .auxiliary) own next) ++ clausesOn false (p .auxiliary + 1) pairs) (sym here-next)
 
       pub after-next : p .auxiliary + 1 + (length (pairsAt (p .next) row) - 1) ≡ auxiliaryAfter row p
       unfolding auxiliaryAfter
       after-next = omega (arith, ap length two, ap length here-next)
+
+      -- q is the place of the next auxiliary's first clause
+      pub to-next : (q : Place)
+          → Stands row q × (clausesAt row q ≡ clausesOn false (p .auxiliary + 1) (pairsAt (p .next) row)) × (auxiliaryAfter row q ≡ p .auxiliary + 1 + (length (pairsAt (p .next) row) - 1))
+          → Stands row q × (clausesAt row p ≡ drop (p .r - 1) (sixAt row p) ++ clausesAt row q) × (auxiliaryAfter row q ≡ auxiliaryAfter row p)
+      to-next q (stands, clauses, after) = (stands, then-next ∙ ap (λ (l : List (List ℕ)). drop (p .r - 1) (sixAt row p) ++ l) (sym clauses), after ∙ after-next)
 
 -- a clause stands at every place but the last
 pub some-clause : (row : List ℕ) (p : Place) → Stands row p → p .index < length row → 0 < length (clausesAt row p)

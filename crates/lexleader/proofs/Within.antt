@@ -33,7 +33,7 @@ all-literals-more n N h (code ∷ clause) e =
     and-both (literal-more n N code h (and-l (isLiteral n code) _ e)) (all-literals-more n N h clause (and-r (isLiteral n code) _ e))
 
 -- every clause of a formula
-formula-more : (n N : ℕ) → n ≤ N → (formula : List (List ℕ)) → allOf (allOf (isLiteral n)) formula ≡ true → allOf (allOf (isLiteral N)) formula ≡ true
+pub formula-more : (n N : ℕ) → n ≤ N → (formula : List (List ℕ)) → allOf (allOf (isLiteral n)) formula ≡ true → allOf (allOf (isLiteral N)) formula ≡ true
 unfolding allOf
 formula-more n N h [] e = refl
 formula-more n N h (clause ∷ formula) e =

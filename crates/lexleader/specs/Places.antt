@@ -19,6 +19,10 @@ clausesOn first e (q ∷ p ∷ pairs) = tableOf first e q p ++ clausesOn false (
 unfoldable pub clausesAt : List ℕ → Place → List (List ℕ)
 clausesAt row p = drop (p .r - 1) (clausesOn (p .first) (p .auxiliary) (pairsAt (p .index) row))
 
+-- the six clauses of the auxiliary at a place, whose pair is not the row's last
+unfoldable pub sixAt : List ℕ → Place → List (List ℕ)
+sixAt row p = tableOf (p .first) (p .auxiliary) (pairAt row (p .index)) (pairAt row (p .next))
+
 -- the auxiliary after the row's last one
 unfoldable pub auxiliaryAfter : List ℕ → Place → ℕ
 auxiliaryAfter row p = p .auxiliary + (length (pairsAt (p .index) row) - 1)

@@ -3,7 +3,7 @@
 // walking it, and a table chooses the literals.
 ghost use mathlib.Core.Path.{_≡_};
 ghost use mathlib.Core.Bool.{true, false};
-ghost use mathlib.Core.List.{_∷_, []};
+ghost use mathlib.Core.List.{_∷_, [], _++_};
 ghost use Prim.Native.Nat.{ℕ, _+_, _-_, _*_, _≤_, _<_};
 ghost use lib.ListN.{length, getD, drop};
 ghost use Rattle.store.specs.Literals.{oppositeOf};
@@ -11,7 +11,7 @@ ghost use Rattle.store.specs.Stores.{rowsOf};
 ghost use Rattle.lexleader.specs.Rows.{pairsOf};
 ghost use Rattle.lexleader.specs.Made.{rowClauses, auxiliaries, rowsClauses, allAuxiliaries};
 ghost use Rattle.lexleader.specs.Clause.{Holds, tableOf, pairAt, pairsAt, Next};
-ghost use Rattle.lexleader.specs.Places.{clausesOn, clausesAt, auxiliaryAfter, pastLast, Stands};
+ghost use Rattle.lexleader.specs.Places.{clausesAt, sixAt, auxiliaryAfter, pastLast, Stands};
 
 // A clause that a row adds: at most four literals, as codes.
 pub struct Clause {
@@ -162,20 +162,21 @@ pub fn next_place(row: &[u16], place: Place) -> Place
             first: place.first,
         };
     }
-    later_place(row, place.next, place.auxiliary + 1)
+    next_auxiliary(row, place)
 }
 
-// The place of the first clause of a later auxiliary e, whose pair is at an index.
-fn later_place(row: &[u16], index: usize, e: u32) -> Place
-    requires { ⌜ (length (now row) ≤ 512) × (index < length (now row)) × Next (now row) index index × (e + (length (pairsAt index (now row)) - 1) ≤ 80000) ⌝ }
-    ensures { λ r. ⌜ Stands (now (row .entry)) r × (clausesAt (now (row .entry)) r ≡ clausesOn false e (pairsAt index (now (row .entry)))) × (auxiliaryAfter (now (row .entry)) r ≡ e + (length (pairsAt index (now (row .entry))) - 1)) ⌝ }
+// The place after the clauses of the auxiliary at one, whose pair is not the row's last.
+pub fn next_auxiliary(row: &[u16], place: Place) -> Place
+    requires { ⌜ (length (now row) ≤ 512) × Stands (now row) place × (place .index < length (now row)) × (place .next < length (now row)) ⌝ }
+    ensures { λ r. ⌜ Stands (now (row .entry)) r × (clausesAt (now (row .entry)) place ≡ drop (place .r - 1) (sixAt (now (row .entry)) place) ++ clausesAt (now (row .entry)) r) × (auxiliaryAfter (now (row .entry)) r ≡ auxiliaryAfter (now (row .entry)) place) ⌝ }
 {
-    let next = next_moved(row, index + 1);
+    let e = place.auxiliary + 1;
+    let next = next_moved(row, place.next + 1);
     if next == row.len() {
         return no_place(row, e);
     }
     Place {
-        index: index,
+        index: place.next,
         next: next,
         auxiliary: e,
         r: 1,
@@ -334,7 +335,7 @@ pub fn next_moved(row: &[u16], from: usize) -> usize
 }
 
 // The code of the variable at an index of a row.
-fn own_code(i: usize) -> u32
+pub fn own_code(i: usize) -> u32
     requires { ⌜ i ≤ 512 ⌝ }
     ensures { λ r. ⌜ r ≡ 2 * (i + 1) ⌝ }
 {

@@ -1,9 +1,10 @@
 -- `cursor::next` meets its contract: past a plain clause, or past one that a row adds. Assumes nothing.
-use Prim.Native.Nat.{_+_}
+use mathlib.Core.List.{[], _∷_}
 use native.Mathlib.Omega.{arith}
 use Rattle.store.specs.Stores.{Store, lent}
 use Rattle.store.proofs.Formed.{formed}
-use Rattle.cursor.proofs.CursorLaws.{next-plain, next-there, some-row, by-head}
+use Rattle.lexleader.proofs.Places.{by-head}
+use Rattle.cursor.proofs.CursorLaws.{next-plain, past-added, some-row}
 use borrow.Author.Needs.{needs}
 use Rattle.cursor.proofs.next.Statement.{statement}
 use Rattle.cursor.proofs.next.Tie as tie
@@ -32,7 +33,7 @@ returns-2 : tie.Need-returns-2
 returns-2 c =
     let s = c .before .before .before .before .before .before .before in
     let next = c .next-added .ensures in
-    (next .0 .0, next-there (S s) (s .pre .0) (s .args .cursor) (c .next-added .result) (c .before .if1 .left) (next .0 .1) _ (next .1))
+    (next .0 .0, by-head (past-added (S s) (s .pre .0) (s .args .cursor) (c .next-added .result) (c .before .if1 .left) (next .0 .1) (_ ∷ []) (next .1)))
 
 pub next-spec : {M : Type 1} → statement M
 next-spec = tie.close (tie.spec add-t8 returns next-added-requires returns-2)

@@ -1,5 +1,5 @@
--- `cursor::next_added` meets its contract: the row's next place, or the first of a later row. Assumes nothing.
-use mathlib.Core.Path.{_≡_, refl, sym, ap, _∙_}
+-- `cursor::next_added` meets its contract: the cursor goes to the place after the clause. Assumes nothing.
+use mathlib.Core.Path.{ap, _∙_}
 use mathlib.Core.List.{List, _∷_, []}
 use Prim.Native.Nat.{ℕ, _+_, _*_, _≤_}
 use native.Mathlib.Omega.{arith}
@@ -7,7 +7,7 @@ use lib.ListN.{length, getD}
 use Rattle.lexleader.specs.Places.{clausesAt}
 use Rattle.lexleader.proofs.Left.{part-is, room, row-size}
 use Rattle.cursor.specs.Cursors.{rowAt}
-use Rattle.cursor.proofs.RowLaws.{After, row-part, after-here, after-points, after-past, after-few}
+use Rattle.cursor.proofs.RowLaws.{After, row-part, after-here}
 use borrow.Author.Needs.{needs}
 use Rattle.cursor.proofs.next_added.Statement.{statement}
 use Rattle.cursor.proofs.next_added.Tie as tie
@@ -17,10 +17,11 @@ fits : (c : tie.Start) → c .args .cursor .row * c .args .counts .variables + c
 fits c = room (c .args .counts .variables) (c .args .counts .rows) (c .args .images .now) (c .pre .2) (c .args .cursor .row) (c .pre .4)
 
 -- what the next place is
-found : (c : tie.After-next-place) → let a = c .before .before .before .before .before .before .before .args in After (rowAt (a .counts) (a .images .now) (a .cursor .row)) (a .cursor .place) (c .next-place .result)
+found : (c : tie.After-next-place) → let a = c .before .before .before .before .before .before .before .args in let row = rowAt (a .counts) (a .images .now) (a .cursor .row) in
+    After row (getD (clausesAt row (a .cursor .place)) 0 [] ∷ []) (a .cursor .place) (c .next-place .result)
 found c =
     let a = c .before .before .before .before .before .before .before .args in
-    row-part (a .counts) (a .images .now) (λ (row : List ℕ). After row (a .cursor .place) (c .next-place .result)) (a .cursor .row) (c .next-place .ensures)
+    row-part (a .counts) (a .images .now) (λ (row : List ℕ). After row (getD (clausesAt row (a .cursor .place)) 0 [] ∷ []) (a .cursor .place) (c .next-place .result)) (a .cursor .row) (c .next-place .ensures)
 
 mul-from : tie.Need-mul-from
 mul-from c = omega (arith, fits (c .before .before .before))
@@ -47,35 +48,19 @@ next-place-requires c κs =
     let size = row-size (a .counts .variables) (a .counts .rows) (a .images .now) (s .pre .2) (a .cursor .row) (s .pre .4) in
     rw (part-is (a .counts .variables) (a .cursor .row) (a .images .now)) (omega (arith, s .pre .0), s .pre .3 .place (s .pre .4), omega (arith, s .pre .3 .there (s .pre .4)))
 
+at-place-requires : tie.Need-at-place-requires
+at-place-requires c κs =
+    let s = c .before .before .before .before .before .before .before in
+    (s .pre .0, s .pre .1, s .pre .2, s .pre .3 .plain, s .pre .4, found c .0, omega (arith, found c .2, s .pre .3 .few (s .pre .4)))
+
 returns : tie.Need-returns
 returns c =
-    let n = c .before .before .before in
-    let s = n .before .before .before .before .before .before .before in
-    let a = s .args in
-    let next = n .next-place .result in (
-      (after-points (a .counts) (a .images .now) (a .cursor .row) (s .pre .4) (a .cursor .place) next (found n) (a .cursor) refl refl (s .pre .3) (c .if1 .taken), refl),
-      after-here (a .counts) (a .images .now) (a .cursor .row) (s .pre .4) (a .cursor .place) next (found n),
-    )
-
-add-row-from : tie.Need-add-row-from
-add-row-from c = search needs
-
-row-from-requires : tie.Need-row-from-requires
-row-from-requires c κs =
-    let n = c .before .before .before .before in
-    let s = n .before .before .before .before .before .before .before in
-    let a = s .args in
-    let low = after-few (a .counts) (a .images .now) (a .cursor .row) (s .pre .4) (a .cursor .place) (n .next-place .result) (found n) (s .pre .2) (search needs) (s .pre .3 .few (s .pre .4)) in
-    (s .pre .0, s .pre .1, s .pre .2, s .pre .3 .plain, omega (arith, s .pre .4), low)
-
-returns-2 : tie.Need-returns-2
-returns-2 c =
-    let n = c .before .before .before .before .before in
+    let n = c .before in
     let s = n .before .before .before .before .before .before .before in
     let a = s .args in
     let head = getD (clausesAt (rowAt (a .counts) (a .images .now) (a .cursor .row)) (a .cursor .place)) 0 [] in
-    let past = after-past (a .counts) (a .images .now) (a .cursor .row) (s .pre .4) (a .cursor .place) (n .next-place .result) (found n) (s .pre .2) (search needs) in
-    (c .row-from .ensures .0, past ∙ ap (λ (l : List (List ℕ)). head ∷ l) (sym (c .row-from .ensures .1)))
+    let next = after-here (a .counts) (a .images .now) (a .cursor .row) (s .pre .4) (head ∷ []) (a .cursor .place) (n .next-place .result) (found n) in
+    (c .at-place .ensures .0, next ∙ ap (λ (l : List (List ℕ)). head ∷ l) (c .at-place .ensures .1))
 
 pub next-added-spec : {M : Type 1} → statement M
 next-added-spec =
@@ -88,7 +73,5 @@ next-added-spec =
     part-next-place-start
     part-next-place-end
     next-place-requires
-    returns
-    add-row-from
-    row-from-requires
-    returns-2)
+    at-place-requires
+    returns)

@@ -1,15 +1,14 @@
 -- `cursor::row_from` meets its contract. The invariant: what the rows from `row` on add is what those from r on add, whose first auxiliary is `first`.
 -- Assumes nothing.
-use mathlib.Core.Path.{_≡_, refl, sym, ap, _∙_}
+use mathlib.Core.Path.{_≡_, refl, sym, _∙_}
 use mathlib.Core.List.{List}
 use Prim.Native.Nat.{ℕ, _+_, _-_, _*_, _≤_}
 use native.Mathlib.Omega.{arith}
 use lib.ListN.{length, length-take, length-drop}
 use Rattle.lexleader.specs.Made.{rowsClauses}
-use Rattle.lexleader.specs.declared.Place.{Place}
 use Rattle.lexleader.proofs.Left.{room}
-use Rattle.cursor.specs.Cursors.{rowAt, rowsLeft, addedLeft}
-use Rattle.cursor.proofs.RowLaws.{First, row-part, none-added, first-here, first-points, first-past, first-few}
+use Rattle.cursor.specs.Cursors.{rowAt, rowsLeft}
+use Rattle.cursor.proofs.RowLaws.{First, row-part, none-added, place-points, place-past, place-few, first-here, first-few}
 use borrow.Author.Needs.{needs}
 use Rattle.cursor.proofs.row_from.Statement.{statement}
 use Rattle.cursor.proofs.row_from.Tie as tie
@@ -67,8 +66,9 @@ returns c =
     let l = f .before .before .before .before in
     let s = l .before .before in
     let a = s .args in
-    let at = first-here (a .counts) (a .images .now) (l .loop .r) (search needs) (l .loop .first) (f .first-place .result) (found f) in (
-      (first-points (a .counts) (a .images .now) (l .loop .r) (search needs) (l .loop .first) (f .first-place .result) (found f) (s .pre .3) (search needs) (s .pre .0) (s .pre .2) (l .loop .inv .2), refl),
+    let at = first-here (a .counts) (a .images .now) (l .loop .r) (search needs) (l .loop .first) (f .first-place .result) (found f) in
+    let low = first-few (a .counts) (a .images .now) (l .loop .r) (search needs) (l .loop .first) (f .first-place .result) (found f) (s .pre .2) (s .pre .0) (l .loop .inv .2) in (
+      (place-points (a .counts) (a .images .now) (l .loop .r) (search needs) (f .first-place .result) (s .pre .3) (found f .0) (search needs) low, refl),
       at ∙ sym (l .loop .inv .4),
     )
 
@@ -84,9 +84,11 @@ loop-again c =
     let l = f .before .before .before .before in
     let s = l .before .before in
     let a = s .args in
-    let next = first-past (a .counts) (a .images .now) (l .loop .r) (search needs) (l .loop .first) (f .first-place .result) (found f) (s .pre .2) (search needs) in
-    let low = first-few (a .counts) (a .images .now) (l .loop .r) (search needs) (l .loop .first) (f .first-place .result) (found f) (s .pre .2) (search needs) (s .pre .0) (l .loop .inv .2) in
-    (omega arith, omega arith, low, l .loop .inv .3, l .loop .inv .4 ∙ next)
+    let at = first-here (a .counts) (a .images .now) (l .loop .r) (search needs) (l .loop .first) (f .first-place .result) (found f) in
+    let low = first-few (a .counts) (a .images .now) (l .loop .r) (search needs) (l .loop .first) (f .first-place .result) (found f) (s .pre .2) (s .pre .0) (l .loop .inv .2) in
+    let next = place-past (a .counts) (a .images .now) (l .loop .r) (search needs) (f .first-place .result) (s .pre .2) (search needs) in
+    let few = place-few (a .counts) (a .images .now) (l .loop .r) (search needs) (f .first-place .result) (s .pre .2) (search needs) low in
+    (omega arith, omega arith, few, l .loop .inv .3, l .loop .inv .4 ∙ sym at ∙ next)
 
 nowhere-requires : tie.Need-nowhere-requires Inv-loop μ-loop
 nowhere-requires c κs = search needs

@@ -5,8 +5,7 @@ use Prim.Native.Nat.{ℕ}
 use native.Mathlib.Omega.{arith}
 use lib.ListN.{getD}
 use Rattle.lexleader.specs.Places.{clausesAt}
-use Rattle.lexleader.proofs.Walk.{stays}
-use Rattle.lexleader.proofs.Places.{few-auxiliaries, at-last, then-one, after-one, same-stands, then-same, then-next, after-next}
+use Rattle.lexleader.proofs.Places.{few-auxiliaries, at-last, then-one, after-one, same-stands, then-same, last-clause}
 use borrow.Author.Needs.{needs}
 use Rattle.lexleader.proofs.next_place.Statement.{statement}
 use Rattle.lexleader.proofs.next_place.Tie as tie
@@ -34,24 +33,16 @@ returns-2 c =
     let z = same-stands row p (s .pre .1) (s .pre .2) (omega (arith, s .pre .1 .then (s .pre .2) .within)) (omega arith) _ refl in
     (z .0, then-same row p (s .pre .1) (s .pre .2) (omega (arith, s .pre .1 .then (s .pre .2) .within)) _ refl, z .1)
 
-add-later-place : tie.Need-add-later-place
-add-later-place c = let s = c .before .before .before .before .before .before in omega (arith, few-auxiliaries (s .args .row .now) (s .args .place) (s .pre .1))
-
-later-place-requires : tie.Need-later-place-requires
-later-place-requires c κs =
-    let s = c .before .before .before .before .before .before in
-    let row = s .args .row .now in
-    let p = s .args .place in
-    (s .pre .0, omega (arith, s .pre .1 .then (s .pre .2) .within), stays (s .pre .1 .then (s .pre .2)), omega (arith, after-next row p (s .pre .1) (s .pre .2) (omega (arith, s .pre .1 .then (s .pre .2) .within)), s .pre .1 .few))
+next-auxiliary-requires : tie.Need-next-auxiliary-requires
+next-auxiliary-requires c κs =
+    let s = c .before .before .before .before .before in
+    (s .pre .0, s .pre .1, s .pre .2, omega (arith, s .pre .1 .then (s .pre .2) .within))
 
 returns-3 : tie.Need-returns-3
 returns-3 c =
-    let s = c .before .before .before .before .before .before .before in
-    let row = s .args .row .now in
-    let p = s .args .place in
-    let z = c .later-place .ensures in
-    let past = then-next row p (s .pre .1) (s .pre .2) (omega (arith, s .pre .1 .then (s .pre .2) .within)) (omega (arith, s .pre .1 .high)) in
-    (z .0, past ∙ ap (λ (l : List (List ℕ)). getD (clausesAt row p) 0 [] ∷ l) (sym (z .1)), z .2 ∙ after-next row p (s .pre .1) (s .pre .2) (omega (arith, s .pre .1 .then (s .pre .2) .within)))
+    let s = c .before .before .before .before .before .before in
+    let z = c .next-auxiliary .ensures in
+    (z .0, last-clause (s .args .row .now) (s .args .place) (omega (arith, s .pre .1 .high)) (z .1), z .2)
 
 pub next-place-spec : {M : Type 1} → statement M
 next-place-spec =
@@ -61,6 +52,5 @@ next-place-spec =
     returns
     add-t5
     returns-2
-    add-later-place
-    later-place-requires
+    next-auxiliary-requires
     returns-3)

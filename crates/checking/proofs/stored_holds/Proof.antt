@@ -1,9 +1,9 @@
 -- `checking::stored_holds` meets its contract. The invariant: the clause holds exactly when one of the literals from i on is true. Assumes nothing.
-use mathlib.Core.Path.{_≡_, refl, sym, ap, _∙_}
-use mathlib.Core.Bool.{true, false}
+use mathlib.Core.Path.{_≡_, refl, sym, _∙_}
+use mathlib.Core.Bool.{true}
 use Prim.Native.Nat.{ℕ, _-_, _*_}
 use native.Mathlib.Omega.{arith}
-use lib.ListN.{length, getD, drop}
+use lib.ListN.{length, drop}
 use Rattle.lists.specs.Tests.{anyOf, allOf}
 use Rattle.lists.proofs.Members.{all-at}
 use Rattle.lists.proofs.Steps.{any-drop-hit, any-drop-miss, any-drop-end}

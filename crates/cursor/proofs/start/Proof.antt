@@ -3,7 +3,6 @@ use native.Mathlib.Omega.{arith}
 use Rattle.store.specs.Stores.{Store, lent}
 use Rattle.store.proofs.Formed.{Formed, formed}
 use Rattle.cursor.proofs.CursorLaws.{begins}
-use borrow.Author.Needs.{needs}
 use Rattle.cursor.proofs.start.Statement.{statement}
 use Rattle.cursor.proofs.start.Tie as tie
 

@@ -26,10 +26,10 @@ def functions():
     for name, code in zip(parts[::2], parts[1::2]):
         assert all(re.match(r"(sub|add) +\$0x", each) for each in re.findall(r"\t(.*),%rsp$", code, re.M)), name
         taken = re.findall(r"\tsub +\$(0x[0-9a-f]+),%rsp", code) + ["8"] * len(re.findall(r"\tpush ", code))
-        below = re.findall(r"-(0x[0-9a-f]+)\(%rsp[,)]", code)
+        below = [-(-int(size, 0) // 8) * 8 for size in re.findall(r"-(0x[0-9a-f]+)\(%rsp[,)]", code)]  # in whole words, as they are measured
         calls = re.findall(r"\t(call|j\w+) +.*\n(?:.*R_X86_64_PLT32\t(?:\.text\.)?(\S+)-0x4)?", code)
         assert ("call", "") not in calls, name
-        found[name] = 8 + sum(int(size, 0) for size in taken) + max((int(size, 0) for size in below), default=0), {called for _, called in calls if called}
+        found[name] = 8 + sum(int(size, 0) for size in taken) + max(below, default=0), {called for _, called in calls if called}
     return found
 
 

@@ -17,7 +17,7 @@ use Rattle.lexleader.specs.Clause.{tableOf, pairAt}
 use Rattle.lexleader.specs.Places.{sixAt}
 use Rattle.lexleader.specs.declared.Place.{Place}
 use Rattle.lexleader.proofs.Truth.{value-opposite}
-use Rattle.checking.specs.Checking.{ordered, due, Within}
+use Rattle.checking.specs.Six.{ordered, due, Within}
 
 -- ---- what they say, by cases: g is the value of the auxiliary before, e its own, x and y those of its pair, and m says that the next one is ordered
 

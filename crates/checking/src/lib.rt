@@ -20,7 +20,8 @@ ghost use Rattle.lexleader.specs.Clause.{pairAt};
 ghost use Rattle.lexleader.specs.Places.{sixAt};
 ghost use Rattle.cursor.specs.Cursors.{rowAt, clausesLeft, Points, AtAuxiliary};
 ghost use Rattle.emit.specs.Emit.{variablesOf};
-ghost use Rattle.checking.specs.Checking.{firstFalse, Within, ordered, due};
+ghost use Rattle.checking.specs.Checking.{firstFalse};
+ghost use Rattle.checking.specs.Six.{Within, ordered, due};
 
 // The number of the first clause of the made formula that an assignment of 1..N makes false, 0 where there is none.
 pub fn first_false(

@@ -11,7 +11,7 @@ use Rattle.store.specs.Literals.{isLiteral}
 use Rattle.store.proofs.FormLaws.{literal-low, literal-high}
 use Rattle.lexleader.specs.Models.{literalValue}
 use Rattle.lexleader.specs.Places.{sixAt}
-use Rattle.checking.specs.Checking.{due}
+use Rattle.checking.specs.Six.{due}
 use Rattle.checking.proofs.SixLaws.{own-within, before-within, pair-within}
 use borrow.Author.Needs.{needs}
 use Rattle.checking.proofs.is_due.Statement.{statement}

@@ -8,7 +8,7 @@ use Rattle.packed.specs.Order.{valueOf}
 use Rattle.store.proofs.FormLaws.{literal-low, literal-high}
 use Rattle.lexleader.specs.Models.{literalValue}
 use Rattle.lexleader.specs.Clause.{pairAt}
-use Rattle.checking.specs.Checking.{Within, ordered}
+use Rattle.checking.specs.Six.{Within, ordered}
 use borrow.Author.Needs.{needs}
 use Rattle.checking.proofs.is_ordered.Statement.{statement}
 use Rattle.checking.proofs.is_ordered.Tie as tie

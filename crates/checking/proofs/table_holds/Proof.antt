@@ -12,7 +12,7 @@ use Rattle.store.proofs.FormLaws.{literal-low, literal-high}
 use Rattle.lexleader.specs.Models.{formulaHolds}
 use Rattle.lexleader.specs.Clause.{pairAt}
 use Rattle.lexleader.specs.Places.{sixAt}
-use Rattle.checking.specs.Checking.{ordered}
+use Rattle.checking.specs.Six.{ordered}
 use Rattle.checking.proofs.SixLaws.{six-say, own-within, pair-within, next-within}
 use borrow.Author.Needs.{needs}
 use Rattle.checking.proofs.table_holds.Statement.{statement}

@@ -1,0 +1,25 @@
+-- The six clauses of an auxiliary at once: what the code asks of six values instead of building the clauses (`six-say`, proofs/SixLaws.antt, says that it is the
+-- same). No promise rests on these definitions. Assumes nothing.
+use mathlib.Core.Path.{_≡_}
+use Prim.Native.Nat.{ℕ, _-_, _*_}
+use mathlib.Core.Bool.{Bool, true, not, _&&_, _||_}
+use mathlib.Core.List.{List}
+use Rattle.store.specs.Literals.{isLiteral}
+use Rattle.lexleader.specs.Models.{literalValue}
+use Rattle.lexleader.specs.Rows.{Pair}
+use Rattle.lexleader.specs.Made.{agrees}
+use Rattle.lexleader.specs.Clause.{pairAt}
+use Rattle.lexleader.specs.declared.Place.{Place}
+
+-- y is true where x is
+unfoldable pub ordered : (ℕ → Bool) → Pair → Bool
+ordered v q = not (literalValue v (q .x)) || literalValue v (q .y)
+
+-- the auxiliary at a place has to be true: the one before it is, unless it is the row's first, and the pair at the place agrees
+unfoldable pub due : (ℕ → Bool) → List ℕ → Place → Bool
+due v row p = (p .first || literalValue v (2 * (p .auxiliary - 1))) && agrees v (pairAt row (p .index))
+
+-- both literals of a pair are of the variables 1..n
+pub record Within (n : ℕ) (q : Pair) : Type 0 where
+  pub x : isLiteral n (q .x) ≡ true
+  pub y : isLiteral n (q .y) ≡ true

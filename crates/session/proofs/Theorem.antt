@@ -12,8 +12,8 @@ use Rattle.dimacs.specs.Lines.{linesAt}
 use Rattle.store.specs.Refusals.{Said, done, refused}
 use Rattle.store.specs.Stores.{Store, wellFormed}
 use Rattle.symbreak.specs.Calls.{Accepted, accepted, Sizes, openSays, openStore, offerSays, offerStore}
-use Rattle.symbreak.specs.Lists.{Call, offer, after}
-use Rattle.symbreak.proofs.AfterCalls.{after-opening}
+use Rattle.demands.specs.Lists.{Call, offer, after}
+use Rattle.demands.proofs.AfterCalls.{after-opening}
 use Rattle.session.specs.Input.{maxInput, fromDivider}
 use Rattle.session.specs.Session.{Ended, ended, offerAll, offerLines, ifOpened, divided, sessionOf}
 use Rattle.session.proofs.SessionLaws.{offer-refused, offer-accepted, too-long, within}

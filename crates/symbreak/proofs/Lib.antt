@@ -1,6 +1,2 @@
 pub mod CallLaws
 pub mod ModelLaws
-pub mod Acceptance
-pub mod AfterCalls
-pub mod Demand3
-pub mod Starred

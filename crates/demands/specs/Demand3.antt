@@ -15,8 +15,8 @@ use Rattle.lexleader.specs.Made.{made, madeVariables}
 use Rattle.lexleader.specs.Kept.{Completes, Kept, Least, Carried}
 use Rattle.emit.specs.Emit.{madeOf, variablesOf}
 use Rattle.descent.specs.declared.Descended.{Descended}
 use Rattle.symbreak.specs.Calls.{openStore, fillSays, fillLeaves, descendSays, descendLeaves}
-use Rattle.symbreak.specs.Lists.{Call, after, accepted}
+use Rattle.demands.specs.Lists.{Call, after, accepted}
 
 -- n, F and ps: the variables and the clauses of the text, and the permutations that the offers not refused state on their lines; and the store after the list
 module _ (s : Store) (text : List ℕ) (calls : List Call) where

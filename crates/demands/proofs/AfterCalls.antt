@@ -14,9 +14,9 @@ use Rattle.opening.specs.Opening.{openedBy, formulaOf}
 use Rattle.opening.specs.declared.Opened.{Opened}
 use Rattle.opening.proofs.Theorem.{opened-formed, opened-plain}
 use Rattle.offering.specs.Offering.{rowFor}
 use Rattle.symbreak.specs.Calls.{Accepted, accepted as yes, Sizes, saidOpened, openSays, openStore, offerSays, offerStore}
-use Rattle.symbreak.specs.Lists.{Call, offer, afterCall, after, pushAccepted, pushCall, accepted}
-use Rattle.symbreak.proofs.Acceptance.{store-refused, store-accepted, accepted-symmetry, accepted-row, accepted-held, accepted-formed}
+use Rattle.demands.specs.Lists.{Call, offer, afterCall, after, pushAccepted, pushCall, accepted}
+use Rattle.demands.proofs.Acceptance.{store-refused, store-accepted, accepted-symmetry, accepted-row, accepted-held, accepted-formed}
 
 -- ---- one call
 

@@ -28,10 +28,10 @@ use Rattle.filling.specs.Written.{filledWords}
 use Rattle.filling.proofs.Runs.{length-filled}
 use Rattle.descent.specs.Words.{answerOf, descended}
 use Rattle.descent.specs.declared.Descended.{Descended}
 use Rattle.symbreak.specs.Calls.{Sizes, openSays, openStore, onStore, fillSays, fillLeaves, descendSays, descendLeaves}
-use Rattle.symbreak.specs.Lists.{Call}
-use Rattle.symbreak.specs.Demand3.{variables, formula, permutations, left, Demand3}
-use Rattle.symbreak.proofs.AfterCalls.{keeps-calls, after-opening}
+use Rattle.demands.specs.Lists.{Call}
+use Rattle.demands.specs.Demand3.{variables, formula, permutations, left, Demand3}
+use Rattle.demands.proofs.AfterCalls.{keeps-calls, after-opening}
 
 -- ---- what a call that answered says of the store and the words
 

@@ -17,15 +17,15 @@ use Rattle.symmetry.proofs.Facts.{literals-within}
 use Rattle.lexleader.specs.Models.{clauseHolds, formulaHolds}
 use Rattle.lexleader.proofs.Within.{made-within}
 use Rattle.emit.specs.Emit.{madeOf, variablesOf}
-use Rattle.checking.specs.Checking.{falseFrom}
+use Rattle.checking.specs.Checking.{yes, falseAt, falseFrom}
 
 module _ (q : ℕ) (v : ℕ → Bool) where
-  pub none-false : (clauses : List (List ℕ)) → length clauses ≡ 0 → falseFrom q v clauses ≡ 0
+  pub none-false : (clauses : List (List ℕ)) → length clauses ≡ 0 → falseFrom q v clauses ≡ yes
   unfolding falseFrom
   none-false [] e = refl
   none-false (clause ∷ clauses) e = absurd (omega arith)
 
-  pub found : (clauses : List (List ℕ)) → 0 < length clauses → clauseHolds v (getD clauses 0 []) ≡ false → falseFrom q v clauses ≡ q
+  pub found : (clauses : List (List ℕ)) → 0 < length clauses → clauseHolds v (getD clauses 0 []) ≡ false → falseFrom q v clauses ≡ falseAt q
   unfolding falseFrom
   found [] some h = absurd (omega arith)
   found (clause ∷ clauses) some h = rw h

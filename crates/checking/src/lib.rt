@@ -20,19 +20,25 @@ ghost use Rattle.lexleader.specs.Clause.{pairAt};
 ghost use Rattle.lexleader.specs.Places.{sixAt};
 ghost use Rattle.cursor.specs.Cursors.{rowAt, clausesLeft, Points, AtAuxiliary};
 ghost use Rattle.emit.specs.Emit.{variablesOf};
-ghost use Rattle.checking.specs.Checking.{firstFalse};
+ghost use Rattle.checking.specs.Checking.{verdictOf, firstFalse};
 ghost use Rattle.checking.specs.Six.{Within, ordered, due};
 
-// The number of the first clause of the made formula that an assignment of 1..N makes false, 0 where there is none.
+// Every clause of the made formula is true, or the number of the first that is false, from 1.
+pub enum Checked {
+    Satisfied,
+    Falsified(usize),
+}
+
+// The first clause of the made formula that an assignment of 1..N makes false.
 pub fn first_false(
     counts: Record,
     literals: &[u16],
     ends: &[u16],
     images: &[u16],
     a: &[u64],
-) -> usize
+) -> Checked
     requires { ⌜ (wellFormed (lent counts (now literals) (now ends) (now images)) ≡ true) × (isAssignment (variablesOf (lent counts (now literals) (now ends) (now images))) (now a) ≡ true) ⌝ }
-    ensures { λ r. ⌜ r ≡ firstFalse (lent counts (now (literals .entry)) (now (ends .entry)) (now (images .entry))) (now (a .entry)) ⌝ }
+    ensures { λ r. ⌜ verdictOf r ≡ firstFalse (lent counts (now (literals .entry)) (now (ends .entry)) (now (images .entry))) (now (a .entry)) ⌝ }
 {
     let total = emit::totals_of(counts, literals, ends, images);
     let clauses = total.clauses;
@@ -45,12 +51,12 @@ pub fn first_false(
             continue;
         }
         if !holds_at(counts, literals, ends, images, at, a) {
-            return q;
+            return Checked::Falsified(q);
         }
         at = cursor::next(counts, literals, ends, images, at);
         q += 1;
     }
-    0
+    Checked::Satisfied
 }
 
 // Whether a cursor stands at the first of an auxiliary's six clauses and they all hold.

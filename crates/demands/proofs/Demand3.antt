@@ -2,7 +2,7 @@
 -- models (lexleader/proofs/Theorems.antt) meets the store that the list leaves (AfterCalls.antt) and the calls on words. Assumes nothing.
 use mathlib.Core.Path.{_≡_, refl, sym, ap, _∙_}
 use mathlib.Core.Bool.{Bool, true, false, cond}
-use mathlib.Core.List.{List}
+use mathlib.Core.List.{List, _++_}
 use Prim.Native.Nat.{ℕ}
 use native.Mathlib.Omega.{arith}
 use lib.ListN.{length, take, drop}
@@ -20,18 +20,20 @@ use Rattle.store.proofs.Formed.{formed}
 use Rattle.store.proofs.Demands.{rows-of}
 use Rattle.symmetry.proofs.Facts.{literals-within}
 use Rattle.lexleader.specs.Made.{made, madeVariables, settings, filledIn}
-use Rattle.lexleader.specs.Kept.{Symmetric}
+use Rattle.lexleader.specs.Models.{Model}
+use Rattle.lexleader.specs.Kept.{Completes, Symmetric}
 use Rattle.lexleader.specs.Descent.{Ending, settled, spent, descend}
 use Rattle.lexleader.proofs.Theorems.{kept-iff, one-setting, filled-completes, carried-to-kept, satisfiable-iff, settled-kept}
 use Rattle.emit.specs.Emit.{madeOf, variablesOf}
 use Rattle.filling.specs.Written.{filledWords}
 use Rattle.filling.proofs.Runs.{length-filled}
-use Rattle.descent.specs.Words.{answerOf, descended}
-use Rattle.descent.specs.declared.Descended.{Descended}
-use Rattle.symbreak.specs.Calls.{Sizes, openSays, openStore, onStore, fillSays, fillLeaves, descendSays, descendLeaves}
+use Rattle.checking.specs.Checking.{yes}
+use Rattle.descent.specs.Words.{settledAfter, answerOf, descended}
+use Rattle.symbreak.specs.Calls.{Sizes, openSays, openStore, onStore, fillSays, fillLeaves, checkSays, descendSays, descendLeaves}
 use Rattle.demands.specs.Lists.{Call}
 use Rattle.demands.specs.Demand3.{variables, formula, permutations, left, Demand3}
 use Rattle.demands.proofs.AfterCalls.{keeps-calls, after-opening}
+use Rattle.demands.proofs.Checks.{yes-is-model}
 
 -- ---- what a call that answered says of the store and the words
 
@@ -65,14 +67,14 @@ record Settles (s : Store) (a : List ℕ) (limit moves : ℕ) : Type 0 where
   ends : descend limit (heldRows s) (bitsOf (s .counts .variables) a) ≡ settled moves reached
   leaves : descendLeaves s a limit ≡ wordsOf reached
 
-descend-settled : (s : Store) (a : List ℕ) (limit moves : ℕ) → descendSays s a limit ≡ done (Descended.Settled moves) → Settles s a limit moves
+descend-settled : (s : Store) (a : List ℕ) (limit moves : ℕ) → descendSays s a limit ≡ done (settledAfter moves) → Settles s a limit moves
 unfolding descendSays descendLeaves descended
 descend-settled s a limit moves e =
     by (standingOf s) refl (isAssignment (s .counts .variables) a) refl (descend limit (heldRows s) (bitsOf (s .counts .variables) a)) refl e
   where
     by : (standing : Standing) → standingOf s ≡ standing → (form : Bool) → isAssignment (s .counts .variables) a ≡ form
         → (ending : Ending) → descend limit (heldRows s) (bitsOf (s .counts .variables) a) ≡ ending
-        → onStore standing (cond form (done (answerOf ending)) (refused 12 0)) ≡ done (Descended.Settled moves) → Settles s a limit moves
+        → onStore standing (cond form (done (answerOf ending)) (refused 12 0)) ≡ done (settledAfter moves) → Settles s a limit moves
     by Standing.Ready p true q (settled count b) d e =
         let same : count ≡ moves = cc in
         record { reached = b; ends = d ∙ ap (λ (m : ℕ). settled m b) same; leaves = rw (p, q, d) }
@@ -138,6 +140,17 @@ module _ (s : Store) (text : List ℕ) (sizes : Sizes) (calls : List Call) (open
   unfolding variablesOf
   variables-are = let a = after-opening s text sizes calls opens in same-all same-variables (a .rows)
 
+  -- words of a setting that completes an assignment check as a model of the made formula
+  checked : (a setting : List Bool) (words : List ℕ) → Completes n F ps a setting → words ≡ wordsOf (a ++ setting) → checkSays t words ≡ done yes
+  checked a setting words c e =
+      let after = after-opening s text sizes calls opens in
+      let bits : List Bool = a ++ setting in
+      let size : length bits ≡ variablesOf t = c .size ∙ sym variables-are in
+      let model : Model (variablesOf t) (madeOf t) bits = rw (variables-are, made-is) c in
+      let form : isAssignment (variablesOf t) (wordsOf bits) ≡ true = rw (← size) (words-form bits) in
+      let same : bitsOf (variablesOf t) (wordsOf bits) ≡ bits = bits-words (variablesOf t) bits size in
+      rw e (yes-is-model t (wordsOf bits) .1 (record { opened = after .opened; formed = after .formed; form = form }, rw same model))
+
   pub demand-3 : Demand3 s text calls
   unfolding filledIn
   demand-3 =
@@ -165,4 +178,8 @@ module _ (s : Store) (text : List ℕ) (sizes : Sizes) (calls : List Call) (open
           filled-completes n F ps (y .literals) (y .permutations) (bitsOf n words) k,
           fill-wrote t words out written e ∙ same-filled same-variables (a .rows) words,
         );
+        checks = λ words out written k e.
+            checked (bitsOf n words) (settings ps (bitsOf n words)) (take written (fillLeaves t words out))
+            (filled-completes n F ps (y .literals) (y .permutations) (bitsOf n words) k)
+            (fill-wrote t words out written e ∙ same-filled same-variables (a .rows) words);
       }

@@ -29,8 +29,7 @@ use Rattle.lexleader.specs.Made.{auxiliaries, allAuxiliaries, madeVariables, ag
 use Rattle.lexleader.specs.Descent.{stepBy, descendFrom}
 use Rattle.emit.specs.Emit.{variablesOf}
 use Rattle.filling.specs.Written.{filledWords}
-use Rattle.descent.specs.Words.{descended}
-use Rattle.descent.specs.declared.Descended.{Descended}
+use Rattle.descent.specs.Words.{Outcome, settledAfter, spentAfter, descended}
 use Rattle.symbreak.specs.Calls.{Accepted, accepted, openStore, offerSays, offerStore, fillSays, fillLeaves, descendSays, descendLeaves, efficiencySays}
 
 -- the listing's formula, opened: `p cnf 3 2`, `1 2 0`, `2 3 0`
@@ -52,16 +51,16 @@ turned =
     (49 ∷ 32 ∷ 50 ∷ 32 ∷ 51 ∷ []) (50 ∷ 32 ∷ 51 ∷ 32 ∷ 49 ∷ [])
 
 -- what a case comes to: what an offer or a figure says, what a descent says and leaves, what filling in says and leaves
-data Outcome : Type 0 where
-  offered : Said Accepted → Outcome
-  figured : Said ℕ → Outcome
-  came : Said Descended → List ℕ → Outcome
-  filled : Said ℕ → List ℕ → Outcome
+data Case : Type 0 where
+  offered : Said Accepted → Case
+  figured : Said ℕ → Case
+  came : Said Outcome → List ℕ → Case
+  filled : Said ℕ → List ℕ → Case
 
-abbrev descent : Store → ℕ → ℕ → Outcome
+abbrev descent : Store → ℕ → ℕ → Case
 descent s a limit = came (descendSays s (a ∷ []) limit) (descendLeaves s (a ∷ []) limit)
 
-abbrev filling : Store → ℕ → Outcome
+abbrev filling : Store → ℕ → Case
 filling s a = filled (fillSays s (a ∷ []) 1) (fillLeaves s (a ∷ []) (0 ∷ []))
 
 -- The values of three variables stand in the highest bits of a word: 110 is 6 · 2 ^ 61. In the order of the paper: the listing's offers; with its row 110 settles at
@@ -90,13 +89,13 @@ starred :
     ∷ offered (refused 10 2)
     ∷ offered (refused 8 2)
     ∷ offered (refused 8 0)
-    ∷ came (done (Descended.Settled 1)) (3 * 2 ^ 61 ∷ [])
-    ∷ came (done (Descended.Spent 0)) (6 * 2 ^ 61 ∷ [])
-    ∷ came (done (Descended.Settled 0)) (3 * 2 ^ 61 ∷ [])
+    ∷ came (done (settledAfter 1)) (3 * 2 ^ 61 ∷ [])
+    ∷ came (done (spentAfter 0)) (6 * 2 ^ 61 ∷ [])
+    ∷ came (done (settledAfter 0)) (3 * 2 ^ 61 ∷ [])
     ∷ filled (done 1) (11 * 2 ^ 60 ∷ [])
     ∷ filled (done 1) (6 * 2 ^ 60 ∷ [])
-    ∷ came (done (Descended.Settled 1)) (1 * 2 ^ 61 ∷ [])
-    ∷ came (done (Descended.Settled 0)) (2 * 2 ^ 61 ∷ [])
+    ∷ came (done (settledAfter 1)) (1 * 2 ^ 61 ∷ [])
+    ∷ came (done (settledAfter 0)) (2 * 2 ^ 61 ∷ [])
     ∷ figured (done 8947)
     ∷ figured (done 9750)
     ∷ []

@@ -14,8 +14,9 @@ use Rattle.lexleader.specs.Models.{Model, Satisfiable}
 use Rattle.lexleader.specs.Made.{made, madeVariables}
 use Rattle.lexleader.specs.Kept.{Completes, Kept, Least, Carried}
 use Rattle.emit.specs.Emit.{madeOf, variablesOf}
-use Rattle.descent.specs.declared.Descended.{Descended}
-use Rattle.symbreak.specs.Calls.{openStore, fillSays, fillLeaves, descendSays, descendLeaves}
+use Rattle.checking.specs.Checking.{yes}
+use Rattle.descent.specs.Words.{settledAfter}
+use Rattle.symbreak.specs.Calls.{openStore, fillSays, fillLeaves, checkSays, descendSays, descendLeaves}
 use Rattle.demands.specs.Lists.{Call, after, accepted}
 
 -- n, F and ps: the variables and the clauses of the text, and the permutations that the offers not refused state on their lines; and the store after the list
@@ -50,7 +51,7 @@ module _ (s : Store) (text : List ℕ) (calls : List Call) where
     -- "Every plain model is carried by accepted permutations, one after another, as often as needed or not at all, to a kept one."
     pub carried : (a : List Bool) → Plain a → (b : List Bool) × Carried permutations a b × IsKept b
     -- "Every descent that starts at a plain model and answers settled, whatever its limit, ends on a kept one."
-    pub settles : (words : List ℕ) (limit moves : ℕ) → Plain (bitsOf variables words) → descendSays left words limit ≡ done (Descended.Settled moves)
+    pub settles : (words : List ℕ) (limit moves : ℕ) → Plain (bitsOf variables words) → descendSays left words limit ≡ done (settledAfter moves)
         → IsKept (bitsOf variables (descendLeaves left words limit))
     -- "Kept are exactly those plain models that no accepted permutation makes smaller."
     pub kept : (a : List Bool) → IsKept a ↔ (Plain a × Least permutations a)
@@ -59,3 +60,6 @@ module _ (s : Store) (text : List ℕ) (calls : List Call) where
     -- "and filling in, unless refused, writes it with that setting."
     pub fills : (words out : List ℕ) (written : ℕ) → IsKept (bitsOf variables words) → fillSays left words (length out) ≡ done written
         → (t : List Bool) × Completes variables formula permutations (bitsOf variables words) t × (take written (fillLeaves left words out) ≡ wordsOf (bitsOf variables words ++ t))
+    -- and what it writes, checked, is a model of the made formula
+    pub checks : (words out : List ℕ) (written : ℕ) → IsKept (bitsOf variables words) → fillSays left words (length out) ≡ done written
+        → checkSays left (take written (fillLeaves left words out)) ≡ done yes

@@ -15,7 +15,7 @@ use Rattle.lexleader.specs.Descent.{rest, to, stepBy, settled, spent, descendFr
 use Rattle.lexleader.proofs.Left.{part-is, left, left-all, left-step, left-end, row-size}
 use Rattle.descent.specs.declared.Descended.{Descended}
 use Rattle.valuation.specs.Tables.{Tabled, bitsIn}
-use Rattle.descent.specs.Words.{answerOf, descended}
+use Rattle.descent.specs.Words.{answerOf, outcomeOf, descended}
 use Rattle.descent.proofs.MoveLaws.{Fit, bits-in}
 
 -- ---- the search for a row
@@ -90,7 +90,7 @@ pub record Reached (n limit : ℕ) (rows : List (List ℕ)) (start values : List
 
 -- what a descent answers and leaves
 abbrev pub Ends : ℕ → ℕ → List (List ℕ) → List ℕ → Descended → List ℕ → Type 0
-Ends n limit rows start answer a = (answer ≡ answerOf (descend limit rows (bitsOf n start))) × (a ≡ descended n limit rows start)
+Ends n limit rows start answer a = (outcomeOf answer ≡ answerOf (descend limit rows (bitsOf n start))) × (a ≡ descended n limit rows start)
 
 module _ (n limit : ℕ) (rows : List (List ℕ)) where
   pub reached-none : (start values : List Bool) → Tabled n start values → Reached n limit rows start values 0

@@ -8,8 +8,7 @@ use Rattle.packed.specs.Order.{less}
 use Rattle.lexleader.specs.Models.{literalValue}
 use Rattle.lexleader.specs.Rows.{moved, lowers}
 use Rattle.lexleader.specs.Descent.{stepBy, descendFrom, descend}
-use Rattle.descent.specs.declared.Descended.{Descended}
-use Rattle.descent.specs.Words.{answerOf, descended}
+use Rattle.descent.specs.Words.{settledAfter, spentAfter, answerOf, descended}
 
 -- the row that exchanges 1 and 3
 abbrev exchanged : List (List ℕ)
@@ -20,7 +19,7 @@ comes-to : descended 3 1 exchanged ((6 * 2 ^ 61) ∷ []) ≡ (3 * 2 ^ 61) ∷ []
 unfolding descended descendFrom stepBy lowers moved less literalValue bitsOf wordsOf table binary wordCount bitAt bitIn
 comes-to = refl
 
-one-move : answerOf (descend 1 exchanged (bitsOf 3 ((6 * 2 ^ 61) ∷ []))) ≡ Descended.Settled 1
+one-move : answerOf (descend 1 exchanged (bitsOf 3 ((6 * 2 ^ 61) ∷ []))) ≡ settledAfter 1
 unfolding descendFrom stepBy lowers moved less literalValue bitsOf table bitAt bitIn
 one-move = refl
 
@@ -29,7 +28,7 @@ stays : descended 3 0 exchanged ((6 * 2 ^ 61) ∷ []) ≡ (6 * 2 ^ 61) ∷ []
 unfolding descended descendFrom stepBy lowers moved less literalValue bitsOf wordsOf table binary wordCount bitAt bitIn
 stays = refl
 
-no-move : answerOf (descend 0 exchanged (bitsOf 3 ((6 * 2 ^ 61) ∷ []))) ≡ Descended.Spent 0
+no-move : answerOf (descend 0 exchanged (bitsOf 3 ((6 * 2 ^ 61) ∷ []))) ≡ spentAfter 0
 unfolding descendFrom stepBy lowers moved less literalValue bitsOf table bitAt bitIn
 no-move = refl
 

@@ -7,14 +7,23 @@ use Rattle.packed.specs.Words.{bitsOf, wordsOf}
 use Rattle.lexleader.specs.Descent.{Ending, settled, spent, descend}
 use Rattle.descent.specs.declared.Descended.{Descended}
 
--- what a descent answers, and the assignment that it leaves
-abbrev pub answerOf : Ending → Descended
-answerOf (settled moves a) = Descended.Settled moves
-answerOf (spent moves a) = Descended.Spent moves
+-- "It ends `settled` with the count of moves .., or `spent`": what a descent answers, and the assignment that it leaves
+pub data Outcome : Type 0 where
+  settledAfter : ℕ → Outcome
+  spentAfter : ℕ → Outcome
+
+abbrev pub answerOf : Ending → Outcome
+answerOf (settled moves a) = settledAfter moves
+answerOf (spent moves a) = spentAfter moves
 
 abbrev pub reachedBy : Ending → List Bool
 reachedBy (settled moves a) = a
 reachedBy (spent moves a) = a
+
+-- what the code answers
+abbrev pub outcomeOf : Descended → Outcome
+outcomeOf (Descended.Settled moves) = settledAfter moves
+outcomeOf (Descended.Spent moves) = spentAfter moves
 
 -- the words afterwards
 unfoldable pub descended : ℕ → ℕ → List (List ℕ) → List ℕ → List ℕ

@@ -14,7 +14,7 @@ ghost use Rattle.lexleader.specs.Rows.{moved, lowers};
 ghost use Rattle.lexleader.specs.Descent.{rest, to, stepBy, descend};
 ghost use Rattle.valuation.specs.Ready.{Ready};
 ghost use Rattle.valuation.specs.Tables.{maxTable, Tabled, bitsIn};
-ghost use Rattle.descent.specs.Words.{answerOf, descended};
+ghost use Rattle.descent.specs.Words.{answerOf, outcomeOf, descended};
 
 // How a descent ends, with the count of its moves.
 pub enum Descended {
@@ -25,7 +25,7 @@ pub enum Descended {
 // Descends from an assignment of 1..n, by the rows of a well-formed store.
 pub fn descend(images: &[u16], rows: usize, n: usize, a: &mut [u64], limit: u64) -> Descended
     requires { ⌜ Ready n rows (now images) (now a) ⌝ }
-    ensures answer { λ r. ⌜ r ≡ answerOf (descend limit (rowsOf n rows (now (images .entry))) (bitsOf n (now (a .entry)))) ⌝ }
+    ensures answer { λ r. ⌜ outcomeOf r ≡ answerOf (descend limit (rowsOf n rows (now (images .entry))) (bitsOf n (now (a .entry)))) ⌝ }
     ensures reached { λ _. ⌜ now (a .exit) ≡ descended n limit (rowsOf n rows (now (images .entry))) (now (a .entry)) ⌝ }
 {
     let mut values = [false; valuation::TABLE];

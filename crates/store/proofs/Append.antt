@@ -13,7 +13,7 @@ use Rattle.store.specs.Stores.{Store, lent, maxRows, rowsOf, heldRows, i
 use Rattle.store.proofs.Demands.{rest-of, rows-of, rows-decide}
 
 -- what lies past the rows is not looked at
-rows-append : (n k : ℕ) (a b : List ℕ) → length a ≡ k * n → rowsOf n k (a ++ b) ≡ rowsOf n k a
+pub rows-append : (n k : ℕ) (a b : List ℕ) → length a ≡ k * n → rowsOf n k (a ++ b) ≡ rowsOf n k a
 unfolding rowsOf
 rows-append n zero a b e = refl
 rows-append n (suc k) a b e =
@@ -30,7 +30,7 @@ rows-snoc n (suc k) a row e l =
     rw (take-append-le n a row long, drop-append-le n a row long)
     (ap (λ (rows : List (List ℕ)). take n a ∷ rows) (rows-snoc n k (drop n a) row (length-drop n a ∙ omega arith) l))
 
-rows-take : (n k : ℕ) (images : List ℕ) → k * n ≤ length images → rowsOf n k (take (k * n) images) ≡ rowsOf n k images
+pub rows-take : (n k : ℕ) (images : List ℕ) → k * n ≤ length images → rowsOf n k (take (k * n) images) ≡ rowsOf n k images
 rows-take n k images h =
     sym (rows-append n k (take (k * n) images) (drop (k * n) images) (length-take-le (k * n) images h))
     ∙ ap (rowsOf n k) (take-append-drop (k * n) images)

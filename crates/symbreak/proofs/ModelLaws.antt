@@ -18,10 +18,11 @@ use Rattle.store.proofs.Demands.{rows-of}
 use Rattle.lexleader.specs.Made.{filledIn}
 use Rattle.lexleader.specs.Descent.{descend}
 use Rattle.emit.specs.Emit.{variablesOf}
-use Rattle.checking.specs.Checking.{firstFalse}
+use Rattle.checking.specs.Checking.{verdictOf, firstFalse}
+use Rattle.checking.specs.declared.Checked.{Checked}
 use Rattle.filling.specs.Written.{filledWords}
 use Rattle.filling.proofs.Runs.{length-filled}
-use Rattle.descent.specs.Words.{answerOf, descended}
+use Rattle.descent.specs.Words.{Outcome, answerOf, outcomeOf, descended}
 use Rattle.valuation.specs.Ready.{Ready}
 use Rattle.descent.specs.declared.Descended.{Descended}
 use Rattle.symbreak.specs.Calls.{fillSays, fillLeaves, checkSays, descendSays, descendLeaves}
@@ -76,14 +77,14 @@ module _ (s : Store) (a : List ℕ) where
     unfolding checkSays
     check-misformed e = rw (ready, e)
 
-    pub check-done : isAssignment (variablesOf s) a ≡ true → (clause : ℕ) → clause ≡ firstFalse s a → done clause ≡ checkSays s a
+    pub check-done : isAssignment (variablesOf s) a ≡ true → (found : Checked) → verdictOf found ≡ firstFalse s a → done (verdictOf found) ≡ checkSays s a
     unfolding checkSays
-    check-done e clause is = rw (ready, e) (ap done is)
+    check-done e found is = rw (ready, e) (ap done is)
 
 -- ---- descend
 
 module _ (s : Store) (a : List ℕ) (limit : ℕ) where
-  abbrev Descent : Said Descended → List ℕ → Type 0
+  abbrev Descent : Said Outcome → List ℕ → Type 0
   Descent said after = (said ≡ descendSays s a limit) × (after ≡ descendLeaves s a limit)
 
   pub descend-unready : (r : Refusal) → standingOf s ≡ Standing.Refused r → Descent (saidRefused r) a
@@ -96,7 +97,7 @@ module _ (s : Store) (a : List ℕ) (limit : ℕ) where
     descend-misformed e = rw (ready, e) (refl, refl)
 
     pub descend-done : isAssignment (s .counts .variables) a ≡ true → (ending : Descended) (after : List ℕ)
-        → ending ≡ answerOf (descend limit (heldRows s) (bitsOf (s .counts .variables) a)) → after ≡ descended (s .counts .variables) limit (heldRows s) a
-        → Descent (done ending) after
+        → outcomeOf ending ≡ answerOf (descend limit (heldRows s) (bitsOf (s .counts .variables) a)) → after ≡ descended (s .counts .variables) limit (heldRows s) a
+        → Descent (done (outcomeOf ending)) after
     unfolding descendSays descendLeaves
     descend-done form ending after e q = rw (ready, form) (ap done e, q)

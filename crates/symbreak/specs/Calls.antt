@@ -21,14 +21,13 @@ use Rattle.lexleader.specs.Descent.{descend}
 use Rattle.emit.specs.Emit.{variablesOf, headerOf, lineOf, headerBy, clauseBy}
 use Rattle.emit.specs.declared.Written.{Written}
 use Rattle.filling.specs.Written.{filledWords}
-use Rattle.checking.specs.Checking.{firstFalse}
-use Rattle.descent.specs.Words.{answerOf, descended}
-use Rattle.descent.specs.declared.Descended.{Descended}
-use Rattle.symbreak.specs.declared.Checked.{Checked}
+use Rattle.checking.specs.Checking.{Verdict, verdictOf, firstFalse}
+use Rattle.descent.specs.Words.{Outcome, answerOf, outcomeOf, descended}
 use Rattle.symbreak.specs.declared.Compared.{Compared}
 use Rattle.symbreak.specs.declared.Descent.{Descent}
 use Rattle.symbreak.specs.declared.Figure.{Figure}
 use Rattle.symbreak.specs.declared.Filled.{Filled}
+use Rattle.symbreak.specs.declared.Finding.{Finding}
 
 -- a call that answers without a value
 pub data Accepted : Type 0 where
@@ -84,7 +83,7 @@ offerStore s names values = storeOffered (offerSays s names values) s (rowFor s 
 -- ---- header and clause q: "each returning its byte length; bytes past it stay". 20, 21, then 13 for a clause, then 23
 
 abbrev pub saidWritten : Written → Said ℕ
-saidWritten (Written.Bytes length) = done length
+saidWritten (Written.Bytes bytes) = done bytes
 saidWritten (Written.Refused r) = saidRefused r
 
 -- the buffer afterwards: the line in front of what was past it, or as it was where the call refuses
@@ -128,29 +127,28 @@ fillSays s a room =
 unfoldable pub fillLeaves : Store → List ℕ → List ℕ → List ℕ
 fillLeaves s a out = bufferLeft (fillSays s a (length out)) (filledWords (s .counts .variables) (heldRows s) a) out
 
--- ---- check: 20, 21, 12. It answers 0 for yes, or the number of the first clause of the made formula that is false
+-- ---- check: 20, 21, 12. It "answers yes, or the first clause of the made formula that an assignment of 1..N makes false"
 
-abbrev pub saidChecked : Checked → Said ℕ
-saidChecked Checked.Satisfied = done 0
-saidChecked (Checked.Falsified clause) = done clause
-saidChecked (Checked.Refused r) = saidRefused r
+abbrev pub saidFinding : Finding → Said Verdict
+saidFinding (Finding.Found found) = done (verdictOf found)
+saidFinding (Finding.Refused r) = saidRefused r
 
-unfoldable pub checkSays : Store → List ℕ → Said ℕ
+unfoldable pub checkSays : Store → List ℕ → Said Verdict
 checkSays s a = onStore (standingOf s) (cond (isAssignment (variablesOf s) a) (done (firstFalse s a)) (refused 12 0))
 
 -- ---- descend: 20, 21, 12. It answers settled or spent with the count of moves, and leaves the assignment reached
 
-abbrev pub saidDescent : Descent → Said Descended
-saidDescent (Descent.Ended ending) = done ending
+abbrev pub saidDescent : Descent → Said Outcome
+saidDescent (Descent.Ended ending) = done (outcomeOf ending)
 saidDescent (Descent.Refused r) = saidRefused r
 
-unfoldable pub descendSays : Store → List ℕ → ℕ → Said Descended
+unfoldable pub descendSays : Store → List ℕ → ℕ → Said Outcome
 descendSays s a limit =
     let n = s .counts .variables in
     onStore (standingOf s) (cond (isAssignment n a) (done (answerOf (descend limit (heldRows s) (bitsOf n a)))) (refused 12 0))
 
-abbrev pub wordsLeft : Said Descended → List ℕ → List ℕ → List ℕ
-wordsLeft (done ending) reached a = reached
+abbrev pub wordsLeft : Said Outcome → List ℕ → List ℕ → List ℕ
+wordsLeft (done outcome) reached a = reached
 wordsLeft (refused number place) reached a = a
 
 unfoldable pub descendLeaves : Store → List ℕ → ℕ → List ℕ

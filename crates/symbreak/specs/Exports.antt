@@ -4,8 +4,9 @@ use mathlib.Core.Bool.{cond, not}
 use lib.Dec.{eqb}
 use Rattle.store.specs.Refusals.{Said, done, refused}
 use Rattle.store.specs.declared.record.Record.{Record}
+use Rattle.checking.specs.Checking.{Verdict, yes, falseAt}
+use Rattle.descent.specs.Words.{Outcome, settledAfter, spentAfter}
 use Rattle.symbreak.specs.declared.exports.CRecord.{CRecord}
-use Rattle.descent.specs.declared.Descended.{Descended}
 use Rattle.symbreak.specs.declared.exports.CAnswer.{CAnswer}
 use Rattle.symbreak.specs.declared.exports.CDescent.{CDescent}
 use Rattle.symbreak.specs.declared.exports.CStored.{CStored}
@@ -23,10 +24,16 @@ abbrev pub cAnswer : Said ℕ → CAnswer
 cAnswer (done value) = record { refusal = 0; place = 0; value = value }
 cAnswer (refused number place) = record { refusal = number; place = place; value = 0 }
 
+-- what a check finds: refusal 0, and the value 0 for yes or the number, from 1, of the first false clause; or the refusal's number and its place
+abbrev pub cChecked : Said Verdict → CAnswer
+cChecked (done yes) = record { refusal = 0; place = 0; value = 0 }
+cChecked (done (falseAt clause)) = record { refusal = 0; place = 0; value = clause }
+cChecked (refused number place) = record { refusal = number; place = place; value = 0 }
+
 -- how a descent ends: refusal 0, whether it settled, and the count of moves; or the refusal's number and its place
-abbrev pub cDescent : Said Descended → CDescent
-cDescent (done (Descended.Settled moves)) = record { refusal = 0; place = 0; settled = 1; moves = moves }
-cDescent (done (Descended.Spent moves)) = record { refusal = 0; place = 0; settled = 0; moves = moves }
+abbrev pub cDescent : Said Outcome → CDescent
+cDescent (done (settledAfter moves)) = record { refusal = 0; place = 0; settled = 1; moves = moves }
+cDescent (done (spentAfter moves)) = record { refusal = 0; place = 0; settled = 0; moves = moves }
 cDescent (refused number place) = record { refusal = number; place = place; settled = 0; moves = 0 }
 
 -- an answer beside a record: refusal 0 for none, or the refusal's number and its place; and the record

@@ -1,9 +1,10 @@
 // The calls for C (include/symbreak.h): numbers and slices in, structs of numbers out. A slice passes as a pointer and a length.
-use crate::Checked;
 use crate::Compared;
 use crate::Descent;
 use crate::Figure;
 use crate::Filled;
+use crate::Finding;
+use checking::Checked;
 use descent::Descended;
 use emit::Written;
 use offering::Offered;
@@ -16,8 +17,10 @@ ghost use mathlib.Core.List.{[]};
 ghost use lib.ListN.{length};
 ghost use Rattle.store.specs.Stores.{lent, closedRecord};
 ghost use Rattle.store.specs.Refusals.{done, saidRefused};
+ghost use Rattle.checking.specs.Checking.{verdictOf};
+ghost use Rattle.descent.specs.Words.{outcomeOf};
 ghost use Rattle.symbreak.specs.Calls.{openSays, openStore, offerSays, offerStore, headerSays, headerLeaves, clauseSays, clauseLeaves, fillSays, fillLeaves, checkSays, descendSays, descendLeaves, compareSays, efficiencySays};
-ghost use Rattle.symbreak.specs.Exports.{recordOf, cRecord, cAnswer, cDescent, cStored, cStoredAt};
+ghost use Rattle.symbreak.specs.Exports.{recordOf, cRecord, cAnswer, cChecked, cDescent, cStored, cStoredAt};
 
 #[repr(C)]
 pub struct CRecord {
@@ -184,13 +187,12 @@ pub extern "C" fn symbreak_check(
     images: &[u16],
     a: &[u64],
 ) -> CAnswer
-    ensures { λ r. ⌜ r ≡ cAnswer (checkSays (lent (recordOf variables clauses rows flag) (now (literals .entry)) (now (ends .entry)) (now (images .entry))) (now (a .entry))) ⌝ }
+    ensures { λ r. ⌜ r ≡ cChecked (checkSays (lent (recordOf variables clauses rows flag) (now (literals .entry)) (now (ends .entry)) (now (images .entry))) (now (a .entry))) ⌝ }
 {
     let counts = record_of(variables, clauses, rows, flag);
     match crate::check(counts, literals, ends, images, a) {
-        Checked::Satisfied => answer(0),
-        Checked::Falsified(clause) => answer(clause as u64),
-        Checked::Refused(r) => refusal(r),
+        Finding::Found(found) => c_checked(found),
+        Finding::Refused(r) => refusal(r),
     }
 }
 
@@ -272,8 +274,17 @@ fn c_record(r: Record) -> CRecord
     }
 }
 
+fn c_checked(found: Checked) -> CAnswer
+    ensures { λ r. ⌜ r ≡ cChecked (done (verdictOf found)) ⌝ }
+{
+    match found {
+        Checked::Satisfied => answer(0),
+        Checked::Falsified(clause) => answer(clause as u64),
+    }
+}
+
 fn c_descent(ending: Descended) -> CDescent
-    ensures { λ r. ⌜ r ≡ cDescent (done ending) ⌝ }
+    ensures { λ r. ⌜ r ≡ cDescent (done (outcomeOf ending)) ⌝ }
 {
     match ending {
         Descended::Settled(moves) => CDescent {

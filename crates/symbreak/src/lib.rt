@@ -1,5 +1,6 @@
 // The public calls. Each takes any bytes, any numbers and any store, and answers as document 01 says or refuses with its number; none asks
 // anything of its caller. `exports` has them for C.
+use checking::Checked;
 use descent::Descended;
 use emit::Written;
 use offering::Offered;
@@ -12,7 +13,7 @@ ghost use mathlib.Core.List.{[]};
 ghost use lib.ListN.{length};
 ghost use Rattle.store.specs.Stores.{lent, closedRecord};
 ghost use Rattle.packed.specs.Order.{part, lesserOf};
-ghost use Rattle.symbreak.specs.Calls.{saidOpened, openSays, openStore, saidOffered, offerSays, offerStore, saidWritten, headerSays, headerLeaves, clauseSays, clauseLeaves, saidFilled, fillSays, fillLeaves, saidChecked, checkSays, saidDescent, descendSays, descendLeaves, saidCompared, compareSays, saidFigure, efficiencySays};
+ghost use Rattle.symbreak.specs.Calls.{saidOpened, openSays, openStore, saidOffered, offerSays, offerStore, saidWritten, headerSays, headerLeaves, clauseSays, clauseLeaves, saidFilled, fillSays, fillLeaves, saidFinding, checkSays, saidDescent, descendSays, descendLeaves, saidCompared, compareSays, saidFigure, efficiencySays};
 
 pub mod exports;
 
@@ -34,10 +35,9 @@ pub enum Filled {
     Refused(Refusal),
 }
 
-// Whether an assignment satisfies the made formula, or the number of its first false clause.
-pub enum Checked {
-    Satisfied,
-    Falsified(usize),
+// What checking an assignment found.
+pub enum Finding {
+    Found(Checked),
     Refused(Refusal),
 }
 
@@ -202,21 +202,17 @@ pub fn fill_in(
 }
 
 // Whether an assignment of 1..N satisfies the made formula, or its first clause that is false.
-pub fn check(counts: Record, literals: &[u16], ends: &[u16], images: &[u16], a: &[u64]) -> Checked
-    ensures { λ r. ⌜ saidChecked r ≡ checkSays (lent counts (now (literals .entry)) (now (ends .entry)) (now (images .entry))) (now (a .entry)) ⌝ }
+pub fn check(counts: Record, literals: &[u16], ends: &[u16], images: &[u16], a: &[u64]) -> Finding
+    ensures { λ r. ⌜ saidFinding r ≡ checkSays (lent counts (now (literals .entry)) (now (ends .entry)) (now (images .entry))) (now (a .entry)) ⌝ }
 {
     if let Standing::Refused(refusal) = store::form::admit(counts, literals, ends, images) {
-        return Checked::Refused(refusal);
+        return Finding::Refused(refusal);
     }
     let total = emit::totals_of(counts, literals, ends, images);
     if !packed::is_assignment(a, total.variables) {
-        return Checked::Refused(Refusal::BadAssignment);
+        return Finding::Refused(Refusal::BadAssignment);
     }
-    let clause = checking::first_false(counts, literals, ends, images, a);
-    if clause == 0 {
-        return Checked::Satisfied;
-    }
-    Checked::Falsified(clause)
+    Finding::Found(checking::first_false(counts, literals, ends, images, a))
 }
 
 // Moves an assignment of 1..n by the first row that makes it smaller, as often as the limit allows and one does.

@@ -62,15 +62,9 @@ first-false-requires c κs = let s = start c in (ready (S s) (admitted (told c))
 
 returns-3 : tie.Need-returns-3
 returns-3 c =
-    let i = c .before .before in
+    let i = c .before in
     let s = start i in
-    check-done (S s) (s .args .a .now) (admitted (told i)) (form i) 0 (sym (c .if2 .taken) ∙ c .before .first-false .ensures)
-
-returns-4 : tie.Need-returns-4
-returns-4 c =
-    let i = c .before .before in
-    let s = start i in
-    check-done (S s) (s .args .a .now) (admitted (told i)) (form i) _ (c .before .first-false .ensures)
+    check-done (S s) (s .args .a .now) (admitted (told i)) (form i) (c .first-false .result) (c .first-false .ensures)
 
 pub check-spec : {M : Type 1} → statement M
 check-spec =
@@ -84,5 +78,4 @@ check-spec =
     is-assignment-requires
     returns-2
     first-false-requires
-    returns-3
-    returns-4)
+    returns-3)

@@ -67,7 +67,7 @@ returns-3 c =
     let d = c .before .before in
     let i = d .before .before in
     let s = start i in
-    descend-done (S s) (s .args .a .now) (s .args .limit) (admitted (told i)) (form i) _ _ (d .descend .ensures .0) (d .descend .ensures .1)
+    descend-done (S s) (s .args .a .now) (s .args .limit) (admitted (told i)) (form i) (d .descend .result) _ (d .descend .ensures .0) (d .descend .ensures .1)
 
 pub descend-spec : {M : Type 1} → statement M
 descend-spec =

@@ -2,8 +2,8 @@
 use mathlib.Core.Path.{_≡_, sym, ap, _∙_}
 use Rattle.store.specs.Stores.{Store, lent}
 use Rattle.store.specs.declared.record.Record.{Record}
-use Rattle.symbreak.specs.Calls.{saidChecked, checkSays}
-use Rattle.symbreak.specs.Exports.{recordOf, cAnswer}
+use Rattle.symbreak.specs.Calls.{saidFinding, checkSays}
+use Rattle.symbreak.specs.Exports.{recordOf, cChecked}
 use borrow.Author.Needs.{needs}
 use Rattle.symbreak.proofs.exports.symbreak_check.Statement.{statement}
 use Rattle.symbreak.proofs.exports.symbreak_check.Tie as tie
@@ -13,7 +13,7 @@ S c =
     lent (recordOf (c .args .variables) (c .args .clauses) (c .args .rows) (c .args .flag)) (c .args .literals .now) (c .args .ends .now) (c .args .images .now)
 
 -- what the call says, and what it leaves, of the record that the four numbers are
-says : (c : tie.After-check) → let s = c .before .before .before .before .before .before in saidChecked (c .check .result) ≡ checkSays (S s) (s .args .a .now)
+says : (c : tie.After-check) → let s = c .before .before .before .before .before .before in saidFinding (c .check .result) ≡ checkSays (S s) (s .args .a .now)
 says c =
     let s = c .before .before .before .before .before .before in
     c .check .ensures
@@ -25,17 +25,11 @@ record-of-requires c κs = search needs
 check-requires : tie.Need-check-requires
 check-requires c κs = search needs
 
-enum-told : tie.Need-enum-told
-enum-told c = search needs
+enum-known-found : tie.Need-enum-known-found
+enum-known-found c = search needs
 
-answer-requires : tie.Need-answer-requires
-answer-requires c κs = search needs
-
-enum-known-clause : tie.Need-enum-known-clause
-enum-known-clause c = search needs
-
-answer-requires-2 : tie.Need-answer-requires-2
-answer-requires-2 c κs = search needs
+c-checked-requires : tie.Need-c-checked-requires
+c-checked-requires c κs = search needs
 
 enum-known-r : tie.Need-enum-known-r
 enum-known-r c = search needs
@@ -44,13 +38,10 @@ refusal-requires : tie.Need-refusal-requires
 refusal-requires c κs = search needs
 
 returns : tie.Need-returns
-returns c = c .answer .ensures ∙ ap cAnswer (sym (ap saidChecked (c .before .enum-told .given .1)) ∙ says (c .before .before .before))
+returns c = c .c-checked .ensures ∙ ap cChecked (sym (ap saidFinding (c .before .before .found .given .1)) ∙ says (c .before .before .before .before))
 
 returns-2 : tie.Need-returns-2
-returns-2 c = c .answer2 .ensures ∙ ap cAnswer (sym (ap saidChecked (c .before .before .clause .given .1)) ∙ says (c .before .before .before .before))
-
-returns-3 : tie.Need-returns-3
-returns-3 c = c .refusal .ensures ∙ ap cAnswer (sym (ap saidChecked (c .before .before .r .given .1)) ∙ says (c .before .before .before .before))
+returns-2 c = c .refusal .ensures ∙ ap cChecked (sym (ap saidFinding (c .before .before .r .given .1)) ∙ says (c .before .before .before .before))
 
 pub symbreak-check-spec : {M : Type 1} → statement M
 symbreak-check-spec =
@@ -58,12 +49,9 @@ symbreak-check-spec =
     (tie.spec
     record-of-requires
     check-requires
-    enum-told
-    answer-requires
-    enum-known-clause
-    answer-requires-2
+    enum-known-found
+    c-checked-requires
     enum-known-r
     refusal-requires
     returns
-    returns-2
-    returns-3)
+    returns-2)

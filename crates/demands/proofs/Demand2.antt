@@ -1,0 +1,70 @@
+-- Demand 2 holds for every store: acceptance is that of Acceptance.antt, and the lines that the calls write, one after another, are the text of the made
+-- formula. Assumes nothing.
+use mathlib.Core.Path.{_≡_, refl, _∙_}
+use mathlib.Core.List.{List, _++_}
+use Prim.Native.Nat.{ℕ, zero, suc, _+_, _≤_}
+use native.Mathlib.Omega.{arith}
+use borrow.Author.Tests.{le-leb, le-ltb, ne-eqb}
+use lib.ListN.{length, drop}
+use lib.Seq.{take-append-seam}
+use Rattle.store.specs.Stores.{Store, plainOf, heldRows, standingOf}
+use Rattle.store.specs.declared.form.Standing.{Standing}
+use Rattle.store.proofs.StandingLaws.{ready-of}
+use Rattle.permutation.proofs.Theorem.{row-at-name, row-elsewhere}
+use Rattle.lexleader.specs.Made.{rowsClauses, made}
+use Rattle.render.specs.Text.{headerLine}
+use Rattle.emit.specs.Emit.{madeOf, variablesOf, clausesOf, headerOf, lineOf, linesOf, textOf, writtenIf, headerBy, clauseBy}
+use Rattle.emit.proofs.Text.{linesFrom, text-is-plain-then-documented}
+use Rattle.symbreak.specs.Calls.{saidWritten, bufferLeft, headerSays, headerLeaves, clauseSays, clauseLeaves}
+use Rattle.demands.specs.Demand2.{writtenBy, clausesWritten, textWritten, Demand2}
+use Rattle.demands.proofs.Acceptance.{accepts-of, accepted-iff-symmetry, accepted-symmetry, accepted-held}
+
+-- ---- what the calls write
+
+line-written : (line buffer : List ℕ) → length line ≤ length buffer
+    → writtenBy (saidWritten (writtenIf line (length buffer))) (bufferLeft (saidWritten (writtenIf line (length buffer))) line buffer) ≡ line
+unfolding writtenIf
+line-written line buffer h = rw (le-leb (length line) (length buffer) h) (take-append-seam line (drop (length line) buffer))
+
+module _ (s : Store) (ready : standingOf s ≡ Standing.Ready) where
+  header-written : (buffer : List ℕ) → length (headerOf s) ≤ length buffer → writtenBy (headerSays s (length buffer)) (headerLeaves s buffer) ≡ headerOf s
+  unfolding headerSays headerLeaves headerBy
+  header-written buffer h = rw ready (line-written (headerOf s) buffer h)
+
+  clause-written : (q : ℕ) → 1 ≤ q → q ≤ clausesOf s → (buffer : List ℕ) → length (lineOf s q) ≤ length buffer
+      → writtenBy (clauseSays s q (length buffer)) (clauseLeaves s q buffer) ≡ lineOf s q
+  unfolding clauseSays clauseLeaves clauseBy
+  clause-written q low high buffer h =
+      rw (ready, ne-eqb q 0 (λ e. omega arith), le-ltb (clausesOf s) q high) (line-written (lineOf s q) buffer h)
+
+  clauses-written : (buffers : ℕ → List ℕ) → ((q : ℕ) → length (lineOf s q) ≤ length (buffers q)) → (q count : ℕ) → 1 ≤ q → q + count ≤ clausesOf s + 1
+      → clausesWritten s buffers q count ≡ linesFrom s q count
+  unfolding clausesWritten linesFrom
+  clauses-written buffers room q zero low high = refl
+  clauses-written buffers room q (suc count) low high =
+      rw (clause-written q low (omega arith) (buffers q) (room q), clauses-written buffers room (q + 1) count (omega arith) (omega arith))
+
+  text-written : (buffer : List ℕ) → length (headerOf s) ≤ length buffer → (buffers : ℕ → List ℕ) → ((q : ℕ) → length (lineOf s q) ≤ length (buffers q))
+      → textWritten s buffer buffers ≡ textOf s
+  unfolding textWritten
+  text-written buffer room buffers rooms =
+      rw (header-written buffer room, clauses-written buffers rooms 1 (clausesOf s) (omega arith) (omega arith)) (text-is-plain-then-documented s)
+
+text-is : (s : Store) → textOf s ≡ headerLine (variablesOf s) (clausesOf s) ++ linesOf (plainOf s ++ rowsClauses (s .counts .variables + 1) (heldRows s))
+unfolding textOf headerOf madeOf made
+text-is s = refl
+
+-- ---- the theorem
+
+pub demand-2 : (s : Store) → Demand2 s
+demand-2 s = record {
+  accepts = λ names values. (
+    λ said. let a = accepts-of s names values said in
+        (record { opened = a .opened; formed = a .formed; few = a .few; stated = a .stated; room = a .room }, accepted-symmetry s names values said),
+    λ both. let p = both .0 in accepted-iff-symmetry s names values (p .opened) (p .formed) (p .few) (p .room) (p .stated) .1 (both .1),
+  );
+  holds = λ names values said. accepted-held s names values said;
+  named = λ names values said k h. row-at-name (s .counts .variables) names values (accepts-of s names values said .stated) k h;
+  others = λ names values said i low high e. row-elsewhere (s .counts .variables) names values i low high e;
+  text = λ opened formed buffer room buffers rooms. text-written s (ready-of s opened formed) buffer room buffers rooms ∙ text-is s;
+}

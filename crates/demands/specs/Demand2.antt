@@ -1,0 +1,61 @@
+-- Demand 2 of the brief, sentence by sentence: which offers are accepted, what is then held, and which text the calls write. `demand-2`
+-- (proofs/Demand2.antt) says that it holds for every store. Assumes nothing.
+use mathlib.Core.Path.{_≡_}
+use mathlib.Core.Bool.{true, false}
+use mathlib.Core.Logic.{_↔_}
+use Prim.Native.Nat.{ℕ, zero, suc, _+_, _-_, _*_, _≤_, _<_}
+use mathlib.Core.List.{List, [], _∷_, _++_}
+use lib.ListN.{length, getD, take}
+use Rattle.lists.specs.Tests.{has}
+use Rattle.store.specs.Refusals.{Said, done, refused}
+use Rattle.store.specs.Stores.{Store, plainOf, heldRows, wellFormed, maxRows}
+use Rattle.permutation.specs.Lines.{namesOn, valuesOn}
+use Rattle.permutation.specs.Stated.{statedBy}
+use Rattle.permutation.specs.declared.Stated.{Stated}
+use Rattle.symmetry.specs.Symmetry.{IsSymmetry}
+use Rattle.offering.specs.Offering.{rowFor, imagesNeeded}
+use Rattle.lexleader.specs.Made.{rowsClauses}
+use Rattle.render.specs.Text.{headerLine}
+use Rattle.emit.specs.Emit.{variablesOf, clausesOf, lineOf, linesOf, headerOf}
+use Rattle.symbreak.specs.Calls.{accepted, offerSays, offerStore, headerSays, headerLeaves, clauseSays, clauseLeaves}
+
+-- what a call that writes put at the start of its buffer: as many bytes as it says
+abbrev pub writtenBy : Said ℕ → List ℕ → List ℕ
+writtenBy (done bytes) buffer = take bytes buffer
+writtenBy (refused number place) buffer = []
+
+module _ (s : Store) where
+  -- "the input rules and limits permitting": the store is open, well formed and not full, the two lines state a permutation (7 to 10), and there is room
+  pub record Permitted (names values : List ℕ) : Type 0 where
+    pub opened : s .counts .is_open ≡ true
+    pub formed : wellFormed s ≡ true
+    pub few : s .counts .rows < maxRows
+    pub stated : statedBy (s .counts .variables) names values ≡ Stated.Permutation
+    pub room : imagesNeeded s ≤ length (s .images)
+
+  -- what the clause call writes for `count` clauses, from number q on, one after another; clause q goes into a buffer of its own
+  unfoldable pub clausesWritten : (ℕ → List ℕ) → ℕ → ℕ → List ℕ
+  clausesWritten buffers q zero = []
+  clausesWritten buffers q (suc count) =
+      writtenBy (clauseSays s q (length (buffers q))) (clauseLeaves s q (buffers q)) ++ clausesWritten buffers (q + 1) count
+
+  -- what is written by the header call and then by the clause call for clauses 1 to M
+  unfoldable pub textWritten : List ℕ → (ℕ → List ℕ) → List ℕ
+  textWritten buffer buffers = writtenBy (headerSays s (length buffer)) (headerLeaves s buffer) ++ clausesWritten buffers 1 (clausesOf s)
+
+  pub record Demand2 : Type 0 where
+    -- "A permutation is accepted exactly when it turns the formula's set of clauses into itself, the input rules and limits permitting,"
+    pub accepts : (names values : List ℕ)
+        → (offerSays s names values ≡ done accepted) ↔ (Permitted names values × IsSymmetry (rowFor s names values) (plainOf s))
+    -- the row held from then on is that permutation: "Name i goes to its value p(i); variables not named stay" (document 01)
+    pub holds : (names values : List ℕ) → offerSays s names values ≡ done accepted
+        → heldRows (offerStore s names values) ≡ heldRows s ++ (rowFor s names values ∷ [])
+    pub named : (names values : List ℕ) → offerSays s names values ≡ done accepted → (k : ℕ) → k < length (namesOn names)
+        → getD (rowFor s names values) (getD (namesOn names) k 0 - 1) 0 ≡ getD (valuesOn values) k 0
+    pub others : (names values : List ℕ) → offerSays s names values ≡ done accepted → (i : ℕ) → 1 ≤ i → i ≤ s .counts .variables → has (namesOn names) i ≡ false
+        → getD (rowFor s names values) (i - 1) 0 ≡ 2 * i
+    -- "and the text written is exactly the plain formula followed by the documented clauses", into buffers with room
+    pub text : s .counts .is_open ≡ true → wellFormed s ≡ true → (buffer : List ℕ) → length (headerOf s) ≤ length buffer
+        → (buffers : ℕ → List ℕ) → ((q : ℕ) → length (lineOf s q) ≤ length (buffers q))
+        → textWritten buffer buffers
+        ≡ headerLine (variablesOf s) (clausesOf s) ++ linesOf (plainOf s ++ rowsClauses (s .counts .variables + 1) (heldRows s))

@@ -1,9 +1,14 @@
-/* symbreak: lex-leader symmetry breaking for propositional formulas, proved correct. For C and C++; link libsymbreak.a.
+/* symbreak: lex-leader symmetry breaking for propositional formulas, proved correct. For C99 or C++98 and later. docs/MANUAL.md explains every term, call and
+ * refusal, with examples. In the project's folder, `rt staticlib symbreak` writes target/staticlib/libsymbreak.a; a host is linked with it by
+ *     cc host.c -Iinclude target/staticlib/libsymbreak.a
  *
  * Every call takes any numbers and any slices. It answers, or refuses with a number and a place; a refusal changes nothing that was lent.
  * A slice is a pointer and a length in elements; a slice of length 0 may have any pointer. A slice that a call writes must not overlap another that it is lent.
  * A const slice is only read; of one that is written, nothing changes but what the call says.
  * There is no state between calls, no allocation, no input or output: any calls may run at once, on any threads, that write no slice of one another.
+ *
+ * The order of assignments: A < B when A is false and B true at the first variable, from 1, at which they differ.
+ * The direction of a permutation p: an assignment A moved by p has at variable i the value A(p(i)). The inverse of p would put A(i) at p(i).
  */
 #ifndef SYMBREAK_H
 #define SYMBREAK_H
@@ -57,8 +62,8 @@ typedef struct {
     uint64_t is_open;
 } symbreak_record;
 
-/* What a call that may change the store answers: refusal 0, or the number of a refusal and its place; and the record to lend at the next call. From a
- * refusal that is the record lent, with 1 for any is_open but 0. */
+/* What a call that may change the store answers: refusal 0 and place 0, or the number of a refusal and its place; and the record to lend at the next call.
+ * From a refusal that is the record lent, with 1 for any is_open but 0. */
 typedef struct {
     uint32_t refusal;
     uint64_t place;
@@ -68,14 +73,14 @@ typedef struct {
     uint64_t is_open;
 } symbreak_stored;
 
-/* What a call with one value answers: refusal 0 and the value, or the number of a refusal and its place. */
+/* What a call with one value answers: refusal 0, place 0 and the value; or the number of a refusal, its place, and value 0. */
 typedef struct {
     uint32_t refusal;
     uint64_t place;
     uint64_t value;
 } symbreak_answer;
 
-/* What a descent answers: refusal 0, settled 1 or 0 (spent), and the count of moves; or the number of a refusal and its place. */
+/* What a descent answers: refusal 0, place 0, settled 1 or 0 (spent), and the count of moves; or the number of a refusal, its place, and 0 for both. */
 typedef struct {
     uint32_t refusal;
     uint64_t place;
@@ -100,8 +105,8 @@ symbreak_record symbreak_new_record(void);
 symbreak_stored symbreak_open(uint64_t variables, uint64_t clauses, uint64_t rows, uint64_t is_open, const uint8_t *text, size_t text_len,
                               uint16_t *literals, size_t literals_len, uint16_t *ends, size_t ends_len);
 
-/* Offers a permutation: a line of names and a line of values in that order, without line feeds; variables that are not named stay. It is held, as one row
- * more, exactly when it takes the formula's set of clauses to itself. images must have room for (rows + 1) * n entries.
+/* Offers a permutation p: a line of names and a line of values in that order, without line feeds. p takes each name to its value, and variables that are not
+ * named stay. It is held, as one row more, exactly when it takes the formula's set of clauses to itself. images must have room for (rows + 1) * n entries.
  * Refusals 20, 21, 22, 7, 8, 9, 10, 11, 23, in this order. */
 symbreak_stored symbreak_offer(uint64_t variables, uint64_t clauses, uint64_t rows, uint64_t is_open, const uint16_t *literals, size_t literals_len,
                                const uint16_t *ends, size_t ends_len, uint16_t *images, size_t images_len, const uint8_t *names, size_t names_len,

@@ -1,4 +1,9 @@
 pub mod Acceptance
 pub mod AfterCalls
 pub mod Demand3
+pub mod Firsts
+pub mod OfferFirsts
+pub mod Refusing
+pub mod OfferRefusals
+pub mod Demand1
 pub mod Starred

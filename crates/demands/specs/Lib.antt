@@ -1,2 +1,4 @@
 pub mod Lists
 pub mod Demand3
+pub mod Reasons
+pub mod Demand1

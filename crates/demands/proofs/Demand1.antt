@@ -16,9 +16,14 @@ use Rattle.store.specs.Stores.{Store, standingOf}
 use Rattle.store.specs.declared.refusal.Refusal.{Refusal}
 use Rattle.emit.specs.declared.Written.{Written}
 use Rattle.emit.specs.Emit.{variablesOf, clausesOf, headerOf, lineOf, writtenIf, headerBy, clauseBy}
-use Rattle.symbreak.specs.Calls.{onStore, saidWritten, headerSays, headerLeaves, clauseSays, clauseLeaves, compareSays, fillSays, fillLeaves, checkSays, descendSays, descendLeaves, efficiencySays}
+use Rattle.opening.specs.Opening.{openedBy}
+use Rattle.opening.specs.declared.Opened.{Opened}
+use Rattle.symbreak.specs.Calls.{saidOpened, openSays, openStore, saidWritten, headerSays, headerLeaves, clauseSays, clauseLeaves, compareSays, fillSays, fillLeaves, checkSays, descendSays, descendLeaves, efficiencySays}
 use Rattle.demands.specs.Reasons.{Reason, reason, headerReasons, clauseReasons, fillReasons, wrongForm, checkReasons, descendReasons, compareReasons, efficiencyReasons}
 use Rattle.demands.specs.Demand1.{RefusesBy, Unchanged, Demand1}
+use Rattle.demands.proofs.Acceptance.{store-refused}
+use Rattle.demands.proofs.OpenRefusals.{open-exact}
+use Rattle.demands.proofs.OfferRefusals.{offer-exact}
 use Rattle.demands.proofs.Refusing.{Exact, same-said, answers, held, missed, where-false, too-short, on-store}
 
 -- 12, and what comes after it
@@ -94,3 +99,33 @@ efficiency-exact labelled unlabelled allowed =
         (λ n. n (leb-true unlabelled allowed l, leb-true allowed labelled h))
         (⊎-elim (eqb-false labelled unlabelled e) (λ k. omega (arith, leb-true labelled maxLabelled t))))
         (answers refl)
+
+-- ---- what a refusal leaves
+
+open-leaves : (s : Store) (text : List ℕ) → Unchanged (openSays s text) s (openStore s text)
+unfolding openSays openStore
+open-leaves s text number place said = by (openedBy text (length (s .literals)) (length (s .ends))) refl said
+  where
+    by : (a : Opened) → openedBy text (length (s .literals)) (length (s .ends)) ≡ a → saidOpened a ≡ refused number place → openStore s text ≡ s
+    by (Opened.Open n m) e q = let z : _≡_ {A = ℕ} 0 1 = cc in absurd (omega arith)
+    by (Opened.Refused r) e q = rw e
+
+pub demand-1 : Demand1
+unfolding headerLeaves clauseLeaves fillLeaves descendLeaves
+demand-1 = record {
+  open-refuses = λ s text. open-exact s text .iff;
+  open-leaves = open-leaves;
+  offer-refuses = λ s names values. offer-exact s names values .iff;
+  offer-leaves = store-refused;
+  header-refuses = λ s room. header-exact s room .iff;
+  header-leaves = λ s out number place e. rw e;
+  clause-refuses = λ s q room. clause-exact s q room .iff;
+  clause-leaves = λ s q out number place e. rw e;
+  fill-refuses = λ s a room. fill-exact s a room .iff;
+  fill-leaves = λ s a out number place e. rw e;
+  check-refuses = λ s a. check-exact s a .iff;
+  descend-refuses = λ s a limit. descend-exact s a limit .iff;
+  descend-leaves = λ s a limit number place e. rw e;
+  compare-refuses = λ a b. compare-exact a b .iff;
+  efficiency-refuses = λ labelled unlabelled allowed. efficiency-exact labelled unlabelled allowed .iff;
+}

@@ -5,5 +5,6 @@ pub mod Firsts
 pub mod OfferFirsts
 pub mod Refusing
 pub mod OfferRefusals
+pub mod OpenRefusals
 pub mod Demand1
 pub mod Starred

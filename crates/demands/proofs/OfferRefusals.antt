@@ -105,20 +105,23 @@ module _ (s : Store) (names values : List ℕ) where
   turned : (r : Refusal) → statedBy n names values ≡ Stated.Refused r → said ≡ saidRefused r
   turned r e = ap saidOffered (not-stated s names values r e)
 
-  offer-exact : Exact (offerReasons s names values) (offerSays s names values)
+  pub offer-exact : Exact (offerReasons s names values) (offerSays s names values)
   unfolding offerSays statedBy
   offer-exact =
       on-store s
       (where-true (eqb (s .counts .rows) maxRows)
       (λ t. (eqb-true (s .counts .rows) maxRows t, rw t))
-      (λ t. (eqb-false (s .counts .rows) maxRows t, same-said (rw t)
-      (number-exact 7 names (λ p e. turned (Refusal.NameNotNumber p) (rw e)) (λ a.
-      name-exact n names (λ p e. turned (Refusal.BadName p) (rw (a, e))) (λ b named.
-      number-exact 9 values (λ p e. turned (Refusal.ValueNotNumber p) (rw (a, b, e))) (λ c.
-      value-exact n names values named (λ p e. turned (Refusal.BadValue p) (rw (a, b, c, e))) (λ d.
-      let stated : statedBy n names values ≡ Stated.Permutation = rw (a, b, c, d) in
-      symmetry-exact (rowFor s names values) (plainOf s)
-      (λ k e. ap saidOffered (not-symmetric s names values stated (k + 1) (sym e) (λ z. omega arith))) (λ e.
-      too-short accepted (imagesNeeded s) (length (s .images))
-      (λ h. ap saidOffered (taken s names values stated 0 (sym e) refl h))
-      (λ h. ap saidOffered (no-room s names values stated 0 (sym e) refl h)))))))))))
+      (λ t. (
+        eqb-false (s .counts .rows) maxRows t,
+        same-said (rw t)
+            (number-exact 7 names (λ p e. turned (Refusal.NameNotNumber p) (rw e)) (λ a.
+            name-exact n names (λ p e. turned (Refusal.BadName p) (rw (a, e))) (λ b named.
+            number-exact 9 values (λ p e. turned (Refusal.ValueNotNumber p) (rw (a, b, e))) (λ c.
+            value-exact n names values named (λ p e. turned (Refusal.BadValue p) (rw (a, b, c, e))) (λ d.
+            let stated : statedBy n names values ≡ Stated.Permutation = rw (a, b, c, d) in
+            symmetry-exact (rowFor s names values) (plainOf s)
+            (λ k e. ap saidOffered (not-symmetric s names values stated (k + 1) (sym e) (λ z. omega arith))) (λ e.
+            too-short accepted (imagesNeeded s) (length (s .images))
+            (λ h. ap saidOffered (taken s names values stated 0 (sym e) refl h))
+            (λ h. ap saidOffered (no-room s names values stated 0 (sym e) refl h)))))))),
+      )))

@@ -79,10 +79,12 @@ pub on-store : {Values : Type 0} {said : Said Values} {reasons : List Reason} (s
 on-store s rest =
     where-false (s .counts .is_open)
     (λ shut. (shut, rw (not-open s shut)))
-    (λ opened. (λ shut. never (sym shut ∙ opened),
+    (λ opened. (
+      λ shut. never (sym shut ∙ opened),
       where-false (wellFormed s)
-      (λ bad. (bad, rw (badly-formed s opened bad)))
-      (λ formed. (λ bad. never (sym bad ∙ formed), same-said (rw (ready-of s opened formed)) rest))))
+          (λ bad. (bad, rw (badly-formed s opened bad)))
+          (λ formed. (λ bad. never (sym bad ∙ formed), same-said (rw (ready-of s opened formed)) rest)),
+    ))
 
 -- 23, tried last
 pub too-short : {Values : Type 0} {said : Said Values} (v : Values) (needed room : ℕ) → (needed ≤ room → said ≡ done v) → (room < needed → said ≡ refused 23 needed)

@@ -9,11 +9,34 @@ use lib.ListN.{length}
 use Rattle.store.specs.Refusals.{Said, refused}
 use Rattle.store.specs.Stores.{Store}
 use Rattle.symbreak.specs.Calls.{
-  openSays, openStore, offerSays, offerStore, headerSays, headerLeaves, clauseSays, clauseLeaves, compareSays, fillSays, fillLeaves, checkSays, descendSays,
-  descendLeaves, efficiencySays
+  openSays,
+  openStore,
+  offerSays,
+  offerStore,
+  headerSays,
+  headerLeaves,
+  clauseSays,
+  clauseLeaves,
+  compareSays,
+  fillSays,
+  fillLeaves,
+  checkSays,
+  descendSays,
+  descendLeaves,
+  efficiencySays,
 }
 use Rattle.demands.specs.Reasons.{
-  Reason, comesFirst, openReasons, offerReasons, headerReasons, clauseReasons, fillReasons, checkReasons, descendReasons, compareReasons, efficiencyReasons
+  Reason,
+  comesFirst,
+  openReasons,
+  offerReasons,
+  headerReasons,
+  clauseReasons,
+  fillReasons,
+  checkReasons,
+  descendReasons,
+  compareReasons,
+  efficiencyReasons,
 }
 
 -- what a call says is "one numbered refusal exactly where its documented reason holds and comes first", whatever it says otherwise

@@ -1,26 +1,26 @@
 -- Demand 1 holds. Assumes nothing.
-use mathlib.Core.Path.{_≡_, refl, sym, ap, _∙_}
+use mathlib.Core.Path.{_≡_, refl, sym, _∙_}
 use mathlib.Core.Bool.{Bool, true, false, cond, not, _&&_}
 use mathlib.Core.List.{List, [], _∷_}
 use mathlib.Core.Logic.{_⊎_, inl, inr, ⊎-elim}
-use Prim.Native.Nat.{ℕ, _≤_, _<_}
+use Prim.Native.Nat.{ℕ, _<_}
 use native.Mathlib.Omega.{arith}
 use borrow.Author.Tests.{eqb-true, eqb-false, ltb-true, ltb-false, leb-true, leb-false, le-leb, lt-leb}
 use lib.ListN.{length}
 use lib.Dec.{eqb, ltb, leb}
-use Rattle.lists.proofs.Cases.{never, and-l, and-r}
+use Rattle.lists.proofs.Cases.{never}
 use Rattle.packed.specs.Words.{maxWords, wordCount, isAssignment}
 use Rattle.quality.specs.Efficiency.{maxLabelled, hasEfficiency}
 use Rattle.store.specs.Refusals.{Said, done, refused}
-use Rattle.store.specs.Stores.{Store, standingOf}
+use Rattle.store.specs.Stores.{Store}
 use Rattle.store.specs.declared.refusal.Refusal.{Refusal}
 use Rattle.emit.specs.declared.Written.{Written}
 use Rattle.emit.specs.Emit.{variablesOf, clausesOf, headerOf, lineOf, writtenIf, headerBy, clauseBy}
 use Rattle.opening.specs.Opening.{openedBy}
 use Rattle.opening.specs.declared.Opened.{Opened}
 use Rattle.symbreak.specs.Calls.{saidOpened, openSays, openStore, saidWritten, headerSays, headerLeaves, clauseSays, clauseLeaves, compareSays, fillSays, fillLeaves, checkSays, descendSays, descendLeaves, efficiencySays}
-use Rattle.demands.specs.Reasons.{Reason, reason, headerReasons, clauseReasons, fillReasons, wrongForm, checkReasons, descendReasons, compareReasons, efficiencyReasons}
-use Rattle.demands.specs.Demand1.{RefusesBy, Unchanged, Demand1}
+use Rattle.demands.specs.Reasons.{Reason, badAssignment, noSuchClause, tooShort, headerReasons, clauseReasons, fillReasons, checkReasons, descendReasons, compareReasons, efficiencyReasons}
+use Rattle.demands.specs.Demand1.{Unchanged, Demand1}
 use Rattle.demands.proofs.Acceptance.{store-refused}
 use Rattle.demands.proofs.OpenRefusals.{open-exact}
 use Rattle.demands.proofs.OfferRefusals.{offer-exact}
@@ -28,12 +28,12 @@ use Rattle.demands.proofs.Refusing.{Exact, same-said, answers, held, mi
 
 -- 12, and what comes after it
 wrong-form : {Values : Type 0} {said : Said Values} {reasons : List Reason} (n : ℕ) (a : List ℕ) → Exact reasons said
-    → Exact (wrongForm n a ∷ reasons) (cond (isAssignment n a) said (refused 12 0))
+    → Exact (badAssignment n a ∷ reasons) (cond (isAssignment n a) said (refused 12 0))
 wrong-form n a rest = where-false (isAssignment n a) (λ bad. (bad, rw bad)) (λ good. (λ bad. never (sym bad ∙ good), same-said (rw good) rest))
 
 -- ---- header and clause
 
-line-exact : (line : List ℕ) (room : ℕ) → Exact (reason 23 (room < length line) (length line) ∷ []) (saidWritten (writtenIf line room))
+line-exact : (line : List ℕ) (room : ℕ) → Exact (tooShort (length line) room ∷ []) (saidWritten (writtenIf line room))
 unfolding writtenIf
 line-exact line room = too-short (length line) (length line) room (λ h. rw (le-leb (length line) room h)) (λ h. rw (lt-leb (length line) room h))
 
@@ -47,7 +47,7 @@ clause-exact s q room = on-store s (by (eqb q 0) refl (ltb (clausesOf s) q) refl
   where
     by : (zero : Bool) → eqb q 0 ≡ zero → (above : Bool) → ltb (clausesOf s) q ≡ above
         → Exact
-        (reason 13 ((q ≡ 0) ⊎ (clausesOf s < q)) 0 ∷ reason 23 (room < length (lineOf s q)) (length (lineOf s q)) ∷ [])
+        (noSuchClause s q ∷ tooShort (length (lineOf s q)) room ∷ [])
         (saidWritten (cond zero (Written.Refused Refusal.NoSuchClause) (cond above (Written.Refused Refusal.NoSuchClause) (writtenIf (lineOf s q) room))))
     by true e above f = held (inl (eqb-true q 0 e)) refl
     by false e true f = held (inr (ltb-true (clausesOf s) q f)) refl

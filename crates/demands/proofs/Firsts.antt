@@ -1,7 +1,6 @@
 -- The first of a list that fails: there is one or all pass, never two, and a walk from the left finds it. Assumes nothing.
 use mathlib.Core.Path.{_≡_, refl, sym, ap, _∙_}
 use mathlib.Core.List.{List, [], _∷_, _++_, append-assoc, append-nil}
-use Prim.Native.Nat.{ℕ, _+_}
 use native.Mathlib.Omega.{arith}
 use lib.ListN.{length, length-append}
 use Rattle.demands.specs.Reasons.{AllPass, FirstFailing}

@@ -2,14 +2,14 @@
 use mathlib.Core.Path.{_≡_, refl, sym, ap, _∙_}
 use mathlib.Core.Bool.{Bool, true, false, cond, not, _&&_, _||_, or-false}
 use mathlib.Core.List.{List, [], _∷_, _++_, map, List·Memᴰ, List·Memᴰ·head, List·Memᴰ·tail, Memᴰ·cast, Memᴰ·map, Memᴰ·of-map}
-use mathlib.Core.Logic.{_↔_, _⊎_, inl, inr, ⊎-elim}
-use Prim.Native.Nat.{ℕ, _+_, _%_, _≤_, _<_}
+use mathlib.Core.Logic.{_↔_}
+use Prim.Native.Nat.{ℕ, _+_, _%_, _≤_}
 use native.Mathlib.Omega.{arith}
-use borrow.Author.Tests.{eq-eqb, ne-eqb, eqb-true, eqb-false, not-true}
+use borrow.Author.Tests.{eq-eqb, ne-eqb, eqb-false, not-true}
 use lib.ListN.{length, length-append, length-map}
 use lib.Dec.{eqb, ltb}
 use Rattle.lists.specs.Tests.{anyOf, has}
-use Rattle.lists.proofs.Cases.{never, and-l, and-r, and-both, or-cases, not-so}
+use Rattle.lists.proofs.Cases.{never, and-l, and-r, and-both, not-so}
 use Rattle.dimacs.specs.Words.{Piece, wordsAt}
 use Rattle.dimacs.specs.Numbers.{numberOf}
 use Rattle.dimacs.specs.declared.Number.{Number}
@@ -19,14 +19,14 @@ use Rattle.store.specs.Numerals.{codeIn}
 use Rattle.store.specs.Stores.{isImage}
 use Rattle.store.proofs.FormLaws.{literal-low, literal-high, image-literal}
 use Rattle.opening.proofs.CodeLaws.{coded}
-use Rattle.permutation.specs.Lines.{notNumber, badNameAfter, badName, badValueAfter, namesOn}
+use Rattle.permutation.specs.Lines.{notNumber, badNameAfter, badValueAfter, namesOn}
 use Rattle.permutation.specs.declared.Fault.{Fault}
 use Rattle.permutation.proofs.InOrder.{isValue}
 use Rattle.permutation.proofs.NameLaws.{image-sign, is-image, no-image}
 use Rattle.symmetry.specs.Symmetry.{hasImage, missingFrom}
 use Rattle.symmetry.proofs.SetLaws.{has-iff}
 use Rattle.symmetry.proofs.Theorem.{hasImage-iff}
-use Rattle.demands.specs.Reasons.{AllPass, FirstFailing, Reads, IsNumber, Numeric, Says, Name, Value, Mapped}
+use Rattle.demands.specs.Reasons.{AllPass, Reads, Numeric, Says, Name, Value, HasImage}
 use Rattle.demands.proofs.Firsts.{Turn, on, stop, Walked, walked}
 
 -- a fault at the place of the word at which the walk stops
@@ -80,11 +80,11 @@ split-at (List·Memᴰ·tail {x = x} m) = let r = split-at m in (x ∷ r .0, r .
 abbrev Plain : List Piece → Type 0
 Plain words = (y : Piece) → List·Memᴰ y words → (x : Number) × Reads y x × (x .negative ≡ false)
 
--- among the words is one of this variable
-abbrev Among : List Piece → ℕ → Type 0
-Among words v = (y : Piece) × List·Memᴰ y words × (variable y ≡ v)
+-- one of the words is of this variable
+abbrev WordOf : List Piece → ℕ → Type 0
+WordOf words v = (y : Piece) × List·Memᴰ y words × (variable y ≡ v)
 
-plain-says : {words : List Piece} (x : Number) → Plain words → x .negative ≡ false → Among words (x .size) ↔ Says words x
+plain-says : {words : List Piece} (x : Number) → Plain words → x .negative ≡ false → WordOf words (x .size) ↔ Says words x
 plain-says x p plus = (
   λ m. let r = p (m .0) (m .1) in
       let same : r .0 ≡ x = same-number (r .2 ∙ sym plus) (sym (size-of (m .0) (r .0) (r .1)) ∙ m .2) in
@@ -92,7 +92,7 @@ plain-says x p plus = (
   λ m. (m .0, m .1, size-of (m .0) x (m .2)),
 )
 
-among-map : (words : List Piece) (v : ℕ) → (has (map variable words) v ≡ true) ↔ Among words v
+among-map : (words : List Piece) (v : ℕ) → (has (map variable words) v ≡ true) ↔ WordOf words v
 among-map words v = (
   λ e. Memᴰ·of-map variable words (has-iff (map variable words) v .0 e),
   λ m. has-iff (map variable words) v .1 (Memᴰ·cast (sym (m .2)) (Memᴰ·map variable (m .1))),
@@ -262,14 +262,14 @@ module _ (row : List ℕ) (formula : List (List ℕ)) where
   abbrev pub numberAt : List (List ℕ) → List ℕ → List (List ℕ) → ℕ
   numberAt before clause after = length before + 1
 
-  clause-turn : (before : List (List ℕ)) (clause : List ℕ) (after : List (List ℕ)) → AllPass (Mapped row formula) before
-      → Turn (Mapped row formula) clauseWalk numberAt before clause after
+  clause-turn : (before : List (List ℕ)) (clause : List ℕ) (after : List (List ℕ)) → AllPass (HasImage row formula) before
+      → Turn (HasImage row formula) clauseWalk numberAt before clause after
   unfolding missingFrom
   clause-turn before clause after p = by (hasImage row formula clause) refl
     where
-      by : (t : Bool) → hasImage row formula clause ≡ t → Turn (Mapped row formula) clauseWalk numberAt before clause after
+      by : (t : Bool) → hasImage row formula clause ≡ t → Turn (HasImage row formula) clauseWalk numberAt before clause after
       by true e = on (hasImage-iff row formula clause .0 e) (rw (e, length-append before (clause ∷ [])))
       by false e = stop (λ h. never (sym e ∙ hasImage-iff row formula clause .1 h)) (rw e)
 
-  pub clause-walked : Walked (Mapped row formula) clauseWalk numberAt formula
-  clause-walked = walked (Mapped row formula) clauseWalk numberAt clause-turn formula
+  pub clause-walked : Walked (HasImage row formula) clauseWalk numberAt formula
+  clause-walked = walked (HasImage row formula) clauseWalk numberAt clause-turn formula

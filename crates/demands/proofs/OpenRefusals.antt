@@ -1,6 +1,6 @@
 -- Opening refuses by its list of reasons: the lines up to the problem line, then the words after it from the left. Assumes nothing.
 use mathlib.Core.Path.{_≡_, refl, sym, ap, _∙_}
-use mathlib.Core.Bool.{Bool, true, false, cond, not}
+use mathlib.Core.Bool.{Bool, true, false, cond}
 use mathlib.Core.List.{List, [], _∷_, _++_, append-assoc, append-nil}
 use mathlib.Core.Logic.{_⊎_, inl, inr, ⊎-elim}
 use Prim.Native.Nat.{ℕ, _+_, _≤_, _<_}
@@ -14,40 +14,22 @@ use Rattle.dimacs.specs.Lines.{linesAt}
 use Rattle.dimacs.specs.Numbers.{numberOf}
 use Rattle.dimacs.specs.declared.Number.{Number}
 use Rattle.dimacs.specs.declared.Numeral.{Numeral}
-use Rattle.store.specs.Refusals.{Said, done, refused, saidRefused}
+use Rattle.store.specs.Refusals.{Said, saidRefused}
 use Rattle.store.specs.Stores.{Store, maxVariables, maxClauses, maxLiterals}
 use Rattle.store.specs.declared.refusal.Refusal.{Refusal}
 use Rattle.opening.specs.Problem.{isComment, afterComments, sizesOf, withinLimits, problemIn, problemOf}
 use Rattle.opening.specs.Clauses.{scanFrom}
-use Rattle.opening.specs.Opening.{openedIf, openedAfter, openedBy}
+use Rattle.opening.specs.Opening.{openedIf, openedBy}
 use Rattle.opening.specs.declared.Sizes.{Sizes}
 use Rattle.opening.specs.declared.Problem.{Problem}
 use Rattle.opening.specs.declared.Scanned.{Scanned}
-use Rattle.opening.specs.declared.Opened.{Opened}
 use Rattle.opening.proofs.ProblemLaws.{many-variables, many-clauses, within}
-use Rattle.opening.proofs.ScanLaws.{scan-done, scan-short, scan-extra, scan-word, scan-close, scan-beyond, scan-many, scan-literal}
+use Rattle.opening.proofs.ScanLaws.{scan-extra, scan-word, scan-close, scan-beyond, scan-many, scan-literal}
 use Rattle.symbreak.specs.Calls.{Sizes as Opening, saidOpened, openSays}
-use Rattle.demands.specs.Reasons.{
-  Reason,
-  reason,
-  AllPass,
-  FirstFailing,
-  Reads,
-  IsNumber,
-  Comment,
-  noProblemLine,
-  sizeOverLimit,
-  countOf,
-  isZero,
-  isOther,
-  closedBy,
-  literalsBy,
-  wordReasons,
-  bodyReasons,
-  openReasons,
-}
+use Rattle.demands.specs.Reasons.{Reason, AllPass, FirstFailing, Comment, noProblemLine, sizeOverLimit, Reads, notNumber, literalBeyond}
+use Rattle.demands.specs.Reasons.{countOf, isZero, isNonzero, closedBy, literalsBy, tooManyLiterals, tooShort, wordReasons, endReasons, bodyReasons, openReasons}
 use Rattle.demands.proofs.Firsts.{never-both, one-first, Turn, on, stop, Walked, found, none, walked}
-use Rattle.demands.proofs.Refusing.{Exact, same-said, answers, refuses, goes-on, held, missed, where-true, where-false, too-short}
+use Rattle.demands.proofs.Refusing.{Exact, same-said, refuses, goes-on, held, missed, where-true, where-false, too-short}
 
 -- ---- the words after the problem line
 
@@ -61,13 +43,13 @@ module _ (before : List Piece) (w : Piece) (x : Number) (reads : Reads w x) wher
   closes : x .size ≡ 0 → (closedBy (before ++ (w ∷ [])) ≡ closedBy before + 1) × (literalsBy (before ++ (w ∷ [])) ≡ literalsBy before)
   closes z = (
     count-more isZero before w ∙ rw (reads, eq-eqb (x .size) 0 z),
-    count-more isOther before w ∙ rw (reads, eq-eqb (x .size) 0 z) (omega arith),
+    count-more isNonzero before w ∙ rw (reads, eq-eqb (x .size) 0 z) (omega arith),
   )
 
   counts : (x .size ≡ 0 → ⊥) → (closedBy (before ++ (w ∷ [])) ≡ closedBy before) × (literalsBy (before ++ (w ∷ [])) ≡ literalsBy before + 1)
   counts z = (
     count-more isZero before w ∙ rw (reads, ne-eqb (x .size) 0 z) (omega arith),
-    count-more isOther before w ∙ rw (reads, ne-eqb (x .size) 0 z),
+    count-more isNonzero before w ∙ rw (reads, ne-eqb (x .size) 0 z),
   )
 
 -- what is said of the words of a text of a length, after a problem line of n and m, where there is room for so many literals and ends
@@ -75,18 +57,17 @@ module _ (end n m literals ends : ℕ) (all : List Piece) where
   abbrev judged : Scanned → Said Opening
   judged scanned = saidOpened (openedIf scanned n m literals ends)
 
-  -- the reasons after all words
-  abbrev lastReasons : List Reason
-  lastReasons = reason 6 (closedBy all < m) end ∷ reason 23 (literals < literalsBy all) (literalsBy all) ∷ reason 23 (ends < m) m ∷ []
+  abbrev last : List Reason
+  last = endReasons m all end literals ends
 
-  last-exact : closedBy all ≤ m → Exact lastReasons (judged (scanFrom end n m (closedBy all) (literalsBy all) []))
+  last-exact : closedBy all ≤ m → Exact last (judged (scanFrom end n m (closedBy all) (literalsBy all) []))
   unfolding scanFrom
   last-exact h =
       where-false (eqb (closedBy all) m)
       (λ t. (omega (arith, eqb-false (closedBy all) m t), rw t))
       (λ t. (λ k. omega (arith, eqb-true (closedBy all) m t), same-said (rw t) fits))
     where
-      fits : Exact (reason 23 (literals < literalsBy all) (literalsBy all) ∷ reason 23 (ends < m) m ∷ []) (judged (Scanned.Done (literalsBy all)))
+      fits : Exact (tooShort (literalsBy all) literals ∷ tooShort m ends ∷ []) (judged (Scanned.Done (literalsBy all)))
       fits =
           where-false (leb (literalsBy all) literals)
           (λ t. (leb-false (literalsBy all) literals t, rw t))
@@ -101,20 +82,14 @@ module _ (end n m literals ends : ℕ) (all : List Piece) where
     Scans reasons passed left = Exact reasons (judged (scanFrom end n m (closedBy passed) (literalsBy passed) left))
 
     abbrev later : List Reason
-    later = wordReasons n m (before ++ (w ∷ [])) words ++ lastReasons
+    later = wordReasons n m (before ++ (w ∷ [])) words ++ last
 
     module _ (low : closedBy before ≤ m) (more : closedBy before ≡ m → ⊥) (rest : closedBy (before ++ (w ∷ [])) ≤ m → Scans later (before ++ (w ∷ [])) words) where
-      abbrev beyond : Reason
-      beyond = reason 4 ((x : Number) × Reads w x × (n < x .size)) (w .place)
-
-      abbrev many : Reason
-      many = reason 5 ((x : Number) × Reads w x × (0 < x .size) × (literalsBy before ≡ maxLiterals)) (w .place)
-
       module _ (x : Number) (reads : Reads w x) where
         the-size : (y : Number) → Reads w y → y .size ≡ x .size
         the-size y r = let same : y ≡ x = cc in ap (λ (z : Number). z .size) same
 
-        zero-exact : x .size ≡ 0 → Scans (beyond ∷ many ∷ later) before (w ∷ words)
+        zero-exact : x .size ≡ 0 → Scans (literalBeyond n w ∷ tooManyLiterals before w ∷ later) before (w ∷ words)
         zero-exact z =
             let c = closes before w x reads z in
             missed (λ k. omega (arith, the-size (k .0) (k .1), k .2))
@@ -123,7 +98,7 @@ module _ (end n m literals ends : ℕ) (all : List Piece) where
             (ap judged (scan-close end n m (closedBy before) (literalsBy before) (w ∷ words) w words refl more x reads z))
             (rw (c .0, c .1) at (rest (omega (arith, c .0))))))
 
-        literal-exact : (x .size ≡ 0 → ⊥) → Scans (beyond ∷ many ∷ later) before (w ∷ words)
+        literal-exact : (x .size ≡ 0 → ⊥) → Scans (literalBeyond n w ∷ tooManyLiterals before w ∷ later) before (w ∷ words)
         literal-exact z =
             let c = counts before w x reads z in
             where-true (ltb n (x .size))
@@ -142,10 +117,10 @@ module _ (end n m literals ends : ℕ) (all : List Piece) where
                   )),
             ))
 
-      word-exact : Scans (reason 3 (IsNumber w → ⊥) (w .place) ∷ beyond ∷ many ∷ later) before (w ∷ words)
+      word-exact : Scans (notNumber w ∷ literalBeyond n w ∷ tooManyLiterals before w ∷ later) before (w ∷ words)
       word-exact = by (numberOf (w .bytes)) refl
         where
-          by : (x : Numeral) → numberOf (w .bytes) ≡ x → Scans (reason 3 (IsNumber w → ⊥) (w .place) ∷ beyond ∷ many ∷ later) before (w ∷ words)
+          by : (x : Numeral) → numberOf (w .bytes) ≡ x → Scans (notNumber w ∷ literalBeyond n w ∷ tooManyLiterals before w ∷ later) before (w ∷ words)
           by (Numeral.Is x) e = missed (λ f. f (x, e)) (⊎-elim (zero-exact x e) (literal-exact x e) (eq-or-ne (x .size) 0))
           by Numeral.Not e =
               held
@@ -153,7 +128,7 @@ module _ (end n m literals ends : ℕ) (all : List Piece) where
               (ap judged (scan-word end n m (closedBy before) (literalsBy before) (w ∷ words) w words refl more e))
 
   scan-exact : (before words : List Piece) → all ≡ before ++ words → closedBy before ≤ m
-      → Exact (wordReasons n m before words ++ lastReasons) (judged (scanFrom end n m (closedBy before) (literalsBy before) words))
+      → Exact (wordReasons n m before words ++ last) (judged (scanFrom end n m (closedBy before) (literalsBy before) words))
   unfolding wordReasons
   scan-exact before [] e low = let whole : before ≡ all = sym (append-nil before) ∙ sym e in rw whole (last-exact (rw whole at low))
   scan-exact before (w ∷ words) e low =
@@ -211,18 +186,16 @@ module _ (s : Store) (text : List ℕ) where
     same-sizes g = ap (λ (line : Piece). sizesOf (line .bytes)) (one-first Comment g f .1)
 
     module _ (n m : ℕ) (sizes : sizesOf (f .it .bytes) ≡ Sizes.Are n m) where
-      place : ℕ
+      abbrev place : ℕ
       place = f .it .place
 
-      end : ℕ
+      abbrev end : ℕ
       end = f .it .place + length (f .it .bytes)
 
       limits : problemOf text ≡ withinLimits (Sizes.Are n m) place end
-      unfolding place end
       limits = here ∙ rw sizes
 
       over : (maxVariables < n) ⊎ (maxClauses < m) → problemOf text ≡ Problem.Refused (Refusal.SizeOverLimit place) → Exact (sizeOverLimit text ∷ body) (openSays s text)
-      unfolding place
       over h e =
           refuses (sizeOverLimit text) place (f, n, m, sizes, h, refl) (λ p k. k .5 ∙ same-place (k .0)) (refused-head (Refusal.SizeOverLimit place) e)
 
@@ -243,7 +216,7 @@ module _ (s : Store) (text : List ℕ) where
               let same-m : o .2 ≡ m = cc in
               ⊎-elim (λ big. omega arith) (λ big. omega arith) (o .4)
 
-    line-exact : (sizes : Sizes) → sizesOf (f .it .bytes) ≡ sizes → Exact (openReasons text room-literals room-ends) (openSays s text)
+    line-exact : (sizes : Sizes) → sizesOf (f .it .bytes) ≡ sizes → Exact (openReasons s text) (openSays s text)
     line-exact Sizes.Not e =
         refuses (noProblemLine text) (f .it .place) (inl (f, e, refl))
         (λ p. ⊎-elim (λ h. h .2 ∙ same-place (h .0)) (λ h. absurd (never-both Comment (h .0) f)))
@@ -256,17 +229,17 @@ module _ (s : Store) (text : List ℕ) where
         (size-exact n m e)
 
   -- no line but comments
-  comments-exact : AllPass Comment (linesAt text 0) → afterComments (linesAt text 0) ≡ [] → Exact (openReasons text room-literals room-ends) (openSays s text)
+  comments-exact : AllPass Comment (linesAt text 0) → afterComments (linesAt text 0) ≡ [] → Exact (openReasons s text) (openSays s text)
   unfolding problemOf problemIn
   comments-exact all e =
       refuses (noProblemLine text) (length text) (inr (all, refl))
       (λ p. ⊎-elim (λ h. absurd (never-both Comment all (h .0))) (λ h. h .1))
       (refused-head (Refusal.NoProblemLine (length text)) (rw e))
 
-  pub open-exact : Exact (openReasons text room-literals room-ends) (openSays s text)
+  pub open-exact : Exact (openReasons s text) (openSays s text)
   unfolding afterComments
   open-exact = by (walked Comment commentWalk lineAt comment-turn (linesAt text 0))
     where
-      by : Walked Comment commentWalk lineAt (linesAt text 0) → Exact (openReasons text room-literals room-ends) (openSays s text)
+      by : Walked Comment commentWalk lineAt (linesAt text 0) → Exact (openReasons s text) (openSays s text)
       by (found f e) = line-exact f e (sizesOf (f .it .bytes)) refl
       by (none all e) = comments-exact all e

@@ -2,7 +2,7 @@
 use mathlib.Core.Path.{_≡_, refl, sym, _∙_}
 use mathlib.Core.Bool.{Bool, true, false}
 use mathlib.Core.List.{List, [], _∷_}
-use mathlib.Core.Logic.{_↔_, _⊎_, inl, inr}
+use mathlib.Core.Logic.{_⊎_, inl, inr}
 use Prim.Native.Nat.{ℕ, _≤_, _<_}
 use native.Mathlib.Omega.{arith}
 use borrow.Author.Tests.{leb-true, leb-false}
@@ -10,11 +10,9 @@ use lib.Dec.{leb}
 use Rattle.lists.proofs.Cases.{never}
 use Rattle.store.specs.Refusals.{Said, done, refused}
 use Rattle.store.specs.Stores.{Store, wellFormed, standingOf}
-use Rattle.store.specs.declared.form.Standing.{Standing}
-use Rattle.store.specs.declared.refusal.Refusal.{Refusal}
 use Rattle.store.proofs.StandingLaws.{not-open, badly-formed, ready-of}
 use Rattle.symbreak.specs.Calls.{onStore}
-use Rattle.demands.specs.Reasons.{Reason, comesFirst, reason, onStoreReasons}
+use Rattle.demands.specs.Reasons.{Reason, comesFirst, reason, tooShort, onStoreReasons}
 use Rattle.demands.specs.Demand1.{RefusesBy}
 
 -- the same as a record, so that the reasons and what is said are found by the checker
@@ -88,7 +86,7 @@ on-store s rest =
 
 -- 23, tried last
 pub too-short : {Values : Type 0} {said : Said Values} (v : Values) (needed room : ℕ) → (needed ≤ room → said ≡ done v) → (room < needed → said ≡ refused 23 needed)
-    → Exact (reason 23 (room < needed) needed ∷ []) said
+    → Exact (tooShort needed room ∷ []) said
 too-short v needed room fits short =
     where-false (leb needed room)
     (λ t. let h = leb-false needed room t in (h, short h))

@@ -1,4 +1,4 @@
--- An offer refuses by its list of reasons. Assumes nothing.
+-- An offer refuses by its list of reasons: each of 7 to 11 by the walk that looks for it (OfferFirsts.antt). Assumes nothing.
 use mathlib.Core.Path.{_≡_, refl, sym, ap, _∙_}
 use mathlib.Core.Bool.{Bool, true, false}
 use mathlib.Core.List.{List, [], _∷_}
@@ -29,6 +29,7 @@ use Rattle.demands.proofs.Refusing.{Exact, same-said, refuses, goes-on,
 abbrev placeIn : Piece → ℕ
 placeIn w = w .place
 
+-- one reason, and what is left once it does not hold
 module _ {said : Said Accepted} {reasons : List Reason} where
   number-exact : (k : ℕ) (line : List ℕ) → ((p : ℕ) → notNumber (wordsAt line 0) ≡ Fault.At p → said ≡ refused k p)
       → (notNumber (wordsAt line 0) ≡ Fault.Nowhere → Exact reasons said) → Exact (wordNotNumber k line ∷ reasons) said
@@ -60,29 +61,6 @@ module _ {said : Said Accepted} {reasons : List Reason} where
           (λ p. ⊎-elim (λ h. never-both (Name n) all (h .0)) (λ h. let z : _≡_ {A = ℕ} 0 1 = cc (h .0) in omega arith))
           (rest (name-first n (length line) q ∙ e ∙ name-end n (seen (wordsAt line 0)) refl) all)
 
-  value-exact : (n : ℕ) (names line : List ℕ) → AllPass (Name n) (wordsAt names 0)
-      → ((p : ℕ) → badValueAfter (namesOn names) (length line) [] (wordsAt line 0) ≡ Fault.At p → said ≡ refused 10 p)
-      → (badValueAfter (namesOn names) (length line) [] (wordsAt line 0) ≡ Fault.Nowhere → Exact reasons said)
-      → Exact (badValue (wordsAt names 0) line ∷ reasons) said
-  unfolding seen-from
-  value-exact n names line named to rest =
-      by (ltb (length (wordsAt line 0)) (length (wordsAt names 0))) refl (value-walked n (length line) names named (wordsAt line 0))
-    where
-      by : (few : Bool) → ltb (length (wordsAt line 0)) (length (wordsAt names 0)) ≡ few
-          → Walked (Value (wordsAt names 0)) (valueWalk n (length line) names named) faultAt (wordsAt line 0) → Exact (badValue (wordsAt names 0) line ∷ reasons) said
-      by few q (found f e) =
-          refuses (badValue (wordsAt names 0) line) (f .it .place) (inl (f, refl))
-          (λ p. ⊎-elim (λ h. h .1 ∙ ap placeIn (one-first (Value (wordsAt names 0)) (h .0) f .1)) (λ h. absurd (never-both (Value (wordsAt names 0)) (h .0) f)))
-          (to (f .it .place) e)
-      by true q (none all e) =
-          refuses (badValue (wordsAt names 0) line) (length line) (inr (all, ltb-true (length (wordsAt line 0)) (length (wordsAt names 0)) q, refl))
-          (λ p. ⊎-elim (λ h. absurd (never-both (Value (wordsAt names 0)) all (h .0))) (λ h. h .2))
-          (to (length line) (e ∙ value-end n (length line) names named (wordsAt line 0) ∙ rw q))
-      by false q (none all e) =
-          goes-on (badValue (wordsAt names 0) line)
-          (λ p. ⊎-elim (λ h. never-both (Value (wordsAt names 0)) all (h .0)) (λ h. omega (arith, h .1, ltb-false (length (wordsAt line 0)) (length (wordsAt names 0)) q)))
-          (rest (e ∙ value-end n (length line) names named (wordsAt line 0) ∙ rw q))
-
   symmetry-exact : (row : List ℕ) (formula : List (List ℕ)) → ((k : ℕ) → firstMissing row formula ≡ k + 1 → said ≡ refused 11 (k + 1))
       → (firstMissing row formula ≡ 0 → Exact reasons said) → Exact (noSymmetry row formula ∷ reasons) said
   unfolding missingFrom
@@ -94,6 +72,35 @@ module _ {said : Said Accepted} {reasons : List Reason} where
           (λ p h. h .1 ∙ ap (λ (l : List (List ℕ)). length l + 1) (one-first (HasImage row formula) (h .0) f .0))
           (to (length (f .before)) e)
       by (none all e) = goes-on (noSymmetry row formula) (λ p h. never-both (HasImage row formula) all (h .0)) (rest e)
+
+module _ (n : ℕ) (names line : List ℕ) (named : AllPass (Name n) (wordsAt names 0)) where
+  abbrev Passes : List Piece → Piece → Type 0
+  Passes = Value (wordsAt names 0)
+
+  abbrev few : Bool
+  few = ltb (length (wordsAt line 0)) (length (wordsAt names 0))
+
+  abbrev valueFault : Fault
+  valueFault = badValueAfter (namesOn names) (length line) [] (wordsAt line 0)
+
+  value-exact : {said : Said Accepted} {reasons : List Reason} → ((p : ℕ) → valueFault ≡ Fault.At p → said ≡ refused 10 p) → (valueFault ≡ Fault.Nowhere → Exact reasons said)
+      → Exact (badValue (wordsAt names 0) line ∷ reasons) said
+  unfolding seen-from
+  value-exact {said} {reasons} to rest = by few refl (value-walked n (length line) names named (wordsAt line 0))
+    where
+      by : (t : Bool) → few ≡ t → Walked Passes (valueWalk n (length line) names named) faultAt (wordsAt line 0) → Exact (badValue (wordsAt names 0) line ∷ reasons) said
+      by t q (found f e) =
+          refuses (badValue (wordsAt names 0) line) (f .it .place) (inl (f, refl))
+          (λ p. ⊎-elim (λ h. h .1 ∙ ap placeIn (one-first Passes (h .0) f .1)) (λ h. absurd (never-both Passes (h .0) f)))
+          (to (f .it .place) e)
+      by true q (none all e) =
+          refuses (badValue (wordsAt names 0) line) (length line) (inr (all, ltb-true (length (wordsAt line 0)) (length (wordsAt names 0)) q, refl))
+          (λ p. ⊎-elim (λ h. absurd (never-both Passes all (h .0))) (λ h. h .2))
+          (to (length line) (e ∙ value-end n (length line) names named (wordsAt line 0) ∙ rw q))
+      by false q (none all e) =
+          goes-on (badValue (wordsAt names 0) line)
+          (λ p. ⊎-elim (λ h. never-both Passes all (h .0)) (λ h. omega (arith, h .1, ltb-false (length (wordsAt line 0)) (length (wordsAt names 0)) q)))
+          (rest (e ∙ value-end n (length line) names named (wordsAt line 0) ∙ rw q))
 
 module _ (s : Store) (names values : List ℕ) where
   abbrev n : ℕ

@@ -19,7 +19,7 @@ use Rattle.demands.specs.Demand1.{RefusesBy}
 pub record Exact {Values : Type 0} (reasons : List Reason) (said : Said Values) : Type 0 where
   pub iff : RefusesBy reasons said
 
--- another way to say it
+-- what is said, by an equation
 pub same-said : {Values : Type 0} {reasons : List Reason} {said other : Said Values} → said ≡ other → Exact reasons other → Exact reasons said
 same-said e x = rw e x
 

@@ -1,6 +1,6 @@
 -- Opening refuses by its list of reasons: the lines up to the problem line, then the words after it from the left. Assumes nothing.
 use mathlib.Core.Path.{_≡_, refl, sym, ap, _∙_}
-use mathlib.Core.Bool.{Bool, true, false, cond}
+use mathlib.Core.Bool.{Bool, true, false, cond, _&&_}
 use mathlib.Core.List.{List, [], _∷_, _++_, append-assoc, append-nil}
 use mathlib.Core.Logic.{_⊎_, inl, inr, ⊎-elim}
 use Prim.Native.Nat.{ℕ, _+_, _≤_, _<_}
@@ -155,6 +155,35 @@ comment-turn before line after p = by (isComment line) refl
     by true e = on e (rw e)
     by false e = stop (λ h. never (sym e ∙ h)) (rw e)
 
+comments : (lines : List Piece) → Walked Comment commentWalk lineAt lines
+comments lines = walked Comment commentWalk lineAt comment-turn lines
+
+problem-here : (text : List ℕ) (f : FirstFailing Comment (linesAt text 0)) → afterComments (linesAt text 0) ≡ f .it ∷ f .after
+    → problemOf text ≡ withinLimits (sizesOf (f .it .bytes)) (f .it .place) (f .it .place + length (f .it .bytes))
+unfolding problemOf problemIn
+problem-here text f after = rw after
+
+within-line : (z : Sizes) (place at n m end : ℕ) → withinLimits z place at ≡ Problem.Line n m end → (z ≡ Sizes.Are n m) × (end ≡ at)
+within-line Sizes.Not place at n m end e = never (cc)
+within-line (Sizes.Are a b) place at n m end e = by (leb a maxVariables && leb b maxClauses) e
+  where
+    by : (t : Bool) → cond t (Problem.Line a b at) (Problem.Refused (Refusal.SizeOverLimit place)) ≡ Problem.Line n m end → (Sizes.Are a b ≡ Sizes.Are n m) × (end ≡ at)
+    by true q = (cc, cc)
+    by false q = never (cc)
+
+-- n, m and the end of the problem line are those of the first line that is no comment
+pub problem-line : (text : List ℕ) (n m end : ℕ) → problemOf text ≡ Problem.Line n m end
+    → (f : FirstFailing Comment (linesAt text 0)) × (sizesOf (f .it .bytes) ≡ Sizes.Are n m) × (end ≡ f .it .place + length (f .it .bytes))
+unfolding problemOf problemIn afterComments
+problem-line text n m end e = by (comments (linesAt text 0))
+  where
+    by : Walked Comment commentWalk lineAt (linesAt text 0)
+        → (f : FirstFailing Comment (linesAt text 0)) × (sizesOf (f .it .bytes) ≡ Sizes.Are n m) × (end ≡ f .it .place + length (f .it .bytes))
+    by (none all k) = never (cc)
+    by (found f k) =
+        let h = within-line (sizesOf (f .it .bytes)) (f .it .place) (f .it .place + length (f .it .bytes)) n m end (sym (problem-here text f k) ∙ e) in
+        (f, h .0, h .1)
+
 module _ (s : Store) (text : List ℕ) where
   abbrev room-literals : ℕ
   room-literals = length (s .literals)
@@ -176,8 +205,7 @@ module _ (s : Store) (text : List ℕ) where
   -- a line that is no comment
   module _ (f : FirstFailing Comment (linesAt text 0)) (after : afterComments (linesAt text 0) ≡ f .it ∷ f .after) where
     here : problemOf text ≡ withinLimits (sizesOf (f .it .bytes)) (f .it .place) (f .it .place + length (f .it .bytes))
-    unfolding problemOf problemIn
-    here = rw after
+    here = problem-here text f after
 
     same-place : (g : FirstFailing Comment (linesAt text 0)) → g .it .place ≡ f .it .place
     same-place g = ap (λ (line : Piece). line .place) (one-first Comment g f .1)
@@ -238,7 +266,7 @@ module _ (s : Store) (text : List ℕ) where
 
   pub open-exact : Exact (openReasons s text) (openSays s text)
   unfolding afterComments
-  open-exact = by (walked Comment commentWalk lineAt comment-turn (linesAt text 0))
+  open-exact = by (comments (linesAt text 0))
     where
       by : Walked Comment commentWalk lineAt (linesAt text 0) → Exact (openReasons s text) (openSays s text)
       by (found f e) = line-exact f e (sizesOf (f .it .bytes)) refl

@@ -208,7 +208,8 @@ wordReasons n m before (w ∷ words) =
 abbrev pub endReasons : ℕ → List Piece → ℕ → ℕ → ℕ → List Reason
 endReasons m words end literals ends = clauseMissing m words end ∷ tooShort (literalsBy words) literals ∷ tooShort m ends ∷ []
 
--- what comes after a problem line of n and m that ends there; where there is none, 1 or 2 holds
+-- what comes after a problem line of n and m that ends there: n, m and the end are those of the first line that is no comment (`problem-line`,
+-- proofs/OpenRefusals.antt), and where there are none, 1 or 2 holds
 abbrev pub bodyReasons : Problem → List ℕ → ℕ → ℕ → List Reason
 bodyReasons (Problem.Line n m end) text literals ends = wordReasons n m [] (wordsAt text end) ++ endReasons m (wordsAt text end) (length text) literals ends
 bodyReasons (Problem.Refused r) text literals ends = []

@@ -3,4 +3,10 @@ pub mod AfterCalls
 pub mod Checks
 pub mod Demand2
 pub mod Demand3
+pub mod Firsts
+pub mod OfferFirsts
+pub mod Refusing
+pub mod OfferRefusals
+pub mod OpenRefusals
+pub mod Demand1
 pub mod Starred

@@ -1,0 +1,275 @@
+-- The walks of an offer find the first failing word, or clause: 7 to 11. Assumes nothing.
+use mathlib.Core.Path.{_≡_, refl, sym, ap, _∙_}
+use mathlib.Core.Bool.{Bool, true, false, cond, not, _&&_, _||_, or-false}
+use mathlib.Core.List.{List, [], _∷_, _++_, map, List·Memᴰ, List·Memᴰ·head, List·Memᴰ·tail, Memᴰ·cast, Memᴰ·map, Memᴰ·of-map}
+use mathlib.Core.Logic.{_↔_}
+use Prim.Native.Nat.{ℕ, _+_, _%_, _≤_}
+use native.Mathlib.Omega.{arith}
+use borrow.Author.Tests.{eq-eqb, ne-eqb, eqb-false, not-true}
+use lib.ListN.{length, length-append, length-map}
+use lib.Dec.{eqb, ltb}
+use Rattle.lists.specs.Tests.{anyOf, has}
+use Rattle.lists.proofs.Cases.{never, and-l, and-r, and-both, not-so}
+use Rattle.dimacs.specs.Words.{Piece, wordsAt}
+use Rattle.dimacs.specs.Numbers.{numberOf}
+use Rattle.dimacs.specs.declared.Number.{Number}
+use Rattle.dimacs.specs.declared.Numeral.{Numeral}
+use Rattle.store.specs.Literals.{codeOf, variableOf, isNegative}
+use Rattle.store.specs.Numerals.{codeIn}
+use Rattle.store.specs.Stores.{isImage}
+use Rattle.store.proofs.FormLaws.{literal-low, literal-high, image-literal}
+use Rattle.opening.proofs.CodeLaws.{coded}
+use Rattle.permutation.specs.Lines.{notNumber, badNameAfter, badValueAfter, namesOn}
+use Rattle.permutation.specs.declared.Fault.{Fault}
+use Rattle.permutation.proofs.InOrder.{isValue}
+use Rattle.permutation.proofs.NameLaws.{image-sign, is-image, no-image}
+use Rattle.symmetry.specs.Symmetry.{hasImage, missingFrom}
+use Rattle.symmetry.proofs.SetLaws.{has-iff}
+use Rattle.symmetry.proofs.Theorem.{hasImage-iff}
+use Rattle.demands.specs.Reasons.{AllPass, Reads, Numeric, Says, Name, Value, HasImage}
+use Rattle.demands.proofs.Firsts.{Turn, on, stop, Walked, walked}
+
+-- a fault at the place of the word at which the walk stops
+abbrev pub faultAt : List Piece → Piece → List Piece → Fault
+faultAt before w after = Fault.At (w .place)
+
+-- ---- 7 and 9
+
+abbrev pub numberWalk : List Piece → List Piece → Fault
+numberWalk before words = notNumber words
+
+number-turn : (before : List Piece) (w : Piece) (after : List Piece) → AllPass Numeric before → Turn Numeric numberWalk faultAt before w after
+unfolding notNumber
+number-turn before w after p = by (numberOf (w .bytes)) refl
+  where
+    by : (x : Numeral) → numberOf (w .bytes) ≡ x → Turn Numeric numberWalk faultAt before w after
+    by (Numeral.Is x) e = on (x, e) (rw e)
+    by Numeral.Not e = stop (λ h. let z : _≡_ {A = ℕ} 0 1 = cc (h .1) in omega arith) (rw e)
+
+pub number-walked : (words : List Piece) → Walked Numeric numberWalk faultAt words
+number-walked words = walked Numeric numberWalk faultAt number-turn words
+
+-- ---- words that are numbers and not negative, as variables
+
+abbrev pub variable : Piece → ℕ
+variable w = variableOf (codeIn w)
+
+module _ (w : Piece) (x : Number) (reads : Reads w x) where
+  sign-of : isNegative (codeIn w) ≡ x .negative
+  sign-of = rw (coded w x reads .code) (by (x .negative))
+    where
+      by : (b : Bool) → isNegative (codeOf (x .size) b) ≡ b
+      by true = eq-eqb (codeOf (x .size) true % 2) 1 (omega arith)
+      by false = ne-eqb (codeOf (x .size) false % 2) 1 (λ e. omega arith)
+
+  size-of : variable w ≡ x .size
+  size-of = coded w x reads .variable
+
+no-code : (w : Piece) → numberOf (w .bytes) ≡ Numeral.Not → codeIn w ≡ 0
+unfolding codeIn
+no-code w e = rw e
+
+same-number : {x y : Number} → x .negative ≡ y .negative → x .size ≡ y .size → x ≡ y
+same-number p q = λ i. record { negative = p i; size = q i }
+
+-- a member stands after some others
+split-at : {y : Piece} {l : List Piece} → List·Memᴰ y l → (before : List Piece) × (after : List Piece) × (l ≡ before ++ (y ∷ after))
+split-at (List·Memᴰ·head {xs = after} e) = ([], after, cc)
+split-at (List·Memᴰ·tail {x = x} m) = let r = split-at m in (x ∷ r .0, r .1, ap (λ (l : List Piece). x ∷ l) (r .2))
+
+abbrev Plain : List Piece → Type 0
+Plain words = (y : Piece) → List·Memᴰ y words → (x : Number) × Reads y x × (x .negative ≡ false)
+
+-- one of the words is of this variable
+abbrev WordOf : List Piece → ℕ → Type 0
+WordOf words v = (y : Piece) × List·Memᴰ y words × (variable y ≡ v)
+
+plain-says : {words : List Piece} (x : Number) → Plain words → x .negative ≡ false → WordOf words (x .size) ↔ Says words x
+plain-says x p plus = (
+  λ m. let r = p (m .0) (m .1) in
+      let same : r .0 ≡ x = same-number (r .2 ∙ sym plus) (sym (size-of (m .0) (r .0) (r .1)) ∙ m .2) in
+      (m .0, m .1, rw same at (r .1)),
+  λ m. (m .0, m .1, size-of (m .0) x (m .2)),
+)
+
+among-map : (words : List Piece) (v : ℕ) → (has (map variable words) v ≡ true) ↔ WordOf words v
+among-map words v = (
+  λ e. Memᴰ·of-map variable words (has-iff (map variable words) v .0 e),
+  λ m. has-iff (map variable words) v .1 (Memᴰ·cast (sym (m .2)) (Memᴰ·map variable (m .1))),
+)
+
+-- the variables of the words before, the last first
+unfoldable pub seen-from : List ℕ → List Piece → List ℕ
+seen-from l [] = l
+seen-from l (w ∷ words) = seen-from (variable w ∷ l) words
+
+seen-more : (l : List ℕ) (before : List Piece) (w : Piece) → seen-from l (before ++ (w ∷ [])) ≡ variable w ∷ seen-from l before
+unfolding seen-from
+seen-more l [] w = refl
+seen-more l (y ∷ before) w = seen-more (variable y ∷ l) before w
+
+seen-length : (l : List ℕ) (before : List Piece) → length (seen-from l before) ≡ length l + length before
+unfolding seen-from
+seen-length l [] = omega arith
+seen-length l (y ∷ before) = omega (arith, seen-length (variable y ∷ l) before)
+
+seen-has : (l : List ℕ) (before : List Piece) (v : ℕ) → has (seen-from l before) v ≡ (has (map variable before) v || has l v)
+unfolding seen-from anyOf
+seen-has l [] v = refl
+seen-has l (y ∷ before) v = seen-has (variable y ∷ l) before v ∙ by (eqb (variable y) v) (has (map variable before) v) (has l v)
+  where
+    by : (a b c : Bool) → (b || (a || c)) ≡ ((a || b) || c)
+    by true true c = refl
+    by true false c = refl
+    by false true c = refl
+    by false false c = refl
+
+abbrev pub seen : List Piece → List ℕ
+seen before = seen-from [] before
+
+seen-says : {words : List Piece} (x : Number) → Plain words → x .negative ≡ false → (has (seen words) (x .size) ≡ true) ↔ Says words x
+unfolding anyOf
+seen-says {words} x p plus = (
+  λ e. plain-says x p plus .0 (among-map words (x .size) .0 (sym (or-false (has (map variable words) (x .size))) ∙ sym (seen-has [] words (x .size)) ∙ e)),
+  λ m. seen-has [] words (x .size) ∙ or-false (has (map variable words) (x .size)) ∙ among-map words (x .size) .1 (plain-says x p plus .1 m),
+)
+
+-- a word is, by the walks' test, not one of the words before
+module _ (before : List Piece) (plain : Plain before) (w : Piece) (x : Number) (reads : Reads w x) (plus : x .negative ≡ false) where
+  new-word : not (has (seen before) (variable w)) ≡ true → Says before x → ⊥
+  new-word e m = never (sym (not-true (has (seen before) (variable w)) e) ∙ rw (size-of w x reads) (seen-says x plain plus .1 m))
+
+  new-test : (Says before x → ⊥) → not (has (seen before) (variable w)) ≡ true
+  new-test f = ap not (not-so (has (seen before) (variable w)) (λ t. f (seen-says x plain plus .0 (rw (size-of w x reads) at t))))
+
+-- ---- 8
+
+plain-names : (n : ℕ) (words : List Piece) → AllPass (Name n) words → Plain words
+plain-names n words all y m = let r = split-at m in let h = all (r .0) (r .1) y (r .2) in (h .0, h .1, h .2)
+
+abbrev pub nameWalk : ℕ → List Piece → List Piece → Fault
+nameWalk n before words = badNameAfter n (seen before) words
+
+name-turn : (n : ℕ) (before : List Piece) (w : Piece) (after : List Piece) → AllPass (Name n) before → Turn (Name n) (nameWalk n) faultAt before w after
+unfolding badNameAfter
+name-turn n before w after p = by (numberOf (w .bytes)) refl
+  where
+    plain : Plain before
+    plain = plain-names n before p
+
+    test : (x : Number) → Reads w x → (t : Bool) → (isImage n (codeIn w) && not (has (seen before) (variable w))) ≡ t → Turn (Name n) (nameWalk n) faultAt before w after
+    test x e true q =
+        let image : isImage n (codeIn w) ≡ true = and-l (isImage n (codeIn w)) (not (has (seen before) (variable w))) q in
+        let plus : x .negative ≡ false = sym (sign-of w x e) ∙ image-sign n (codeIn w) image in
+        let low : 1 ≤ x .size = omega (arith, literal-low n (codeIn w) (image-literal n (codeIn w) image), size-of w x e) in
+        let high : x .size ≤ n = omega (arith, literal-high n (codeIn w) (image-literal n (codeIn w) image), size-of w x e) in
+        on
+        (x, e, plus, low, high, new-word before plain w x e plus (and-r (isImage n (codeIn w)) (not (has (seen before) (variable w))) q))
+        (rw (q, seen-more [] before w))
+    test x e false q = stop (λ h. never (sym q ∙ and-both (image h) (new-test before plain w (h .0) (h .1) (h .2) (h .5)))) (rw q)
+      where
+        image : Name n before w → isImage n (codeIn w) ≡ true
+        image h =
+            let size = size-of w (h .0) (h .1) in
+            is-image n (codeIn w) (omega (arith, size, h .3)) (omega (arith, size, h .4)) (omega (arith, eqb-false (codeIn w % 2) 1 (sign-of w (h .0) (h .1) ∙ h .2)))
+
+    by : (x : Numeral) → numberOf (w .bytes) ≡ x → Turn (Name n) (nameWalk n) faultAt before w after
+    by (Numeral.Is x) e = test x e (isImage n (codeIn w) && not (has (seen before) (variable w))) refl
+    by Numeral.Not e = stop (λ h. let z : _≡_ {A = ℕ} 0 1 = cc (h .1) in omega arith) (rw (no-image n (codeIn w) (no-code w e)))
+
+pub name-walked : (n : ℕ) (words : List Piece) → Walked (Name n) (nameWalk n) faultAt words
+name-walked n words = walked (Name n) (nameWalk n) faultAt (name-turn n) words
+
+-- ---- 10
+
+-- a number that some of these words are is not negative
+says-plus : {words : List Piece} {x : Number} → Plain words → Says words x → x .negative ≡ false
+says-plus {x} plain m = let r = plain (m .0) (m .1) in let same : r .0 ≡ x = cc (r .1, m .2) in rw same at (r .2)
+
+module _ (n end : ℕ) (line : List ℕ) (all : AllPass (Name n) (wordsAt line 0)) where
+  abbrev nameWords : List Piece
+  nameWords = wordsAt line 0
+
+  names-plain : Plain nameWords
+  names-plain = plain-names n nameWords all
+
+  plain-values : (words : List Piece) → AllPass (Value nameWords) words → Plain words
+  plain-values words pass y m = let r = split-at m in let h = pass (r .0) (r .1) y (r .2) in (h .0, h .1, says-plus names-plain (h .2))
+
+  -- a word is, by the walk's test, a name
+  module _ (w : Piece) (x : Number) (reads : Reads w x) where
+    name-test : Says nameWords x → isValue (namesOn line) (codeIn w) ≡ true
+    unfolding namesOn
+    name-test m =
+        let plus = says-plus names-plain m in
+        and-both (ap not (sign-of w x reads ∙ plus)) (rw (size-of w x reads) (among-map nameWords (x .size) .1 (plain-says x names-plain plus .1 m)))
+
+    is-name : isValue (namesOn line) (codeIn w) ≡ true → (x .negative ≡ false) × Says nameWords x
+    unfolding namesOn
+    is-name e =
+        let plus : x .negative ≡ false = sym (sign-of w x reads) ∙ not-true (isNegative (codeIn w)) (and-l (not (isNegative (codeIn w))) (has (namesOn line) (variable w)) e) in
+        let name : has (namesOn line) (x .size) ≡ true = rw (size-of w x reads) at (and-r (not (isNegative (codeIn w))) (has (namesOn line) (variable w)) e) in
+        (plus, plain-says x names-plain plus .0 (among-map nameWords (x .size) .0 name))
+
+  no-name : (w : Piece) → numberOf (w .bytes) ≡ Numeral.Not → isValue (namesOn line) (codeIn w) ≡ false
+  unfolding namesOn
+  no-name w e = not-so (isValue (namesOn line) (codeIn w)) (λ t.
+      let m = among-map nameWords (variable w) .0 (and-r (not (isNegative (codeIn w))) (has (namesOn line) (variable w)) t) in
+      let r = split-at (m .1) in
+      let h = all (r .0) (r .1) (m .0) (r .2) in
+      omega (arith, h .3, size-of (m .0) (h .0) (h .1), m .2, no-code w e))
+
+  abbrev pub valueWalk : List Piece → List Piece → Fault
+  valueWalk before words = badValueAfter (namesOn line) end (seen before) words
+
+  value-turn : (before : List Piece) (w : Piece) (after : List Piece) → AllPass (Value nameWords) before → Turn (Value nameWords) valueWalk faultAt before w after
+  unfolding badValueAfter
+  value-turn before w after p = by (numberOf (w .bytes)) refl
+    where
+      plain : Plain before
+      plain = plain-values before p
+
+      test : (x : Number) → Reads w x → (t : Bool) → (isValue (namesOn line) (codeIn w) && not (has (seen before) (variable w))) ≡ t
+          → Turn (Value nameWords) valueWalk faultAt before w after
+      test x e true q =
+          let name = is-name w x e (and-l (isValue (namesOn line) (codeIn w)) (not (has (seen before) (variable w))) q) in
+          on
+          (x, e, name .1, new-word before plain w x e (name .0) (and-r (isValue (namesOn line) (codeIn w)) (not (has (seen before) (variable w))) q))
+          (rw (q, seen-more [] before w))
+      test x e false q =
+          stop
+          (λ h. never (sym q ∙ and-both (name-test w (h .0) (h .1) (h .2)) (new-test before plain w (h .0) (h .1) (says-plus names-plain (h .2)) (h .3))))
+          (rw q)
+
+      by : (x : Numeral) → numberOf (w .bytes) ≡ x → Turn (Value nameWords) valueWalk faultAt before w after
+      by (Numeral.Is x) e = test x e (isValue (namesOn line) (codeIn w) && not (has (seen before) (variable w))) refl
+      by Numeral.Not e = stop (λ h. let z : _≡_ {A = ℕ} 0 1 = cc (h .1) in omega arith) (rw (no-name w e))
+
+  pub value-walked : (words : List Piece) → Walked (Value nameWords) valueWalk faultAt words
+  value-walked words = walked (Value nameWords) valueWalk faultAt value-turn words
+
+  -- the walk's end: too few values, or none missing
+  pub value-end : (words : List Piece) → valueWalk words [] ≡ cond (ltb (length words) (length nameWords)) (Fault.At end) Fault.Nowhere
+  unfolding badValueAfter namesOn
+  value-end words = let size : length (seen words) ≡ length words = omega (arith, seen-length [] words) in rw (size, length-map nameWords variable)
+
+-- ---- 11
+
+module _ (row : List ℕ) (formula : List (List ℕ)) where
+  abbrev pub clauseWalk : List (List ℕ) → List (List ℕ) → ℕ
+  clauseWalk before clauses = missingFrom row formula (length before + 1) clauses
+
+  abbrev pub numberAt : List (List ℕ) → List ℕ → List (List ℕ) → ℕ
+  numberAt before clause after = length before + 1
+
+  clause-turn : (before : List (List ℕ)) (clause : List ℕ) (after : List (List ℕ)) → AllPass (HasImage row formula) before
+      → Turn (HasImage row formula) clauseWalk numberAt before clause after
+  unfolding missingFrom
+  clause-turn before clause after p = by (hasImage row formula clause) refl
+    where
+      by : (t : Bool) → hasImage row formula clause ≡ t → Turn (HasImage row formula) clauseWalk numberAt before clause after
+      by true e = on (hasImage-iff row formula clause .0 e) (rw (e, length-append before (clause ∷ [])))
+      by false e = stop (λ h. never (sym e ∙ hasImage-iff row formula clause .1 h)) (rw e)
+
+  pub clause-walked : Walked (HasImage row formula) clauseWalk numberAt formula
+  clause-walked = walked (HasImage row formula) clauseWalk numberAt clause-turn formula

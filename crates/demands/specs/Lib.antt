@@ -1,5 +1,5 @@
-pub mod Lists
-pub mod Demand2
-pub mod Demand3
 pub mod Reasons
 pub mod Demand1
+pub mod Demand2
+pub mod Lists
+pub mod Demand3

@@ -14,10 +14,11 @@ use Rattle.lists.proofs.Cases.{lt-or-le}
 use Rattle.lists.proofs.Steps.{drop-step}
 use Rattle.lexleader.specs.Rows.{Pair, pairsOf}
 use Rattle.lexleader.specs.Made.{laterSix, laterClauses, pairClauses, rowClauses, auxiliaries}
+use Rattle.lexleader.specs.Bounds.{maxMadeVariables}
 use Rattle.lexleader.specs.Clause.{tableOf, pairAt, pairsAt, Next}
 use Rattle.lexleader.specs.Places.{clausesOn, clausesAt, sixAt, auxiliaryAfter, pastLast, Stands}
 use Rattle.lexleader.specs.declared.Place.{Place}
-use Rattle.lexleader.proofs.Walk.{pairs-start, pairs-length, walk-end}
+use Rattle.lexleader.proofs.Walk.{pairs-start, walk-end}
 use Rattle.lexleader.proofs.Numbers.{row-few, row-many}
 
 -- ---- a row's clauses are those of its pairs from the first auxiliary on
@@ -113,7 +114,7 @@ module _ (row : List ℕ) (p : Place) where
       ∙ ap (λ (k : ℕ). drop k (sixAt row p) ++ rest) r
       ∙ ap (λ (l : List (List ℕ)). l ++ rest) (last-of-six (p .first) (p .auxiliary) (pairAt row (p .index)) (pairAt row (p .next))))
 
-  pub few-auxiliaries : Stands row p → p .auxiliary ≤ 80000
+  pub few-auxiliaries : Stands row p → p .auxiliary ≤ maxMadeVariables + 1
   unfolding auxiliaryAfter
   few-auxiliaries s = omega (arith, s .few)
 
@@ -243,9 +244,6 @@ module _ (row : List ℕ) (e index : ℕ) (n : Next row 0 index) where
       let none : pairsAt index row ≡ [] = walk-end row index h in
       (sym (ap (clausesOn true e) none) ∙ first-rest .0, omega (arith, ap length none, first-rest .1))
 
-  pub first-few : e ≤ 40000 → length row ≤ 512 → e + (length (pairsAt index row) - 1) ≤ 80000
-  first-few low short = omega (arith, ap length same-pairs, pairs-length row)
-
 -- ---- the first clauses of an auxiliary, for a pair at an index
 
 module _ (row : List ℕ) (index next e : ℕ) (first : Bool) (h : index < length row) (here : pairsAt index row ≡ pairAt row index ∷ pairsAt (index + 1) row)
@@ -253,7 +251,7 @@ module _ (row : List ℕ) (index next e : ℕ) (first : Bool) (h : index < lengt
   abbrev start : Place
   start = record { index = index; next = next; auxiliary = e; r = 1; first = first }
 
-  pub starts : (next ≡ length row → first ≡ true) → e + (length (pairsAt index row) - 1) ≤ 80000 → Stands row start
+  pub starts : (next ≡ length row → first ≡ true) → e + (length (pairsAt index row) - 1) ≤ maxMadeVariables + 1 → Stands row start
   unfolding auxiliaryAfter
   starts alone few = record {
     within = omega arith;
@@ -281,7 +279,7 @@ module _ (row : List ℕ) (index next e : ℕ) (first : Bool) (h : index < lengt
       rw one (refl, omega arith)
 
 -- the place past the last clause, with the clauses and the auxiliary that are left
-pub at-last : (row : List ℕ) (e : ℕ) (p : Place) → p ≡ pastLast row e → e ≤ 80000 → {clauses : List (List ℕ)} {after : ℕ} → [] ≡ clauses → e ≡ after
+pub at-last : (row : List ℕ) (e : ℕ) (p : Place) → p ≡ pastLast row e → e ≤ maxMadeVariables + 1 → {clauses : List (List ℕ)} {after : ℕ} → [] ≡ clauses → e ≡ after
     → Stands row p × (clausesAt row p ≡ clauses) × (auxiliaryAfter row p ≡ after)
 at-last row e p is few none same =
     let z = past row (pastLast row e) (omega arith) in
@@ -325,9 +323,9 @@ module _ (row : List ℕ) (e q i : ℕ) (p : Place) (is : p ≡ record { index =
       go (inr l) = absurd (omega (arith, size, row-many e row l))
 
   module _ (many : q < length (rowClauses e row)) (h : i < length row) (here : pairsAt i row ≡ pairAt row i ∷ pairsAt (i + 1) row) (then : Next row (i + 1) (p .next)) where
-    pub number-stands : e ≤ 40000 → length row ≤ 512 → Stands row p
-    unfolding auxiliaryAfter
-    number-stands low short =
+    pub number-stands : e + auxiliaries row ≤ maxMadeVariables + 1 → Stands row p
+    unfolding auxiliaryAfter auxiliaries
+    number-stands low =
         let last : p .next ≡ length row → q ≡ 0 = λ end. only many (ap length here ∙ ap (λ (l : List Pair). suc (length l)) (then .same ∙ walk-end row (p .next) (omega arith))) in
         rw is (record {
           within = omega arith;
@@ -336,5 +334,5 @@ module _ (row : List ℕ) (e q i : ℕ) (p : Place) (is : p ≡ record { index =
           alone = λ _ end. (eq-eqb (q / 6) 0 (omega (arith, last end)), omega (arith, last end));
           low = omega arith;
           high = omega arith;
-          few = omega (arith, pairs-length row, length-drop (q / 6) (pairsOf row), ap length found);
+          few = omega (arith, low, length-drop (q / 6) (pairsOf row), ap length found);
         })

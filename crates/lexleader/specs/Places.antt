@@ -6,6 +6,7 @@ use mathlib.Core.List.{List, [], _∷_, _++_}
 use lib.ListN.{length, drop}
 use Rattle.store.specs.Literals.{oppositeOf}
 use Rattle.lexleader.specs.Rows.{Pair}
+use Rattle.lexleader.specs.Bounds.{maxMadeVariables}
 use Rattle.lexleader.specs.Clause.{tableOf, pairAt, pairsAt, Next}
 use Rattle.lexleader.specs.declared.Place.{Place}
 
@@ -39,4 +40,4 @@ pub record Stands (row : List ℕ) (p : Place) : Type 0 where
   pub alone : p .index < length row → p .next ≡ length row → (p .first ≡ true) × (p .r ≡ 1)
   pub low : 1 ≤ p .r
   pub high : p .r ≤ 6
-  pub few : auxiliaryAfter row p ≤ 80000
+  pub few : auxiliaryAfter row p ≤ maxMadeVariables + 1

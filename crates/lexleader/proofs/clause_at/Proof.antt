@@ -25,7 +25,7 @@ table-clause-requires : tie.Need-table-clause-requires
 table-clause-requires c κs =
     let s = c .before .before .before .before .before in
     let few = few-auxiliaries (s .args .row .now) (s .args .place) (s .pre .1) in
-    (omega arith, omega arith, few, omega arith, omega arith, omega arith)
+    (omega arith, omega arith, few)
 
 returns : tie.Need-returns
 returns c =
@@ -54,8 +54,7 @@ table-clause-requires-2 : tie.Need-table-clause-requires-2
 table-clause-requires-2 c κs =
     let s = c .before .before .before .before .before .before .before .before in
     let few = few-auxiliaries (s .args .row .now) (s .args .place) (s .pre .1) in
-    let next = s .pre .1 .then (s .pre .2) .within in
-    (s .pre .1 .low, s .pre .1 .high, few, omega (arith, next), omega (arith, next), omega (arith, next))
+    (s .pre .1 .low, s .pre .1 .high, few)
 
 returns-2 : tie.Need-returns-2
 returns-2 c =

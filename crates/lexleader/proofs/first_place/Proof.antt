@@ -2,7 +2,7 @@
 use mathlib.Core.Path.{refl, _∙_}
 use mathlib.Core.Bool.{true}
 use native.Mathlib.Omega.{arith}
-use Rattle.lexleader.proofs.Places.{first-rest, first-none, first-few, at-last, starts, start-clauses, start-after}
+use Rattle.lexleader.proofs.Places.{first-rest, first-none, at-last, starts, start-clauses, start-after}
 use borrow.Author.Needs.{needs}
 use Rattle.lexleader.proofs.first_place.Statement.{statement}
 use Rattle.lexleader.proofs.first_place.Tie as tie
@@ -18,7 +18,7 @@ returns c =
     let n = c .before .before in
     let a = n .before .before .args in
     let none = first-none (a .row .now) (a .e) (n .next-moved .result) (n .next-moved .ensures) (omega arith) in
-    at-last (a .row .now) (a .e) (c .no-place .result) (c .no-place .ensures) (omega arith) (none .0) (none .1)
+    at-last (a .row .now) (a .e) (c .no-place .result) (c .no-place .ensures) (omega (arith, none .1)) (none .0) (none .1)
 
 add-next-moved : tie.Need-add-next-moved
 add-next-moved c = search needs
@@ -33,10 +33,9 @@ returns-2 c =
     let row = a .row .now in
     let index = n .next-moved .result in
     let rest = first-rest row (a .e) index (n .next-moved .ensures) in
-    let few = first-few row (a .e) index (n .next-moved .ensures) (omega arith) (omega arith) in
     let here = n .next-moved .ensures .here (omega arith) in
     let then = c .next-moved2 .ensures in (
-      starts row index (c .next-moved2 .result) (a .e) true (omega arith) here then (λ _. refl) few,
+      starts row index (c .next-moved2 .result) (a .e) true (omega arith) here then (λ _. refl) (omega (arith, rest .1)),
       start-clauses row index (c .next-moved2 .result) (a .e) true (omega arith) here then ∙ rest .0,
       start-after row index (c .next-moved2 .result) (a .e) true (omega arith) here then ∙ rest .1,
     )

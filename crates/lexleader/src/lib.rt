@@ -20,14 +20,14 @@ pub struct Clause {
     pub literals: [u32; 4],
 }
 
-// A place among the clauses that a row adds: clause r of an auxiliary, the indices of its pair's variable and of the next one, and whether it is the row's
-// first auxiliary. Past the last clause the index is the row's length and the auxiliary the next row's first.
+// A place among the clauses that a row adds: clause r of auxiliary j, that auxiliary's number, and the indices of its pair's variable and of the next one.
+// Past the last clause the index is the row's length and the number that of the next row's first auxiliary.
 pub struct Place {
     pub index: usize,
     pub next: usize,
     pub auxiliary: u32,
+    pub j: usize,
     pub r: usize,
-    pub first: bool,
 }
 
 // What a row adds: its auxiliaries and its clauses.
@@ -104,8 +104,8 @@ pub fn row_clause(row: &[u16], e: u32, q: usize) -> Clause
         index: i,
         next: next,
         auxiliary: e + before as u32,
+        j: before + 1,
         r: q % 6 + 1,
-        first: before == 0,
     };
     clause_at(row, place)
 }
@@ -124,8 +124,8 @@ pub fn first_place(row: &[u16], e: u32) -> Place
         index: index,
         next: next,
         auxiliary: e,
+        j: 1,
         r: 1,
-        first: true,
     }
 }
 
@@ -139,11 +139,11 @@ pub fn clause_at(row: &[u16], place: Place) -> Clause
     let x = own_code(i);
     let y = store::literal::wide(row[i]);
     if next == row.len() {
-        return table_clause(1, true, place.auxiliary, x, y, x, y);
+        return table_clause(1, 1, place.auxiliary, x, y, x, y);
     }
     let x2 = own_code(next);
     let y2 = store::literal::wide(row[next]);
-    table_clause(place.r, place.first, place.auxiliary, x, y, x2, y2)
+    table_clause(place.r, place.j, place.auxiliary, x, y, x2, y2)
 }
 
 // The place after one at which a clause stands.
@@ -159,8 +159,8 @@ pub fn next_place(row: &[u16], place: Place) -> Place
             index: place.index,
             next: place.next,
             auxiliary: place.auxiliary,
+            j: place.j,
             r: place.r + 1,
-            first: place.first,
         };
     }
     next_auxiliary(row, place)
@@ -180,8 +180,8 @@ pub fn next_auxiliary(row: &[u16], place: Place) -> Place
         index: place.next,
         next: next,
         auxiliary: e,
+        j: place.j + 1,
         r: 1,
-        first: false,
     }
 }
 
@@ -193,8 +193,8 @@ fn no_place(row: &[u16], e: u32) -> Place
         index: row.len(),
         next: row.len(),
         auxiliary: e,
+        j: 1,
         r: 1,
-        first: false,
     }
 }
 
@@ -219,11 +219,11 @@ pub fn added_clause(images: &[u16], rows: usize, n: usize, q: usize) -> Clause
     }
 }
 
-// Document 01's table: clause r of the auxiliary e, for the pair x, y and the next pair x2, y2. `first` says that e is the row's first auxiliary, as
-// it is for j = 1; otherwise the one before it is e - 1.
-fn table_clause(r: usize, first: bool, e: u32, x: u32, y: u32, x2: u32, y2: u32) -> Clause
+// Document 01's table: clause r of the auxiliary ej, whose number is e, for the pair x, y and the next pair x2, y2. Where j is not 1, e(j-1) has the number
+// e - 1.
+fn table_clause(r: usize, j: usize, e: u32, x: u32, y: u32, x2: u32, y2: u32) -> Clause
     requires { ⌜ (1 ≤ r) × (r ≤ 6) × (e ≤ maxMadeVariables + 1) ⌝ }
-    ensures { λ c. ⌜ Holds c (getD (tableOf first e (record { x = x; y = y }) (record { x = x2; y = y2 })) (r - 1) []) ⌝ }
+    ensures { λ c. ⌜ Holds c (getD (tableOf j e (record { x = x; y = y }) (record { x = x2; y = y2 })) (r - 1) []) ⌝ }
 {
     let ej = 2 * e;
     let before = 2 * one_less(e);
@@ -231,29 +231,20 @@ fn table_clause(r: usize, first: bool, e: u32, x: u32, y: u32, x2: u32, y2: u32)
     let not_x = opposite(x);
     let not_y = opposite(y);
     match r {
-        1 => {
-            if first {
-                two(not_x, y)
-            } else {
-                two(not_ej, before)
-            }
-        }
+        1 => match j {
+            1 => two(not_x, y),
+            _ => two(not_ej, before),
+        },
         2 => three(not_ej, not_x, y),
         3 => three(not_ej, x, not_y),
-        4 => {
-            if first {
-                three(ej, x, y)
-            } else {
-                four(ej, opposite(before), x, y)
-            }
-        }
-        5 => {
-            if first {
-                three(ej, not_x, not_y)
-            } else {
-                four(ej, opposite(before), not_x, not_y)
-            }
-        }
+        4 => match j {
+            1 => three(ej, x, y),
+            _ => four(ej, opposite(before), x, y),
+        },
+        5 => match j {
+            1 => three(ej, not_x, not_y),
+            _ => four(ej, opposite(before), not_x, not_y),
+        },
         _ => three(not_ej, opposite(x2), y2),
     }
 }

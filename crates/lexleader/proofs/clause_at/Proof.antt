@@ -1,6 +1,5 @@
 -- `lexleader::clause_at` meets its contract: the table has the clause. Assumes nothing.
 use mathlib.Core.Path.{refl, sym, _∙_}
-use mathlib.Core.Bool.{true}
 use native.Mathlib.Omega.{arith}
 use Rattle.lexleader.specs.Clause.{pairAt}
 use Rattle.lexleader.proofs.Table.{holds-same, same-table}
@@ -35,7 +34,7 @@ returns c =
     let row = s .args .row .now in
     let p = s .args .place in
     holds-same (c .table-clause .ensures)
-    (same-table true {e = p .auxiliary} {k = 0} refl refl (o .own-code .ensures) (w .wide .ensures .0) (o .own-code .ensures) (w .wide .ensures .0)
+    (same-table 1 {e = p .auxiliary} {k = 0} refl refl (o .own-code .ensures) (w .wide .ensures .0) (o .own-code .ensures) (w .wide .ensures .0)
     ∙ sym (at-one row p (s .pre .1) (s .pre .2) (omega arith) (pairAt row (p .index))))
 
 own-code-requires-2 : tie.Need-own-code-requires-2
@@ -67,7 +66,7 @@ returns-2 c =
     let p = s .args .place in
     let more = s .pre .1 .then (s .pre .2) .within in
     holds-same (c .table-clause2 .ensures)
-    (same-table (p .first) {e = p .auxiliary} refl refl (o .own-code .ensures) (w .wide .ensures .0) (o2 .own-code2 .ensures) (w2 .wide2 .ensures .0)
+    (same-table (p .j) {e = p .auxiliary} refl refl (o .own-code .ensures) (w .wide .ensures .0) (o2 .own-code2 .ensures) (w2 .wide2 .ensures .0)
     ∙ sym (at-two row p (s .pre .1) (s .pre .2) (omega arith)))
 
 pub clause-at-spec : {M : Type 1} → statement M

@@ -1,6 +1,5 @@
 -- `lexleader::first_place` meets its contract: what is left at a row's first moved variable is all of the row's. Assumes nothing.
 use mathlib.Core.Path.{refl, _∙_}
-use mathlib.Core.Bool.{true}
 use native.Mathlib.Omega.{arith}
 use Rattle.lexleader.proofs.Places.{first-rest, first-none, at-last, starts, start-clauses, start-after}
 use borrow.Author.Needs.{needs}
@@ -35,9 +34,9 @@ returns-2 c =
     let rest = first-rest row (a .e) index (n .next-moved .ensures) in
     let here = n .next-moved .ensures .here (omega arith) in
     let then = c .next-moved2 .ensures in (
-      starts row index (c .next-moved2 .result) (a .e) true (omega arith) here then (λ _. refl) (omega (arith, rest .1)),
-      start-clauses row index (c .next-moved2 .result) (a .e) true (omega arith) here then ∙ rest .0,
-      start-after row index (c .next-moved2 .result) (a .e) true (omega arith) here then ∙ rest .1,
+      starts row index (c .next-moved2 .result) (a .e) 1 (omega arith) here then (λ _. refl) (omega arith) (omega arith) (omega (arith, rest .1)),
+      start-clauses row index (c .next-moved2 .result) (a .e) 1 (omega arith) here then ∙ rest .0,
+      start-after row index (c .next-moved2 .result) (a .e) 1 (omega arith) here then ∙ rest .1,
     )
 
 pub first-place-spec : {M : Type 1} → statement M

@@ -38,8 +38,11 @@ cast-t9 c = omega (arith, number (c .before .before .before) .1)
 add-t10 : tie.Need-add-t10
 add-t10 c = omega (arith, number (c .before .before .before) .1)
 
-add-t11 : tie.Need-add-t11
-add-t11 c = search needs
+add-t8 : tie.Need-add-t8
+add-t8 c = omega (arith, number (c .before .before .before) .1)
+
+add-t12 : tie.Need-add-t12
+add-t12 c = search needs
 
 clause-at-requires : tie.Need-clause-at-requires
 clause-at-requires c κs =
@@ -69,6 +72,7 @@ row-clause-spec =
     next-moved-requires
     cast-t9
     add-t10
-    add-t11
+    add-t8
+    add-t12
     clause-at-requires
     returns)

@@ -2,7 +2,6 @@
 // 000, section 2). The code says what rows add, and finds the literals of one clause of that by its number: a row's moved variables are found by
 // walking it, and a table chooses the literals.
 ghost use mathlib.Core.Path.{_≡_};
-ghost use mathlib.Core.Bool.{true, false};
 ghost use mathlib.Core.List.{_∷_, [], _++_};
 ghost use Prim.Native.Nat.{ℕ, _+_, _-_, _*_, _≤_, _<_};
 ghost use lib.ListN.{length, getD, drop};

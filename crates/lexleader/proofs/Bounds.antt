@@ -1,19 +1,21 @@
 -- How much rows add. A permutation that moves a variable moves the variable's image too, so no row moves exactly one; every row then adds six clauses for each
 -- auxiliary, and all rows stay within the bounds of specs/Bounds.antt. Assumes nothing.
 use mathlib.Core.Path.{_≡_, refl, sym, ap, _∙_}
-use mathlib.Core.Bool.{true}
+use mathlib.Core.Bool.{Bool, true}
 use mathlib.Core.Logic.{_⊎_, inl, inr, ⊎-elim}
 use mathlib.Core.List.{List, [], _∷_}
 use Prim.Native.Nat.{ℕ, zero, suc, _+_, _-_, _*_, _/_, _≤_, _<_}
 use native.Mathlib.Omega.{arith}
+use lib.Dec.{leb}
 use lib.ListN.{length, getD, take, drop, length-append, length-take}
 use Rattle.lists.specs.Tests.{allOf}
-use Rattle.lists.proofs.Cases.{and-l, and-r, lt-or-le, eq-or-ne}
+use Rattle.lists.proofs.Cases.{and-l, and-r, and-both, lt-or-le, eq-or-ne}
+use Rattle.lists.proofs.Members.{all-append}
 use Rattle.packed.specs.Words.{maxWords, wordCount}
 use Rattle.store.specs.Stores.{maxVariables, isRow, rowsOf}
 use Rattle.store.proofs.Formed.{row-of}
-use Rattle.lexleader.specs.Rows.{pairsOf}
-use Rattle.lexleader.specs.Made.{rowClauses, auxiliaries, rowsClauses, allAuxiliaries}
+use Rattle.lexleader.specs.Rows.{Pair, pairsOf}
+use Rattle.lexleader.specs.Made.{laterClauses, pairClauses, rowClauses, auxiliaries, rowsClauses, allAuxiliaries}
 use Rattle.lexleader.specs.Bounds.{maxMadeVariables}
 use Rattle.lexleader.specs.Clause.{pairsAt}
 use Rattle.lexleader.proofs.Walk.{pairs-start, pairs-length, walk-past, walk-moved, walk-end, later-pairs}
@@ -107,6 +109,28 @@ unfolding allAuxiliaries rowsOf
 all-auxiliaries-most n zero images small = omega arith
 all-auxiliaries-most n (suc rows) images small =
     omega (arith, auxiliaries-most (take n images), length-take n images, all-auxiliaries-most n rows (drop n images) small)
+
+-- every clause that rows add has at most four literals
+abbrev pub isShort : List ℕ → Bool
+isShort clause = leb (length clause) 4
+
+later-short : (d : ℕ) (q : Pair) (pairs : List Pair) → allOf isShort (laterClauses d q pairs) ≡ true
+unfolding laterClauses allOf
+later-short d q [] = refl
+later-short d q (p ∷ pairs) = later-short (d + 1) p pairs
+
+row-short : (e : ℕ) (pairs : List Pair) → allOf isShort (pairClauses e pairs) ≡ true
+unfolding pairClauses allOf
+row-short e [] = refl
+row-short e (q ∷ []) = refl
+row-short e (q ∷ p ∷ pairs) = later-short e p pairs
+
+pub rows-short : (e : ℕ) (rows : List (List ℕ)) → allOf isShort (rowsClauses e rows) ≡ true
+unfolding rowsClauses rowClauses allOf
+rows-short e [] = refl
+rows-short e (row ∷ rows) =
+    all-append isShort (rowClauses e row) (rowsClauses (e + auxiliaries row) rows)
+    ∙ and-both (row-short e (pairsOf row)) (rows-short (e + auxiliaries row) rows)
 
 -- "more than 519 words (N is at most 33,216)": an assignment of all variables that a made formula can have is one that a comparison takes
 pub words-enough : wordCount maxMadeVariables ≡ maxWords

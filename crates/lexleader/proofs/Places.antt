@@ -1,6 +1,6 @@
 -- Places among a row's clauses: the clauses from one on are the clause at it and those from the next. Assumes nothing.
 use mathlib.Core.Path.{_≡_, refl, sym, ap, ap₂, _∙_}
-use mathlib.Core.Bool.{Bool, true, false, cond}
+use mathlib.Core.Bool.{Bool, true, false}
 use mathlib.Core.Logic.{_⊎_, inl, inr}
 use mathlib.Core.List.{List, [], _∷_, _++_}
 use Prim.Native.Nat.{ℕ, zero, suc, _+_, _-_, _*_, _/_, _%_, _≤_, _<_}
@@ -13,9 +13,9 @@ use lib.Seq.{drop-append-le, drop-append-add, getD-drop}
 use Rattle.lists.proofs.Cases.{lt-or-le}
 use Rattle.lists.proofs.Steps.{drop-step}
 use Rattle.lexleader.specs.Rows.{Pair, pairsOf}
-use Rattle.lexleader.specs.Made.{firstSix, laterSix, laterClauses, pairClauses, rowClauses, auxiliaries}
+use Rattle.lexleader.specs.Made.{laterSix, laterClauses, pairClauses, rowClauses, auxiliaries}
 use Rattle.lexleader.specs.Bounds.{maxMadeVariables}
-use Rattle.lexleader.specs.Clause.{tableOf, pairAt, pairsAt, Next}
+use Rattle.lexleader.specs.Clause.{columnOf, tableOf, pairAt, pairsAt, Next}
 use Rattle.lexleader.specs.Places.{clausesOn, clausesAt, sixAt, auxiliaryAfter, pastLast, Stands}
 use Rattle.lexleader.specs.declared.Place.{Place}
 use Rattle.lexleader.proofs.Walk.{pairs-start, walk-end, later-pairs}
@@ -45,7 +45,7 @@ row-on e row = pairs-on e (pairsOf row) ∙ ap (clausesOn 1 e) (pairs-start row)
 six : (j e : ℕ) (q p : Pair) → length (tableOf j e q p) ≡ 6
 six j e q p = go (eqb j 1)
   where
-    go : (first : Bool) → length (cond first (firstSix e q p) (laterSix e (e - 1) q p)) ≡ 6
+    go : (first : Bool) → length (columnOf first e q p) ≡ 6
     go true = refl
     go false = refl
 
@@ -57,7 +57,7 @@ six-length row p = six (p .j) (p .auxiliary) (pairAt row (p .index)) (pairAt row
 last-of-six : (j e : ℕ) (q p : Pair) → drop 5 (tableOf j e q p) ≡ getD (drop 5 (tableOf j e q p)) 0 [] ∷ []
 last-of-six j e q p = go (eqb j 1)
   where
-    go : (first : Bool) → let table = cond first (firstSix e q p) (laterSix e (e - 1) q p) in drop 5 table ≡ getD (drop 5 table) 0 [] ∷ []
+    go : (first : Bool) → let table = columnOf first e q p in drop 5 table ≡ getD (drop 5 table) 0 [] ∷ []
     go true = refl
     go false = refl
 
@@ -210,6 +210,10 @@ module _ (row : List ℕ) (p : Place) where
       pub after-next : p .auxiliary + 1 + (length (pairsAt (p .next) row) - 1) ≡ auxiliaryAfter row p
       unfolding auxiliaryAfter
       after-next = omega (arith, ap length two, ap length here-next)
+
+      -- the auxiliary is a variable of the made formula
+      pub auxiliary-most : p .auxiliary ≤ maxMadeVariables
+      auxiliary-most = omega (arith, after-next, s .few)
 
       -- q is the place of the next auxiliary's first clause
       pub to-next : (q : Place)

@@ -1,6 +1,6 @@
 -- Document 01's table: its rows in either column, and clauses of equal literals. Assumes nothing.
 use mathlib.Core.Path.{_≡_, refl, sym, ap, _∙_}
-use mathlib.Core.Bool.{Bool, true, false, cond}
+use mathlib.Core.Bool.{Bool, true, false}
 use mathlib.Core.List.{List, [], _∷_}
 use Prim.Native.Nat.{ℕ, suc, _-_}
 use native.Mathlib.Omega.{arith}
@@ -9,15 +9,15 @@ use lib.Dec.{eqb}
 use lib.ListN.{getD}
 use Rattle.lexleader.specs.Rows.{Pair}
 use Rattle.lexleader.specs.Made.{firstSix, laterSix}
-use Rattle.lexleader.specs.Clause.{Holds, tableOf}
+use Rattle.lexleader.specs.Clause.{Holds, columnOf, tableOf}
 use Rattle.lexleader.specs.declared.Clause.{Clause}
 
 -- row r, which stands at k
 module _ (j e : ℕ) (q p : Pair) (r k : ℕ) (at : r ≡ suc k) where
-  column : (b : Bool) → eqb j 1 ≡ b → getD (cond b (firstSix e q p) (laterSix e (e - 1) q p)) k [] ≡ getD (tableOf j e q p) (r - 1) []
+  column : (b : Bool) → eqb j 1 ≡ b → getD (columnOf b e q p) k [] ≡ getD (tableOf j e q p) (r - 1) []
   column b f =
       let place : k ≡ r - 1 = omega arith in
-      ap (λ (c : Bool). getD (cond c (firstSix e q p) (laterSix e (e - 1) q p)) k []) (sym f) ∙ ap (λ (i : ℕ). getD (tableOf j e q p) i []) place
+      ap (λ (c : Bool). getD (columnOf c e q p) k []) (sym f) ∙ ap (λ (i : ℕ). getD (tableOf j e q p) i []) place
 
   pub table-first : j ≡ 1 → getD (firstSix e q p) k [] ≡ getD (tableOf j e q p) (r - 1) []
   table-first f = column true (eq-eqb j 1 f)
@@ -29,7 +29,7 @@ module _ (j e : ℕ) (q p : Pair) (r k : ℕ) (at : r ≡ suc k) where
   pub table-both : getD (firstSix e q p) k [] ≡ getD (laterSix e (e - 1) q p) k [] → getD (firstSix e q p) k [] ≡ getD (tableOf j e q p) (r - 1) []
   table-both same = go (eqb j 1) ∙ column (eqb j 1) refl
     where
-      go : (b : Bool) → getD (firstSix e q p) k [] ≡ getD (cond b (firstSix e q p) (laterSix e (e - 1) q p)) k []
+      go : (b : Bool) → getD (firstSix e q p) k [] ≡ getD (columnOf b e q p) k []
       go true = refl
       go false = same
 

@@ -15,6 +15,6 @@ maxMadeVariables = maxVariables + maxAuxiliaries
 abbrev pub maxMadeClauses : ℕ
 maxMadeClauses = maxClauses + 6 * maxAuxiliaries
 
--- the last number in use before row r, from 0
+-- the greatest that the last number in use can be before row r, from 0
 abbrev pub maxBefore : ℕ → ℕ
 maxBefore r = maxVariables + r * (maxVariables - 1)

@@ -2,7 +2,7 @@
 -- Assumes nothing.
 use mathlib.Core.Path.{_≡_}
 use Prim.Native.Nat.{ℕ, _+_, _-_, _*_, _≤_, _<_}
-use mathlib.Core.Bool.{cond}
+use mathlib.Core.Bool.{Bool, cond}
 use mathlib.Core.List.{List, _∷_}
 use lib.ListN.{length, getD, take, drop}
 use lib.Dec.{eqb}
@@ -20,9 +20,13 @@ pub record Holds (c : Clause) (clause : List ℕ) : Type 0 where
   pub room : length (c .literals) ≡ 4
   pub are : clauseOf c ≡ clause
 
--- document 01's table for the auxiliary ej, whose number is e, the pair (xj, yj) and the next one
+-- a column of document 01's table, j = 1 or j of 2 or more, for the auxiliary whose number is e, its pair and the next one
+abbrev pub columnOf : Bool → ℕ → Pair → Pair → List (List ℕ)
+columnOf first e q p = cond first (firstSix e q p) (laterSix e (e - 1) q p)
+
+-- the table for the auxiliary ej
 abbrev pub tableOf : ℕ → ℕ → Pair → Pair → List (List ℕ)
-tableOf j e q p = cond (eqb j 1) (firstSix e q p) (laterSix e (e - 1) q p)
+tableOf j e q p = columnOf (eqb j 1) e q p
 
 -- the variable at an index of a row, with its image
 abbrev pub pairAt : List ℕ → ℕ → Pair

@@ -9,14 +9,7 @@ use lib.ListN.{length, getD}
 use Rattle.lists.specs.Tests.{allOf}
 use Rattle.lists.proofs.Cases.{and-l, and-r}
 use Rattle.lists.proofs.Members.{all-append}
-use Rattle.store.specs.Literals.{isLiteral}
-use Rattle.store.specs.Stores.{Store, wellFormed, plainOf, heldRows}
-use Rattle.store.proofs.Demands.{rows-of}
-use Rattle.store.proofs.Formed.{formed}
-use Rattle.symmetry.proofs.Facts.{literals-within}
 use Rattle.lexleader.specs.Models.{clauseHolds, formulaHolds}
-use Rattle.lexleader.proofs.Within.{made-within}
-use Rattle.emit.specs.Emit.{madeOf, variablesOf}
 use Rattle.checking.specs.Checking.{yes, falseAt, falseFrom}
 
 module _ (q : ℕ) (v : ℕ → Bool) where
@@ -43,11 +36,7 @@ passed-all q v (clause ∷ clauses) rest h =
     let on : q + 1 + length clauses ≡ q + suc (length clauses) = omega arith in
     rw (and-l (clauseHolds v clause) (formulaHolds v clauses) h) (passed-all (q + 1) v clauses rest (and-r (clauseHolds v clause) (formulaHolds v clauses) h) ∙ rw on)
 
--- every literal of the made formula is one of 1..N, and so is every one of its parts
-pub store-within : (s : Store) → wellFormed s ≡ true → allOf (allOf (isLiteral (variablesOf s))) (madeOf s) ≡ true
-unfolding variablesOf madeOf
-store-within s f = made-within (s .counts .variables) (plainOf s) (heldRows s) (literals-within s (formed s f)) (rows-of s f)
-
+-- what holds of all clauses holds of every part of them
 pub rest-within : (q : List ℕ → Bool) {clauses : List (List ℕ)} (front rest : List (List ℕ)) → clauses ≡ front ++ rest → allOf q clauses ≡ true → allOf q rest ≡ true
 rest-within q front rest is h = and-r (allOf q front) (allOf q rest) (sym (all-append q front rest) ∙ (rw is at h))
 

@@ -5,6 +5,7 @@ use mathlib.Core.List.{List, []}
 use Prim.Native.Nat.{ℕ, _+_, _-_, _*_, _/_, _%_, _<_}
 use native.Mathlib.Omega.{arith}
 use borrow.Author.Tests.{ne-eqb, le-leb}
+use lib.Dec.{eqb}
 use lib.ListN.{length, getD}
 use Rattle.lists.specs.Tests.{anyOf, allOf}
 use Rattle.lists.proofs.Cases.{never}
@@ -13,7 +14,7 @@ use Rattle.store.specs.Literals.{oppositeOf, isLiteral}
 use Rattle.store.proofs.FormLaws.{literal-low, literal-high, literal-most}
 use Rattle.lexleader.specs.Models.{literalValue, clauseHolds, formulaHolds}
 use Rattle.lexleader.specs.Made.{agrees}
-use Rattle.lexleader.specs.Clause.{tableOf, pairAt}
+use Rattle.lexleader.specs.Clause.{columnOf, pairAt}
 use Rattle.lexleader.specs.Places.{sixAt}
 use Rattle.lexleader.specs.declared.Place.{Place}
 use Rattle.lexleader.proofs.Truth.{value-opposite}
@@ -59,9 +60,9 @@ later-says false false x y m = refl
 
 module _ (v : ℕ → Bool) (row : List ℕ) (p : Place) where
   pub six-say : formulaHolds v (sixAt row p)
-      ≡ cond (literalValue v (2 * p .auxiliary)) (due v row p && ordered v (pairAt row (p .next))) (not (due v row p) && (not (p .first) || ordered v (pairAt row (p .index))))
+      ≡ cond (literalValue v (2 * p .auxiliary)) (due v row p && ordered v (pairAt row (p .next))) (not (due v row p) && (not (eqb (p .j) 1) || ordered v (pairAt row (p .index))))
   unfolding formulaHolds clauseHolds allOf anyOf sixAt due ordered agrees
-  six-say = go (p .first)
+  six-say = go (eqb (p .j) 1)
     where
       e : Bool
       e = literalValue v (2 * p .auxiliary)
@@ -78,7 +79,7 @@ module _ (v : ℕ → Bool) (row : List ℕ) (p : Place) where
       next : Bool
       next = ordered v (pairAt row (p .next))
 
-      go : (first : Bool) → formulaHolds v (tableOf first (p .auxiliary) (pairAt row (p .index)) (pairAt row (p .next)))
+      go : (first : Bool) → formulaHolds v (columnOf first (p .auxiliary) (pairAt row (p .index)) (pairAt row (p .next)))
           ≡ cond e ((first || before) && Bool·beq x y && next) (not ((first || before) && Bool·beq x y) && (not first || (not x || y)))
       go true = simp (value-opposite v, or-false) (first-says e x y next)
       go false = simp (value-opposite v, or-false) (later-says before e x y next)
@@ -100,35 +101,35 @@ by-opposite n i h =
 
 module _ (n : ℕ) (row : List ℕ) (p : Place) (h : allOf (allOf (isLiteral n)) (sixAt row p) ≡ true) where
   abbrev table : Bool → List (List ℕ)
-  table first = tableOf first (p .auxiliary) (pairAt row (p .index)) (pairAt row (p .next))
+  table first = columnOf first (p .auxiliary) (pairAt row (p .index)) (pairAt row (p .next))
 
-  within : allOf (allOf (isLiteral n)) (table (p .first)) ≡ true
+  within : allOf (allOf (isLiteral n)) (table (eqb (p .j) 1)) ≡ true
   unfolding sixAt
   within = h
 
   pub own-within : isLiteral n (2 * p .auxiliary) ≡ true
-  own-within = go (p .first) within
+  own-within = go (eqb (p .j) 1) within
     where
       go : (first : Bool) → allOf (allOf (isLiteral n)) (table first) ≡ true → isLiteral n (2 * p .auxiliary) ≡ true
       go true w = in-table n (table true) w 3 0 (omega arith) (omega arith)
       go false w = in-table n (table false) w 3 0 (omega arith) (omega arith)
 
-  pub before-within : p .first ≡ false → isLiteral n (2 * (p .auxiliary - 1)) ≡ true
-  before-within later = go (p .first) later within
+  pub before-within : (p .j ≡ 1 → ⊥) → isLiteral n (2 * (p .auxiliary - 1)) ≡ true
+  before-within later = go (eqb (p .j) 1) (ne-eqb (p .j) 1 later) within
     where
       go : (first : Bool) → first ≡ false → allOf (allOf (isLiteral n)) (table first) ≡ true → isLiteral n (2 * (p .auxiliary - 1)) ≡ true
       go true e w = never (sym e)
       go false e w = in-table n (table false) w 0 1 (omega arith) (omega arith)
 
   pub pair-within : Within n (pairAt row (p .index))
-  pair-within = go (p .first) within
+  pair-within = go (eqb (p .j) 1) within
     where
       go : (first : Bool) → allOf (allOf (isLiteral n)) (table first) ≡ true → Within n (pairAt row (p .index))
       go true w = record { x = in-table n (table true) w 3 1 (omega arith) (omega arith); y = in-table n (table true) w 3 2 (omega arith) (omega arith) }
       go false w = record { x = in-table n (table false) w 3 2 (omega arith) (omega arith); y = in-table n (table false) w 3 3 (omega arith) (omega arith) }
 
   pub next-within : Within n (pairAt row (p .next))
-  next-within = go (p .first) within
+  next-within = go (eqb (p .j) 1) within
     where
       go : (first : Bool) → allOf (allOf (isLiteral n)) (table first) ≡ true → Within n (pairAt row (p .next))
       go true w = record { x = by-opposite n (p .next + 1) (in-table n (table true) w 5 1 (omega arith) (omega arith)); y = in-table n (table true) w 5 2 (omega arith) (omega arith) }

@@ -4,6 +4,7 @@ use mathlib.Core.Path.{_≡_}
 use Prim.Native.Nat.{ℕ, _-_, _*_}
 use mathlib.Core.Bool.{Bool, true, not, _&&_, _||_}
 use mathlib.Core.List.{List}
+use lib.Dec.{eqb}
 use Rattle.store.specs.Literals.{isLiteral}
 use Rattle.lexleader.specs.Models.{literalValue}
 use Rattle.lexleader.specs.Rows.{Pair}
@@ -17,7 +18,7 @@ ordered v q = not (literalValue v (q .x)) || literalValue v (q .y)
 
 -- the auxiliary at a place has to be true: the one before it is, unless it is the row's first, and the pair at the place agrees
 unfoldable pub due : (ℕ → Bool) → List ℕ → Place → Bool
-due v row p = (p .first || literalValue v (2 * (p .auxiliary - 1))) && agrees v (pairAt row (p .index))
+due v row p = (eqb (p .j) 1 || literalValue v (2 * (p .auxiliary - 1))) && agrees v (pairAt row (p .index))
 
 -- both literals of a pair are of the variables 1..n
 pub record Within (n : ℕ) (q : Pair) : Type 0 where

@@ -13,9 +13,10 @@ ghost use Rattle.lists.specs.Tests.{allOf};
 ghost use Rattle.packed.specs.Words.{bitsOf, isAssignment};
 ghost use Rattle.packed.specs.Order.{valueOf};
 ghost use Rattle.store.specs.Literals.{isLiteral};
-ghost use Rattle.store.specs.Stores.{lent, wellFormed};
+ghost use Rattle.store.specs.Stores.{maxVariables, lent, wellFormed};
 ghost use Rattle.lexleader.specs.Models.{clauseHolds, formulaHolds};
 ghost use Rattle.lexleader.specs.Made.{agrees};
+ghost use Rattle.lexleader.specs.Bounds.{maxMadeVariables};
 ghost use Rattle.lexleader.specs.Clause.{pairAt};
 ghost use Rattle.lexleader.specs.Places.{sixAt};
 ghost use Rattle.cursor.specs.Cursors.{rowAt, clausesLeft, Points, AtAuxiliary};
@@ -83,7 +84,7 @@ fn six_hold(
 // Whether the six clauses of the auxiliary at a place hold: it is true exactly when it is due, the next pair is ordered where it is true, and so is the
 // pair of the row's first auxiliary.
 fn table_holds(row: &[u16], place: Place, a: &[u64]) -> bool
-    requires { ⌜ (length (now row) ≤ 512) × (place .index < length (now row)) × (place .next < length (now row)) × (place .auxiliary ≤ 80000) × (allOf (allOf (isLiteral (64 * length (now a)))) (sixAt (now row) place) ≡ true) ⌝ }
+    requires { ⌜ (length (now row) ≤ maxVariables) × (place .index < length (now row)) × (place .next < length (now row)) × (place .auxiliary ≤ maxMadeVariables) × (allOf (allOf (isLiteral (64 * length (now a)))) (sixAt (now row) place) ≡ true) ⌝ }
     ensures { λ r. ⌜ ((n : ℕ) → allOf (allOf (isLiteral n)) (sixAt (now (row .entry)) place) ≡ true → r ≡ formulaHolds (valueOf (bitsOf n (now (a .entry)))) (sixAt (now (row .entry)) place)) ⌝ }
 {
     let i = place.index;
@@ -98,7 +99,7 @@ fn table_holds(row: &[u16], place: Place, a: &[u64]) -> bool
     if due {
         return false;
     }
-    if place.first {
+    if place.j == 1 {
         return is_ordered(row, i, a);
     }
     true
@@ -106,11 +107,11 @@ fn table_holds(row: &[u16], place: Place, a: &[u64]) -> bool
 
 // Whether the auxiliary at a place has to be true.
 fn is_due(row: &[u16], place: Place, a: &[u64]) -> bool
-    requires { ⌜ (length (now row) ≤ 512) × (place .index < length (now row)) × (place .auxiliary ≤ 80000) × (allOf (allOf (isLiteral (64 * length (now a)))) (sixAt (now row) place) ≡ true) ⌝ }
+    requires { ⌜ (length (now row) ≤ maxVariables) × (place .index < length (now row)) × (place .auxiliary ≤ maxMadeVariables) × (allOf (allOf (isLiteral (64 * length (now a)))) (sixAt (now row) place) ≡ true) ⌝ }
     ensures { λ r. ⌜ ((n : ℕ) → allOf (allOf (isLiteral n)) (sixAt (now (row .entry)) place) ≡ true → r ≡ due (valueOf (bitsOf n (now (a .entry)))) (now (row .entry)) place) ⌝ }
 {
     let i = place.index;
-    if place.first {
+    if place.j == 1 {
         return pair_agrees(row, i, a);
     }
     if !valuation::literal_value(a, 2 * (place.auxiliary - 1)) {
@@ -121,7 +122,7 @@ fn is_due(row: &[u16], place: Place, a: &[u64]) -> bool
 
 // Whether a variable and its image have the same value.
 fn pair_agrees(row: &[u16], i: usize, a: &[u64]) -> bool
-    requires { ⌜ (i < length (now row)) × (i ≤ 512) × Within (64 * length (now a)) (pairAt (now row) i) ⌝ }
+    requires { ⌜ (i < length (now row)) × (i ≤ maxVariables) × Within (64 * length (now a)) (pairAt (now row) i) ⌝ }
     ensures { λ r. ⌜ ((n : ℕ) → Within n (pairAt (now (row .entry)) i) → r ≡ agrees (valueOf (bitsOf n (now (a .entry)))) (pairAt (now (row .entry)) i)) ⌝ }
 {
     let x = lexleader::own_code(i);
@@ -131,7 +132,7 @@ fn pair_agrees(row: &[u16], i: usize, a: &[u64]) -> bool
 
 // Whether a variable's image is true where the variable is.
 fn is_ordered(row: &[u16], i: usize, a: &[u64]) -> bool
-    requires { ⌜ (i < length (now row)) × (i ≤ 512) × Within (64 * length (now a)) (pairAt (now row) i) ⌝ }
+    requires { ⌜ (i < length (now row)) × (i ≤ maxVariables) × Within (64 * length (now a)) (pairAt (now row) i) ⌝ }
     ensures { λ r. ⌜ ((n : ℕ) → Within n (pairAt (now (row .entry)) i) → r ≡ ordered (valueOf (bitsOf n (now (a .entry)))) (pairAt (now (row .entry)) i)) ⌝ }
 {
     let x = lexleader::own_code(i);

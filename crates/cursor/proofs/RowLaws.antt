@@ -1,16 +1,18 @@
 -- The rows that are left, and what they add from a place on: a row that adds nothing is passed, and clauses taken leave those after them. Assumes nothing.
 use mathlib.Core.Path.{_≡_, sym, ap, ap₂, subst, _∙_}
-use mathlib.Core.Bool.{false}
 use mathlib.Core.List.{List, [], _∷_, _++_, append-assoc}
 use Prim.Native.Nat.{ℕ, _+_, _-_, _*_, _≤_, _<_}
 use native.Mathlib.Omega.{arith}
 use lib.ListN.{length, getD, take, drop, List·getD-append}
+use Rattle.store.specs.Stores.{maxVariables}
 use Rattle.store.specs.declared.record.Record.{Record}
 use Rattle.lexleader.specs.Made.{rowClauses, auxiliaries, rowsClauses}
+use Rattle.lexleader.specs.Bounds.{maxBefore}
 use Rattle.lexleader.specs.Clause.{pairsAt}
 use Rattle.lexleader.specs.Places.{clausesOn, clausesAt, sixAt, auxiliaryAfter, Stands}
 use Rattle.lexleader.specs.declared.Place.{Place}
-use Rattle.lexleader.proofs.Left.{part-is, left-step, left-end, row-size, auxiliaries-most}
+use Rattle.lexleader.proofs.Bounds.{auxiliaries-most}
+use Rattle.lexleader.proofs.Left.{part-is, left-step, left-end, row-size}
 use Rattle.lexleader.proofs.Places.{past, then-next, some-clause}
 use Rattle.cursor.specs.Cursors.{rowAt, rowsLeft, addedLeft, Points}
 
@@ -66,7 +68,7 @@ module _ (counts : Record) (images : List ℕ) where
     here-six p s first inside more fits =
         let size = row-size (counts .variables) (counts .rows) images fits r h in
         let none : p .r - 1 ≡ 0 = omega arith in
-        let next = clausesOn false (p .auxiliary + 1) (pairsAt (p .next) row) in
+        let next = clausesOn (p .j + 1) (p .auxiliary + 1) (pairsAt (p .next) row) in
         let others = rowsClauses (auxiliaryAfter row p) later in (
           next ++ others,
           added-here p
@@ -77,7 +79,7 @@ module _ (counts : Record) (images : List ℕ) where
     -- ---- a place of the row
 
     module _ (p : Place) where
-      pub place-points : {plain : ℕ} → plain ≤ counts .clauses → Stands row p → p .index < counts .variables → auxiliaryAfter row p ≤ 513 + 512 * (r + 1)
+      pub place-points : {plain : ℕ} → plain ≤ counts .clauses → Stands row p → p .index < counts .variables → auxiliaryAfter row p ≤ maxBefore (r + 1) + 1
           → Points counts images (record { plain = plain; row = r; place = p })
       place-points written stands inside low = record {
         plain = written;
@@ -95,7 +97,7 @@ module _ (counts : Record) (images : List ℕ) where
         pub place-past : addedLeft (rowsLeft counts images r) p ≡ rowsClauses (p .auxiliary) later
         place-past = added-here p ∙ ap₂ (λ (l : List (List ℕ)) (k : ℕ). l ++ rowsClauses k later) (nothing .0) (nothing .1)
 
-        pub place-few : auxiliaryAfter row p ≤ 513 + 512 * (r + 1) → p .auxiliary ≤ 513 + 512 * (r + 1)
+        pub place-few : auxiliaryAfter row p ≤ maxBefore (r + 1) + 1 → p .auxiliary ≤ maxBefore (r + 1) + 1
         place-few low = omega (arith, nothing .1)
 
     -- the row's first place
@@ -107,7 +109,7 @@ module _ (counts : Record) (images : List ℕ) where
           ∙ ap₂ (λ (l : List (List ℕ)) (k : ℕ). l ++ rowsClauses k later) (f .1) (f .2)
           ∙ sym (ap (rowsClauses e) here)
 
-      pub first-few : counts .rows * counts .variables ≤ length images → counts .variables ≤ 512 → e ≤ 513 + 512 * r → auxiliaryAfter row p ≤ 513 + 512 * (r + 1)
+      pub first-few : counts .rows * counts .variables ≤ length images → counts .variables ≤ maxVariables → e ≤ maxBefore r + 1 → auxiliaryAfter row p ≤ maxBefore (r + 1) + 1
       first-few fits small low = omega (arith, f .2, auxiliaries-most row, row-size (counts .variables) (counts .rows) images fits r h)
 
     -- a later place

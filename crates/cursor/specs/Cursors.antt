@@ -6,6 +6,7 @@ use lib.ListN.{take, drop}
 use Rattle.store.specs.Stores.{Store, rowsOf, plainOf}
 use Rattle.store.specs.declared.record.Record.{Record}
 use Rattle.lexleader.specs.Made.{rowsClauses}
+use Rattle.lexleader.specs.Bounds.{maxBefore}
 use Rattle.lexleader.specs.Places.{clausesAt, auxiliaryAfter, Stands}
 use Rattle.lexleader.specs.declared.Place.{Place}
 use Rattle.cursor.specs.declared.Cursor.{Cursor}
@@ -32,7 +33,7 @@ pub record Points (counts : Record) (images : List ℕ) (c : Cursor) : Type 0 wh
   pub row : c .row ≤ counts .rows
   pub place : c .row < counts .rows → Stands (rowAt counts images (c .row)) (c .place)
   pub there : c .row < counts .rows → c .place .index < counts .variables
-  pub few : c .row < counts .rows → auxiliaryAfter (rowAt counts images (c .row)) (c .place) ≤ 513 + 512 * (c .row + 1)
+  pub few : c .row < counts .rows → auxiliaryAfter (rowAt counts images (c .row)) (c .place) ≤ maxBefore (c .row + 1) + 1
 
 -- a cursor at the first of an auxiliary's six clauses
 pub record AtAuxiliary (counts : Record) (c : Cursor) : Type 0 where

@@ -8,8 +8,9 @@ ghost use mathlib.Core.Bool.{true};
 ghost use mathlib.Core.List.{[], _∷_, _++_};
 ghost use Prim.Native.Nat.{_+_, _*_, _≤_, _<_};
 ghost use lib.ListN.{length, getD};
-ghost use Rattle.store.specs.Stores.{lent, wellFormed};
+ghost use Rattle.store.specs.Stores.{maxVariables, maxRows, lent, wellFormed};
 ghost use Rattle.lexleader.specs.Made.{rowsClauses};
+ghost use Rattle.lexleader.specs.Bounds.{maxBefore};
 ghost use Rattle.lexleader.specs.Places.{clausesAt, sixAt, auxiliaryAfter, Stands};
 ghost use Rattle.emit.specs.Emit.{madeOf};
 ghost use Rattle.cursor.specs.Cursors.{rowAt, rowsLeft, addedLeft, clausesLeft, Points, AtAuxiliary};
@@ -55,7 +56,7 @@ pub fn next(
 
 // The cursor after a clause that a row adds, in the same row or a later one.
 pub fn next_added(counts: Record, images: &[u16], cursor: Cursor) -> Cursor
-    requires { ⌜ (counts .variables ≤ 512) × (counts .rows ≤ 64) × (counts .rows * counts .variables ≤ length (now images)) × Points counts (now images) cursor × (cursor .row < counts .rows) ⌝ }
+    requires { ⌜ (counts .variables ≤ maxVariables) × (counts .rows ≤ maxRows) × (counts .rows * counts .variables ≤ length (now images)) × Points counts (now images) cursor × (cursor .row < counts .rows) ⌝ }
     ensures points { λ r. ⌜ Points counts (now (images .entry)) r × (r .plain ≡ cursor .plain) ⌝ }
     ensures left { λ r. ⌜ addedLeft (rowsLeft counts (now (images .entry)) (cursor .row)) (cursor .place) ≡ getD (clausesAt (rowAt counts (now (images .entry)) (cursor .row)) (cursor .place)) 0 [] ∷ addedLeft (rowsLeft counts (now (images .entry)) (r .row)) (r .place) ⌝ }
 {
@@ -104,7 +105,7 @@ pub fn next_auxiliary(
 
 // The cursor at a place of its row, or past the row's last clause at the first one of a later row.
 fn at_place(counts: Record, images: &[u16], cursor: Cursor, place: Place) -> Cursor
-    requires { ⌜ (counts .variables ≤ 512) × (counts .rows ≤ 64) × (counts .rows * counts .variables ≤ length (now images)) × (cursor .plain ≤ counts .clauses) × (cursor .row < counts .rows) × Stands (rowAt counts (now images) (cursor .row)) place × (auxiliaryAfter (rowAt counts (now images) (cursor .row)) place ≤ 513 + 512 * (cursor .row + 1)) ⌝ }
+    requires { ⌜ (counts .variables ≤ maxVariables) × (counts .rows ≤ maxRows) × (counts .rows * counts .variables ≤ length (now images)) × (cursor .plain ≤ counts .clauses) × (cursor .row < counts .rows) × Stands (rowAt counts (now images) (cursor .row)) place × (auxiliaryAfter (rowAt counts (now images) (cursor .row)) place ≤ maxBefore (cursor .row + 1) + 1) ⌝ }
     ensures points { λ r. ⌜ Points counts (now (images .entry)) r × (r .plain ≡ cursor .plain) ⌝ }
     ensures left { λ r. ⌜ addedLeft (rowsLeft counts (now (images .entry)) (cursor .row)) place ≡ addedLeft (rowsLeft counts (now (images .entry)) (r .row)) (r .place) ⌝ }
 {
@@ -126,7 +127,7 @@ fn at_place(counts: Record, images: &[u16], cursor: Cursor, place: Place) -> Cur
 
 // The cursor at the first clause that a row or a later one adds, where e is the row's first auxiliary.
 fn row_from(counts: Record, images: &[u16], plain: usize, row: usize, e: u32) -> Cursor
-    requires { ⌜ (counts .variables ≤ 512) × (counts .rows ≤ 64) × (counts .rows * counts .variables ≤ length (now images)) × (plain ≤ counts .clauses) × (row ≤ counts .rows) × (e ≤ 513 + 512 * row) ⌝ }
+    requires { ⌜ (counts .variables ≤ maxVariables) × (counts .rows ≤ maxRows) × (counts .rows * counts .variables ≤ length (now images)) × (plain ≤ counts .clauses) × (row ≤ counts .rows) × (e ≤ maxBefore row + 1) ⌝ }
     ensures points { λ r. ⌜ Points counts (now (images .entry)) r × (r .plain ≡ plain) ⌝ }
     ensures left { λ r. ⌜ addedLeft (rowsLeft counts (now (images .entry)) (r .row)) (r .place) ≡ rowsClauses e (rowsLeft counts (now (images .entry)) row) ⌝ }
 {
@@ -160,7 +161,7 @@ fn nowhere() -> Place {
         index: 0,
         next: 0,
         auxiliary: 0,
+        j: 1,
         r: 1,
-        first: false,
     }
 }

@@ -1,4 +1,5 @@
 pub mod MadeLaws
 pub mod Ranges
+pub mod Bounds
 pub mod WrittenLaws
 pub mod Text

@@ -6,6 +6,7 @@ ghost use mathlib.Core.Bool.{true};
 ghost use Prim.Native.Nat.{_≤_, _<_};
 ghost use lib.ListN.{length};
 ghost use Rattle.store.specs.Stores.{lent, wellFormed, maxLiterals};
+ghost use Rattle.lexleader.specs.Bounds.{maxMadeVariables, maxMadeClauses};
 ghost use Rattle.render.specs.Text.{clauseLine};
 ghost use Rattle.emit.specs.Emit.{variablesOf, clausesOf, headerOf, lineOf, headerBy, clauseBy, writtenIf, bufferAfter};
 
@@ -23,7 +24,7 @@ pub struct Totals {
 
 pub fn totals_of(counts: Record, literals: &[u16], ends: &[u16], images: &[u16]) -> Totals
     requires { ⌜ wellFormed (lent counts (now literals) (now ends) (now images)) ≡ true ⌝ }
-    ensures { λ r. ⌜ (r .variables ≡ variablesOf (lent counts (now (literals .entry)) (now (ends .entry)) (now (images .entry)))) × (r .clauses ≡ clausesOf (lent counts (now (literals .entry)) (now (ends .entry)) (now (images .entry)))) × (r .variables ≤ 33280) × (r .clauses ≤ 200704) ⌝ }
+    ensures { λ r. ⌜ (r .variables ≡ variablesOf (lent counts (now (literals .entry)) (now (ends .entry)) (now (images .entry)))) × (r .clauses ≡ clausesOf (lent counts (now (literals .entry)) (now (ends .entry)) (now (images .entry)))) × (r .variables ≤ maxMadeVariables) × (r .clauses ≤ maxMadeClauses) ⌝ }
 {
     let added = lexleader::added_by_rows(images, counts.rows, counts.variables);
     Totals {

@@ -3,11 +3,11 @@
 use mathlib.Core.Path.{_≡_, refl, sym, ap, _∙_}
 use mathlib.Core.Bool.{Bool, true, false, not, cond, Bool·beq}
 use mathlib.Core.List.{List, [], _∷_, _++_, append-nil, append-assoc}
-use Prim.Native.Nat.{ℕ, zero, suc, _+_, _-_, _*_, _≤_, _<_}
+use Prim.Native.Nat.{ℕ, suc, _+_, _-_, _*_, _≤_, _<_}
 use native.Mathlib.Omega.{arith}
 use borrow.Author.Tests.{eqb-true, eqb-false}
 use mir.Val.{boolByte}
-use lib.ListN.{length, getD, take, drop, replicate, length-append, length-take}
+use lib.ListN.{length, getD, replicate, length-append}
 use lib.Dec.{eqb}
 use Rattle.lists.proofs.Cases.{never}
 use Rattle.packed.specs.Words.{bitsOf, wordCount}
@@ -21,7 +21,8 @@ use Rattle.lexleader.specs.Clause.{pairAt, pairsAt}
 use Rattle.lexleader.specs.Made.{agrees, settingsAfter, rowSettings, settings, auxiliaries, allAuxiliaries, filledIn, madeVariables}
 use Rattle.lexleader.proofs.Settings.{length-settings}
 use Rattle.lexleader.proofs.Walk.{walk-past, walk-moved, walk-end}
-use Rattle.lexleader.proofs.Left.{left, left-step, left-end, auxiliaries-most}
+use Rattle.lexleader.proofs.Bounds.{all-auxiliaries-most}
+use Rattle.lexleader.proofs.Left.{left, left-step, left-end}
 use Rattle.filling.specs.declared.Writer.{Writer}
 use Rattle.valuation.specs.Ready.{Ready}
 use Rattle.filling.specs.Written.{Holds, Some, Room, Appends, agreeing}
@@ -155,11 +156,6 @@ module _ (n rows : ℕ) (images : List ℕ) (a : List Bool) (r : ℕ) where
   unfolding settings
   over-more h = rw (left-step n rows images r h)
 
-all-most : (n rows : ℕ) (images : List ℕ) → n ≤ 512 → allAuxiliaries (rowsOf n rows images) ≤ 512 * rows
-unfolding allAuxiliaries rowsOf
-all-most n zero images small = omega arith
-all-most n (suc rows) images small = omega (arith, auxiliaries-most (take n images), length-take n images, all-most n rows (drop n images) small)
-
 -- ---- the whole
 
 module _ (n : ℕ) (rows : List (List ℕ)) (words : List ℕ) where
@@ -188,5 +184,5 @@ pub rows-room : {n rows : ℕ} {images words : List ℕ} {w : Writer} {out after
 unfolding wordCount madeVariables
 rows-room {n} {rows} {images} {words} r h room = record {
   fits = omega (arith, h .count, h .size, length-bits n words);
-  few = omega (arith, h .count, length-bits n words, all-most n rows images (r .small), r .few);
+  few = omega (arith, h .count, length-bits n words, all-auxiliaries-most n rows images (r .small), r .few);
 }

@@ -5,9 +5,9 @@ use mathlib.Core.Bool.{Bool, false, cond}
 use mathlib.Core.List.{List, [], _∷_, _++_}
 use lib.ListN.{length, getD, drop}
 use Rattle.packed.specs.Words.{bitsOf, binary, wordsOf}
-use Rattle.store.specs.Stores.{maxVariables, maxRows}
 use Rattle.lexleader.specs.Rows.{Pair}
 use Rattle.lexleader.specs.Made.{agrees, filledIn}
+use Rattle.lexleader.specs.Bounds.{maxMadeVariables}
 use Rattle.filling.specs.declared.Writer.{Writer}
 
 -- the values that a writer has taken: whole words lie in the buffer, the begun one in the writer, and the rest of the buffer is as it was
@@ -27,10 +27,10 @@ pub record Some (w : Writer) (out : List ℕ) : Type 0 where
 abbrev pub Appends : Writer → List Bool → List ℕ → Writer → List ℕ → Type 0
 Appends w more out v after = (values : List Bool) (old : List ℕ) → Holds values w old out → Holds (values ++ more) v old after
 
--- there is room for more values, and never so many that a count of them wraps: 512 for the assignment and at most 512 for each of 64 rows
+-- there is room for more values, and no more than a made formula has variables, so that a count of them never wraps
 pub record Room (w : Writer) (more : ℕ) (out : List ℕ) : Type 0 where
   pub fits : w .taken + more ≤ 64 * length out
-  pub few : w .taken + more ≤ maxVariables * (maxRows + 1)
+  pub few : w .taken + more ≤ maxMadeVariables
 
 -- how many pairs agree before the first that does not
 unfoldable pub agreeing : (ℕ → Bool) → List Pair → ℕ

@@ -9,7 +9,7 @@ ghost use lib.ListN.{length, drop, replicate};
 ghost use Rattle.lists.specs.Tests.{allOf};
 ghost use Rattle.packed.specs.Words.{bitsOf, wordCount, wordsOf};
 ghost use Rattle.packed.specs.Order.{valueOf};
-ghost use Rattle.store.specs.Stores.{isRow, rowsOf};
+ghost use Rattle.store.specs.Stores.{maxVariables, isRow, rowsOf};
 ghost use Rattle.lexleader.specs.Rows.{pairsOf};
 ghost use Rattle.lexleader.specs.Made.{auxiliaries, allAuxiliaries, madeVariables, rowSettings, settings};
 ghost use Rattle.valuation.specs.Ready.{Ready};
@@ -37,7 +37,7 @@ pub fn fill(images: &[u16], rows: usize, n: usize, a: &[u64], out: &mut [u64]) -
 
 // The values of the assignment itself.
 fn fill_plain(n: usize, a: &[u64], out: &mut [u64]) -> Writer
-    requires { ⌜ (n ≤ 512) × (n ≤ 64 * length (now a)) × (wordCount n ≤ length (now out)) ⌝ }
+    requires { ⌜ (n ≤ maxVariables) × (n ≤ 64 * length (now a)) × (wordCount n ≤ length (now out)) ⌝ }
     ensures { λ r. ⌜ Holds (bitsOf n (now (a .entry))) r (now (out .entry)) (now (out .exit)) ⌝ }
 {
     let mut w = Writer { taken: 0, word: 0 };
@@ -58,7 +58,7 @@ fn fill_rows(
     out: &mut [u64],
     w: Writer,
 ) -> Writer
-    requires { ⌜ (n ≤ 512) × (rows * n ≤ length (now images)) × (allOf (isRow n) (rowsOf n rows (now images)) ≡ true) × Table n (now values) × Some w (now out) × Room w (allAuxiliaries (rowsOf n rows (now images))) (now out) ⌝ }
+    requires { ⌜ (n ≤ maxVariables) × (rows * n ≤ length (now images)) × (allOf (isRow n) (rowsOf n rows (now images)) ≡ true) × Table n (now values) × Some w (now out) × Room w (allAuxiliaries (rowsOf n rows (now images))) (now out) ⌝ }
     ensures { λ r. ⌜ ((bits : List Bool) → Tabled n bits (now (values .entry)) → Appends w (settings (rowsOf n rows (now (images .entry))) bits) (now (out .entry)) r (now (out .exit))) ⌝ }
 {
     let mut taken = w;
@@ -74,7 +74,7 @@ fn fill_rows(
 
 // The values of a row's auxiliaries, one for each moved variable but the last: true as far as the variables agree with their images, false from there on.
 fn fill_row(row: &[u16], values: &[bool], out: &mut [u64], w: Writer) -> Writer
-    requires { ⌜ (length (now row) ≤ 512) × (isRow (length (now row)) (now row) ≡ true) × Table (length (now row)) (now values) × Some w (now out) × Room w (auxiliaries (now row)) (now out) ⌝ }
+    requires { ⌜ (length (now row) ≤ maxVariables) × (isRow (length (now row)) (now row) ≡ true) × Table (length (now row)) (now values) × Some w (now out) × Room w (auxiliaries (now row)) (now out) ⌝ }
     ensures { λ r. ⌜ ((bits : List Bool) → Tabled (length (now (row .entry))) bits (now (values .entry)) → Appends w (rowSettings (now (row .entry)) bits) (now (out .entry)) r (now (out .exit))) ⌝ }
 {
     let added = lexleader::added_by(row);
@@ -89,7 +89,7 @@ fn fill_row(row: &[u16], values: &[bool], out: &mut [u64], w: Writer) -> Writer
 
 // How many moved variables agree with their images before the first that does not.
 fn agreeing(row: &[u16], values: &[bool]) -> usize
-    requires { ⌜ (length (now row) ≤ 512) × (isRow (length (now row)) (now row) ≡ true) × (2 * length (now row) + 2 ≤ length (now values)) ⌝ }
+    requires { ⌜ (length (now row) ≤ maxVariables) × (isRow (length (now row)) (now row) ≡ true) × (2 * length (now row) + 2 ≤ length (now values)) ⌝ }
     ensures { λ r. ⌜ ((bits : List Bool) → Tabled (length (now (row .entry))) bits (now (values .entry)) → r ≡ agreeing (valueOf bits) (pairsOf (now (row .entry)))) ⌝ }
 {
     let mut count: usize = 0;

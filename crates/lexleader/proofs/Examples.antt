@@ -7,7 +7,12 @@ use Rattle.packed.specs.Order.{less}
 use Rattle.lexleader.specs.Models.{literalValue}
 use Rattle.lexleader.specs.Rows.{moved, lowers, pairsFrom, pairsOf}
 use Rattle.lexleader.specs.Made.{laterClauses, pairClauses, rowClauses, rowsClauses, made, agrees, settingsAfter, rowSettings, settings, filledIn}
+use Rattle.lexleader.specs.Bounds.{maxAuxiliaries, maxMadeVariables, maxMadeClauses}
 use Rattle.lexleader.specs.Descent.{stepBy, settled, spent, descendFrom, descend}
+
+-- document 01's bounds: 64 times 511 auxiliaries, N and M
+bounds : maxAuxiliaries ∷ maxMadeVariables ∷ maxMadeClauses ∷ [] ≡ 32704 ∷ 33216 ∷ 200320 ∷ []
+bounds = refl
 
 -- the listing: (1 2)(2 3), with the row that exchanges 1 and 3; the auxiliary is variable 4
 abbrev exchanged : List (List ℕ)

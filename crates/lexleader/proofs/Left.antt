@@ -1,6 +1,6 @@
 -- A loop over the rows: what is left is row r and those after it, and what that means for the counts and for the clause looked for. Assumes nothing.
 use mathlib.Core.Path.{_≡_, ap, subst, _∙_}
-use mathlib.Core.Logic.{_⊎_, inl, inr}
+use mathlib.Core.Logic.{_⊎_, inl, inr, ⊎-elim}
 use mathlib.Core.List.{List, [], _∷_, _++_}
 use Prim.Native.Nat.{ℕ, _+_, _-_, _*_, _≤_, _<_}
 use native.Mathlib.Nat.{mul-le-mul-right}
@@ -8,19 +8,19 @@ use native.Mathlib.Omega.{arith}
 use lib.ListN.{length, getD, take, drop, length-append, length-drop, List·getD-append}
 use lib.Seq.{getD-append-add, length-take-le}
 use Rattle.lists.proofs.Cases.{lt-or-le}
-use Rattle.store.specs.Stores.{rowsOf}
+use Rattle.store.specs.Stores.{maxVariables, rowsOf}
 use Rattle.store.proofs.FormLaws.{rows-step}
 use Rattle.store.proofs.Formed.{rowAt}
+use Rattle.lexleader.specs.Rows.{pairsOf}
 use Rattle.lexleader.specs.Made.{rowClauses, auxiliaries, rowsClauses, allAuxiliaries}
+use Rattle.lexleader.specs.Bounds.{maxBefore}
 use Rattle.lexleader.proofs.Walk.{pairs-length}
-use Rattle.lexleader.proofs.Numbers.{row-most, rows-length}
+use Rattle.lexleader.proofs.Numbers.{row-few, row-many, rows-length}
+use Rattle.lexleader.proofs.Bounds.{auxiliaries-most}
 
-pub auxiliaries-most : (row : List ℕ) → auxiliaries row ≤ length row
-unfolding auxiliaries
-auxiliaries-most row = omega (arith, pairs-length row)
-
-clauses-most : (e : ℕ) (row : List ℕ) → length (rowClauses e row) ≤ 6 * length row
-clauses-most e row = omega (arith, pairs-length row, row-most e row)
+-- of two variables or more
+clauses-most : (e k : ℕ) (row : List ℕ) → length row ≤ k → 2 ≤ k → length (rowClauses e row) ≤ 6 * (k - 1)
+clauses-most e k row h many = ⊎-elim (λ l. omega (arith, row-few e row l)) (λ l. omega (arith, row-many e row l, pairs-length row)) (lt-or-le (length (pairsOf row)) 2)
 
 -- `&images[at..to]` is row r, where at is r·n and to is n more
 pub part-is : (n r : ℕ) (images : List ℕ) → take (r * n + n - r * n) (drop (r * n) images) ≡ rowAt n r images
@@ -67,8 +67,8 @@ module _ (n rows : ℕ) (images : List ℕ) where
   -- The sums at row r: a auxiliaries and k clauses so far.
   pub record Summed (a k r : ℕ) : Type 0 where
     pub upto : r ≤ rows
-    pub few-auxiliaries : a ≤ 512 * r
-    pub few-clauses : k ≤ 3072 * r
+    pub few-auxiliaries : a ≤ r * (maxVariables - 1)
+    pub few-clauses : k ≤ 6 * (r * (maxVariables - 1))
     pub all-auxiliaries : allAuxiliaries (rowsOf n rows images) ≡ a + allAuxiliaries (left r)
     pub all-clauses : length (rowsClauses 0 (rowsOf n rows images)) ≡ k + length (rowsClauses 0 (left r))
 
@@ -81,7 +81,7 @@ module _ (n rows : ℕ) (images : List ℕ) where
     all-clauses = omega (arith, ap (λ (l : List (List ℕ)). length (rowsClauses 0 l)) left-all);
   }
 
-  pub summed-more : {a k r x y : ℕ} → Summed a k r → r < rows → n ≤ 512 → rows * n ≤ length images
+  pub summed-more : {a k r x y : ℕ} → Summed a k r → r < rows → n ≤ maxVariables → rows * n ≤ length images
       → Adds x y (rowAt n r images) → Summed (a + x) (k + y) (r + 1)
   unfolding allAuxiliaries rowsClauses
   summed-more {a} {k} {r} {x} {y} s h small fits (ax, ky) =
@@ -91,7 +91,7 @@ module _ (n rows : ℕ) (images : List ℕ) where
       record {
         upto = omega arith;
         few-auxiliaries = omega (arith, s .few-auxiliaries, auxiliaries-most row);
-        few-clauses = omega (arith, s .few-clauses, ky 0, clauses-most 0 row);
+        few-clauses = omega (arith, s .few-clauses, ky 0, clauses-most 0 maxVariables row (omega arith) (omega arith));
         all-auxiliaries = omega (arith, s .all-auxiliaries, ap allAuxiliaries (left-step r h));
         all-clauses =
             omega (
@@ -114,12 +114,12 @@ module _ (n rows : ℕ) (images : List ℕ) where
 
   -- The search for clause q at row r, whose first auxiliary is e: it is clause k of what is left.
   pub record Sought (q e k r : ℕ) : Type 0 where
-    pub low : e ≤ 513 + 512 * r
+    pub low : e ≤ maxBefore r + 1
     pub inside : k < length (rowsClauses e (left r))
     pub same : getD (rowsClauses (n + 1) (rowsOf n rows images)) q [] ≡ getD (rowsClauses e (left r)) k []
 
   module _ (q : ℕ) where
-    pub sought-first : n ≤ 512 → q < length (rowsClauses (n + 1) (rowsOf n rows images)) → Sought q (n + 1) q 0
+    pub sought-first : n ≤ maxVariables → q < length (rowsClauses (n + 1) (rowsOf n rows images)) → Sought q (n + 1) q 0
     sought-first small inside = record {
       low = omega arith;
       inside = rw left-all inside;
@@ -146,7 +146,7 @@ module _ (n rows : ℕ) (images : List ℕ) where
           ∙ ap (λ (l : List (List ℕ)). getD l k []) apart
           ∙ List·getD-append (rowClauses e (rowAt n r images)) (rowsClauses (e + auxiliaries (rowAt n r images)) (left (r + 1))) [] k h
 
-      pub sought-later : {x y : ℕ} → n ≤ 512 → rows * n ≤ length images → Adds x y (rowAt n r images) → y ≤ k → Sought q (e + x) (k - y) (r + 1)
+      pub sought-later : {x y : ℕ} → n ≤ maxVariables → rows * n ≤ length images → Adds x y (rowAt n r images) → y ≤ k → Sought q (e + x) (k - y) (r + 1)
       sought-later {x} {y} small fits (ax, count) h =
           let ky : y ≡ length (rowClauses e (rowAt n r images)) = count e in
           let row : List ℕ = rowAt n r images in

@@ -13,6 +13,7 @@ pub mod Theorems
 pub mod Examples
 pub mod Walk
 pub mod Numbers
+pub mod Bounds
 pub mod Places
 pub mod Table
 pub mod Left

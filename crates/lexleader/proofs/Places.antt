@@ -1,12 +1,12 @@
 -- Places among a row's clauses: the clauses from one on are the clause at it and those from the next. Assumes nothing.
-use mathlib.Core.Path.{_≡_, refl, sym, ap, _∙_}
+use mathlib.Core.Path.{_≡_, refl, sym, ap, ap₂, _∙_}
 use mathlib.Core.Bool.{Bool, true, false}
 use mathlib.Core.Logic.{_⊎_, inl, inr}
 use mathlib.Core.List.{List, [], _∷_, _++_}
 use Prim.Native.Nat.{ℕ, zero, suc, _+_, _-_, _*_, _/_, _%_, _≤_, _<_}
 use native.Mathlib.Nat.{add-zero}
 use native.Mathlib.Omega.{arith}
-use borrow.Author.Tests.{eq-eqb, ne-eqb}
+use borrow.Author.Tests.{ne-eqb}
 use lib.Dec.{eqb}
 use lib.ListN.{length, getD, drop, length-append, length-drop, List·getD-append}
 use lib.Seq.{drop-append-le, drop-append-add, getD-drop}
@@ -14,79 +14,75 @@ use Rattle.lists.proofs.Cases.{lt-or-le}
 use Rattle.lists.proofs.Steps.{drop-step}
 use Rattle.lexleader.specs.Rows.{Pair, pairsOf}
 use Rattle.lexleader.specs.Made.{laterSix, laterClauses, pairClauses, rowClauses, auxiliaries}
-use Rattle.lexleader.specs.Clause.{tableOf, pairAt, pairsAt, Next}
+use Rattle.lexleader.specs.Bounds.{maxMadeVariables}
+use Rattle.lexleader.specs.Clause.{columnOf, tableOf, pairAt, pairsAt, Next}
 use Rattle.lexleader.specs.Places.{clausesOn, clausesAt, sixAt, auxiliaryAfter, pastLast, Stands}
 use Rattle.lexleader.specs.declared.Place.{Place}
-use Rattle.lexleader.proofs.Walk.{pairs-start, pairs-length, walk-end}
+use Rattle.lexleader.proofs.Walk.{pairs-start, walk-end, later-pairs}
 use Rattle.lexleader.proofs.Numbers.{row-few, row-many}
 
 -- ---- a row's clauses are those of its pairs from the first auxiliary on
 
-later-on : (d : ℕ) (q : Pair) (pairs : List Pair) → laterClauses d q pairs ≡ clausesOn false (d + 1) (q ∷ pairs)
+later-on : (j d : ℕ) (q : Pair) (pairs : List Pair) → 2 ≤ j → laterClauses d q pairs ≡ clausesOn j (d + 1) (q ∷ pairs)
 unfolding laterClauses clausesOn
-later-on d q [] = refl
-later-on d q (p ∷ pairs) =
+later-on j d q [] h = rw (ne-eqb j 1 (λ e. omega arith))
+later-on j d q (p ∷ pairs) h =
     let before : d ≡ d + 1 - 1 = omega arith in
-    ap (λ (c : ℕ). laterSix (d + 1) c q p ++ laterClauses (d + 1) p pairs) before
-    ∙ ap (λ (l : List (List ℕ)). tableOf false (d + 1) q p ++ l) (later-on (d + 1) p pairs)
+    rw (ne-eqb j 1 (λ e. omega arith))
+    (ap (λ (c : ℕ). laterSix (d + 1) c q p ++ laterClauses (d + 1) p pairs) before
+    ∙ ap (λ (l : List (List ℕ)). laterSix (d + 1) (d + 1 - 1) q p ++ l) (later-on (j + 1) (d + 1) p pairs (omega arith)))
 
-pairs-on : (e : ℕ) (pairs : List Pair) → pairClauses e pairs ≡ clausesOn true e pairs
+pairs-on : (e : ℕ) (pairs : List Pair) → pairClauses e pairs ≡ clausesOn 1 e pairs
 unfolding pairClauses clausesOn
 pairs-on e [] = refl
 pairs-on e (q ∷ []) = refl
-pairs-on e (q ∷ p ∷ pairs) = ap (λ (l : List (List ℕ)). tableOf true e q p ++ l) (later-on e p pairs)
+pairs-on e (q ∷ p ∷ pairs) = ap (λ (l : List (List ℕ)). tableOf 1 e q p ++ l) (later-on 2 e p pairs (omega arith))
 
-pub row-on : (e : ℕ) (row : List ℕ) → rowClauses e row ≡ clausesOn true e (pairsAt 0 row)
+pub row-on : (e : ℕ) (row : List ℕ) → rowClauses e row ≡ clausesOn 1 e (pairsAt 0 row)
 unfolding rowClauses
-row-on e row = pairs-on e (pairsOf row) ∙ ap (clausesOn true e) (pairs-start row)
+row-on e row = pairs-on e (pairsOf row) ∙ ap (clausesOn 1 e) (pairs-start row)
 
-six : (first : Bool) (e : ℕ) (q p : Pair) → length (tableOf first e q p) ≡ 6
-six true e q p = refl
-six false e q p = refl
+six : (j e : ℕ) (q p : Pair) → length (tableOf j e q p) ≡ 6
+six j e q p = go (eqb j 1)
+  where
+    go : (first : Bool) → length (columnOf first e q p) ≡ 6
+    go true = refl
+    go false = refl
 
 pub six-length : (row : List ℕ) (p : Place) → length (sixAt row p) ≡ 6
 unfolding sixAt
-six-length row p = six (p .first) (p .auxiliary) (pairAt row (p .index)) (pairAt row (p .next))
+six-length row p = six (p .j) (p .auxiliary) (pairAt row (p .index)) (pairAt row (p .next))
 
 -- the last of them
-last-of-six : (first : Bool) (e : ℕ) (q p : Pair) → drop 5 (tableOf first e q p) ≡ getD (drop 5 (tableOf first e q p)) 0 [] ∷ []
-last-of-six true e q p = refl
-last-of-six false e q p = refl
+last-of-six : (j e : ℕ) (q p : Pair) → drop 5 (tableOf j e q p) ≡ getD (drop 5 (tableOf j e q p)) 0 [] ∷ []
+last-of-six j e q p = go (eqb j 1)
+  where
+    go : (first : Bool) → let table = columnOf first e q p in drop 5 table ≡ getD (drop 5 table) 0 [] ∷ []
+    go true = refl
+    go false = refl
 
 -- past the clauses of the first auxiliary
-past-six : (first : Bool) (e : ℕ) (q p : Pair) (pairs : List Pair) (k : ℕ)
-    → drop (6 + k) (clausesOn first e (q ∷ p ∷ pairs)) ≡ drop k (clausesOn false (e + 1) (p ∷ pairs))
+past-six : (j e : ℕ) (q p : Pair) (pairs : List Pair) (k : ℕ)
+    → drop (6 + k) (clausesOn j e (q ∷ p ∷ pairs)) ≡ drop k (clausesOn (j + 1) (e + 1) (p ∷ pairs))
 unfolding clausesOn
-past-six first e q p pairs k =
-    ap (λ (n : ℕ). drop (n + k) (tableOf first e q p ++ clausesOn false (e + 1) (p ∷ pairs))) (sym (six first e q p))
-    ∙ drop-append-add (tableOf first e q p) (clausesOn false (e + 1) (p ∷ pairs)) k
+past-six j e q p pairs k =
+    ap (λ (n : ℕ). drop (n + k) (tableOf j e q p ++ clausesOn (j + 1) (e + 1) (p ∷ pairs))) (sym (six j e q p))
+    ∙ drop-append-add (tableOf j e q p) (clausesOn (j + 1) (e + 1) (p ∷ pairs)) k
 
--- ---- by number: past the clauses of j auxiliaries
+-- ---- by number: past the clauses of k auxiliaries
 
-later-from : (e : ℕ) (pairs : List Pair) (j : ℕ) → j < length pairs → drop (6 * j) (clausesOn false e pairs) ≡ clausesOn false (e + j) (drop j pairs)
-later-from e pairs zero h = rw add-zero
-later-from e [] (suc j) h = absurd (omega arith)
-later-from e (q ∷ []) (suc j) h = absurd (omega arith)
-later-from e (q ∷ p ∷ pairs) (suc j) h =
-    let more : 6 * suc j ≡ 6 + 6 * j = omega arith in
-    let on : e + 1 + j ≡ e + suc j = omega arith in
-    ap (λ (n : ℕ). drop n (clausesOn false e (q ∷ p ∷ pairs))) more
-    ∙ past-six false e q p pairs (6 * j)
-    ∙ later-from (e + 1) (p ∷ pairs) j (omega arith)
-    ∙ ap (λ (d : ℕ). clausesOn false d (drop j (p ∷ pairs))) on
-
-pairs-from : (e : ℕ) (pairs : List Pair) (j : ℕ) → j < length pairs → drop (6 * j) (clausesOn true e pairs) ≡ clausesOn (eqb j 0) (e + j) (drop j pairs)
-pairs-from e pairs zero h = rw add-zero
-pairs-from e [] (suc j) h = absurd (omega arith)
-pairs-from e (q ∷ []) (suc j) h = absurd (omega arith)
-pairs-from e (q ∷ p ∷ pairs) (suc j) h =
-    let more : 6 * suc j ≡ 6 + 6 * j = omega arith in
-    let on : e + 1 + j ≡ e + suc j = omega arith in
-    ap (λ (n : ℕ). drop n (clausesOn true e (q ∷ p ∷ pairs))) more
-    ∙ past-six true e q p pairs (6 * j)
-    ∙ later-from (e + 1) (p ∷ pairs) j (omega arith)
-    ∙ ap (λ (d : ℕ). clausesOn false d (drop j (p ∷ pairs))) on
-    ∙ ap (λ (first : Bool). clausesOn first (e + suc j) (drop j (p ∷ pairs))) (sym (ne-eqb (suc j) 0 (λ z. omega arith)))
+pairs-from : (j e : ℕ) (pairs : List Pair) (k : ℕ) → k < length pairs → drop (6 * k) (clausesOn j e pairs) ≡ clausesOn (j + k) (e + k) (drop k pairs)
+pairs-from j e pairs zero h = rw (add-zero, add-zero)
+pairs-from j e [] (suc k) h = absurd (omega arith)
+pairs-from j e (q ∷ []) (suc k) h = absurd (omega arith)
+pairs-from j e (q ∷ p ∷ pairs) (suc k) h =
+    let more : 6 * suc k ≡ 6 + 6 * k = omega arith in
+    let one : j + 1 + k ≡ j + suc k = omega arith in
+    let on : e + 1 + k ≡ e + suc k = omega arith in
+    ap (λ (n : ℕ). drop n (clausesOn j e (q ∷ p ∷ pairs))) more
+    ∙ past-six j e q p pairs (6 * k)
+    ∙ pairs-from (j + 1) (e + 1) (p ∷ pairs) k (omega arith)
+    ∙ ap₂ (λ (i d : ℕ). clausesOn i d (drop k (p ∷ pairs))) one on
 
 -- ---- what stands at a place
 
@@ -111,9 +107,9 @@ module _ (row : List ℕ) (p : Place) where
       let r : p .r - 1 ≡ 5 = omega arith in
       by-head (is
       ∙ ap (λ (k : ℕ). drop k (sixAt row p) ++ rest) r
-      ∙ ap (λ (l : List (List ℕ)). l ++ rest) (last-of-six (p .first) (p .auxiliary) (pairAt row (p .index)) (pairAt row (p .next))))
+      ∙ ap (λ (l : List (List ℕ)). l ++ rest) (last-of-six (p .j) (p .auxiliary) (pairAt row (p .index)) (pairAt row (p .next))))
 
-  pub few-auxiliaries : Stands row p → p .auxiliary ≤ 80000
+  pub few-auxiliaries : Stands row p → p .auxiliary ≤ maxMadeVariables + 1
   unfolding auxiliaryAfter
   few-auxiliaries s = omega (arith, s .few)
 
@@ -127,7 +123,7 @@ module _ (row : List ℕ) (p : Place) where
       one : pairsAt (p .index) row ≡ own ∷ []
       one = s .here h ∙ ap (λ (l : List Pair). own ∷ l) (s .then h .same ∙ walk-end row (p .next) (omega arith))
 
-      pub at-one : (q : Pair) → getD (clausesAt row p) 0 [] ≡ getD (tableOf true (p .auxiliary) own q) 0 []
+      pub at-one : (q : Pair) → getD (clausesAt row p) 0 [] ≡ getD (tableOf 1 (p .auxiliary) own q) 0 []
       unfolding clausesAt clausesOn
       at-one q = let a = s .alone h last in rw (one, a .0, a .1)
 
@@ -152,7 +148,7 @@ module _ (row : List ℕ) (p : Place) where
       two = s .here h ∙ ap (λ (l : List Pair). own ∷ l) (s .then h .same ∙ here-next)
 
       abbrev all : List (List ℕ)
-      all = clausesOn (p .first) (p .auxiliary) (own ∷ next ∷ pairsAt (p .next + 1) row)
+      all = clausesOn (p .j) (p .auxiliary) (own ∷ next ∷ pairsAt (p .next + 1) row)
 
       at-place : clausesAt row p ≡ drop (p .r - 1) all
       unfolding clausesAt
@@ -160,15 +156,15 @@ module _ (row : List ℕ) (p : Place) where
 
       enough : p .r - 1 < length all
       unfolding clausesOn
-      enough = omega (arith, s .low, s .high, six (p .first) (p .auxiliary) own next, length-append (tableOf (p .first) (p .auxiliary) own next) (clausesOn false (p .auxiliary + 1) (next ∷ pairsAt (p .next + 1) row)))
+      enough = omega (arith, s .low, s .high, six (p .j) (p .auxiliary) own next, length-append (tableOf (p .j) (p .auxiliary) own next) (clausesOn (p .j + 1) (p .auxiliary + 1) (next ∷ pairsAt (p .next + 1) row)))
 
-      pub at-two : getD (clausesAt row p) 0 [] ≡ getD (tableOf (p .first) (p .auxiliary) own next) (p .r - 1) []
+      pub at-two : getD (clausesAt row p) 0 [] ≡ getD (tableOf (p .j) (p .auxiliary) own next) (p .r - 1) []
       unfolding clausesOn
       at-two =
           ap (λ (l : List (List ℕ)). getD l 0 []) at-place
           ∙ getD-drop (p .r - 1) all 0 []
           ∙ ap (λ (k : ℕ). getD all k []) (add-zero (p .r - 1))
-          ∙ List·getD-append (tableOf (p .first) (p .auxiliary) own next) (clausesOn false (p .auxiliary + 1) (next ∷ pairsAt (p .next + 1) row)) [] (p .r - 1) (omega (arith, s .low, s .high, six (p .first) (p .auxiliary) own next))
+          ∙ List·getD-append (tableOf (p .j) (p .auxiliary) own next) (clausesOn (p .j + 1) (p .auxiliary + 1) (next ∷ pairsAt (p .next + 1) row)) [] (p .r - 1) (omega (arith, s .low, s .high, six (p .j) (p .auxiliary) own next))
 
       -- the clause at the place, and those after it
       step : clausesAt row p ≡ getD (clausesAt row p) 0 [] ∷ drop (p .r - 1 + 1) all
@@ -178,14 +174,14 @@ module _ (row : List ℕ) (p : Place) where
           at-place ∙ drop-step all (p .r - 1) [] enough ∙ ap (λ (clause : List ℕ). clause ∷ drop (p .r - 1 + 1) all) head
 
       -- the next clause of the same auxiliary
-      pub then-same : (q : Place) → q ≡ record { index = p .index; next = p .next; auxiliary = p .auxiliary; r = p .r + 1; first = p .first }
+      pub then-same : (q : Place) → q ≡ record { index = p .index; next = p .next; auxiliary = p .auxiliary; j = p .j; r = p .r + 1 }
           → clausesAt row p ≡ getD (clausesAt row p) 0 [] ∷ clausesAt row q
       unfolding clausesAt
       then-same q e =
           let r : p .r - 1 + 1 ≡ p .r + 1 - 1 = omega (arith, s .low) in
           step ∙ rw (e, two, r)
 
-      pub same-stands : p .r < 6 → (q : Place) → q ≡ record { index = p .index; next = p .next; auxiliary = p .auxiliary; r = p .r + 1; first = p .first }
+      pub same-stands : p .r < 6 → (q : Place) → q ≡ record { index = p .index; next = p .next; auxiliary = p .auxiliary; j = p .j; r = p .r + 1 }
           → Stands row q × (auxiliaryAfter row q ≡ auxiliaryAfter row p)
       unfolding auxiliaryAfter
       same-stands low q e = rw e (
@@ -194,6 +190,8 @@ module _ (row : List ℕ) (p : Place) where
           here = s .here;
           then = s .then;
           alone = λ _ last. absurd (omega arith);
+          one = s .one;
+          early = s .early;
           low = omega arith;
           high = omega arith;
           few = s .few;
@@ -202,20 +200,24 @@ module _ (row : List ℕ) (p : Place) where
       )
 
       -- the clauses of the auxiliary, and those of the next ones
-      pub then-next : clausesAt row p ≡ drop (p .r - 1) (sixAt row p) ++ clausesOn false (p .auxiliary + 1) (pairsAt (p .next) row)
+      pub then-next : clausesAt row p ≡ drop (p .r - 1) (sixAt row p) ++ clausesOn (p .j + 1) (p .auxiliary + 1) (pairsAt (p .next) row)
       unfolding clausesOn sixAt
       then-next =
           at-place
-          ∙ drop-append-le (p .r - 1) (tableOf (p .first) (p .auxiliary) own next) (clausesOn false (p .auxiliary + 1) (next ∷ pairsAt (p .next + 1) row)) (omega (arith, s .high, six (p .first) (p .auxiliary) own next))
-          ∙ ap (λ (pairs : List Pair). drop (p .r - 1) (tableOf (p .first) (p .auxiliary) own next) ++ clausesOn false (p .auxiliary + 1) pairs) (sym here-next)
+          ∙ drop-append-le (p .r - 1) (tableOf (p .j) (p .auxiliary) own next) (clausesOn (p .j + 1) (p .auxiliary + 1) (next ∷ pairsAt (p .next + 1) row)) (omega (arith, s .high, six (p .j) (p .auxiliary) own next))
+          ∙ ap (λ (pairs : List Pair). drop (p .r - 1) (tableOf (p .j) (p .auxiliary) own next) ++ clausesOn (p .j + 1) (p .auxiliary + 1) pairs) (sym here-next)
 
       pub after-next : p .auxiliary + 1 + (length (pairsAt (p .next) row) - 1) ≡ auxiliaryAfter row p
       unfolding auxiliaryAfter
       after-next = omega (arith, ap length two, ap length here-next)
 
+      -- the auxiliary is a variable of the made formula
+      pub auxiliary-most : p .auxiliary ≤ maxMadeVariables
+      auxiliary-most = omega (arith, after-next, s .few)
+
       -- q is the place of the next auxiliary's first clause
       pub to-next : (q : Place)
-          → Stands row q × (clausesAt row q ≡ clausesOn false (p .auxiliary + 1) (pairsAt (p .next) row)) × (auxiliaryAfter row q ≡ p .auxiliary + 1 + (length (pairsAt (p .next) row) - 1))
+          → Stands row q × (clausesAt row q ≡ clausesOn (p .j + 1) (p .auxiliary + 1) (pairsAt (p .next) row)) × (auxiliaryAfter row q ≡ p .auxiliary + 1 + (length (pairsAt (p .next) row) - 1))
           → Stands row q × (clausesAt row p ≡ drop (p .r - 1) (sixAt row p) ++ clausesAt row q) × (auxiliaryAfter row q ≡ auxiliaryAfter row p)
       to-next q (stands, clauses, after) = (stands, then-next ∙ ap (λ (l : List (List ℕ)). drop (p .r - 1) (sixAt row p) ++ l) (sym clauses), after ∙ after-next)
 
@@ -233,39 +235,38 @@ module _ (row : List ℕ) (e index : ℕ) (n : Next row 0 index) where
   same-pairs : pairsOf row ≡ pairsAt index row
   same-pairs = pairs-start row ∙ n .same
 
-  pub first-rest : (clausesOn true e (pairsAt index row) ≡ rowClauses e row) × (e + (length (pairsAt index row) - 1) ≡ e + auxiliaries row)
+  pub first-rest : (clausesOn 1 e (pairsAt index row) ≡ rowClauses e row) × (e + (length (pairsAt index row) - 1) ≡ e + auxiliaries row)
   unfolding auxiliaries
-  first-rest = (ap (clausesOn true e) (sym (n .same)) ∙ sym (row-on e row), omega (arith, ap length same-pairs))
+  first-rest = (ap (clausesOn 1 e) (sym (n .same)) ∙ sym (row-on e row), omega (arith, ap length same-pairs))
 
   pub first-none : length row ≤ index → ([] ≡ rowClauses e row) × (e ≡ e + auxiliaries row)
   unfolding clausesOn
   first-none h =
       let none : pairsAt index row ≡ [] = walk-end row index h in
-      (sym (ap (clausesOn true e) none) ∙ first-rest .0, omega (arith, ap length none, first-rest .1))
-
-  pub first-few : e ≤ 40000 → length row ≤ 512 → e + (length (pairsAt index row) - 1) ≤ 80000
-  first-few low short = omega (arith, ap length same-pairs, pairs-length row)
+      (sym (ap (clausesOn 1 e) none) ∙ first-rest .0, omega (arith, ap length none, first-rest .1))
 
 -- ---- the first clauses of an auxiliary, for a pair at an index
 
-module _ (row : List ℕ) (index next e : ℕ) (first : Bool) (h : index < length row) (here : pairsAt index row ≡ pairAt row index ∷ pairsAt (index + 1) row)
+module _ (row : List ℕ) (index next e j : ℕ) (h : index < length row) (here : pairsAt index row ≡ pairAt row index ∷ pairsAt (index + 1) row)
     (then : Next row (index + 1) next) where
   abbrev start : Place
-  start = record { index = index; next = next; auxiliary = e; r = 1; first = first }
+  start = record { index = index; next = next; auxiliary = e; j = j; r = 1 }
 
-  pub starts : (next ≡ length row → first ≡ true) → e + (length (pairsAt index row) - 1) ≤ 80000 → Stands row start
+  pub starts : (next ≡ length row → j ≡ 1) → 1 ≤ j → j ≤ index + 1 → e + (length (pairsAt index row) - 1) ≤ maxMadeVariables + 1 → Stands row start
   unfolding auxiliaryAfter
-  starts alone few = record {
+  starts alone one early few = record {
     within = omega arith;
     here = λ _. here;
     then = λ _. then;
     alone = λ _ last. (alone last, refl);
+    one = one;
+    early = early;
     low = omega arith;
     high = omega arith;
     few = few;
   }
 
-  pub start-clauses : clausesAt row start ≡ clausesOn first e (pairsAt index row)
+  pub start-clauses : clausesAt row start ≡ clausesOn j e (pairsAt index row)
   unfolding clausesAt
   start-clauses = refl
 
@@ -274,14 +275,14 @@ module _ (row : List ℕ) (index next e : ℕ) (first : Bool) (h : index < lengt
   start-after = refl
 
   -- a later auxiliary has no clauses where no pair follows
-  pub no-later : next ≡ length row → (clausesOn false e (pairsAt index row) ≡ []) × (e + (length (pairsAt index row) - 1) ≡ e)
+  pub no-later : 2 ≤ j → next ≡ length row → (clausesOn j e (pairsAt index row) ≡ []) × (e + (length (pairsAt index row) - 1) ≡ e)
   unfolding clausesOn
-  no-later last =
+  no-later later last =
       let one : pairsAt index row ≡ pairAt row index ∷ [] = here ∙ ap (λ (l : List Pair). pairAt row index ∷ l) (then .same ∙ walk-end row next (omega arith)) in
-      rw one (refl, omega arith)
+      rw (one, ne-eqb j 1 (λ e. omega arith)) (refl, omega arith)
 
 -- the place past the last clause, with the clauses and the auxiliary that are left
-pub at-last : (row : List ℕ) (e : ℕ) (p : Place) → p ≡ pastLast row e → e ≤ 80000 → {clauses : List (List ℕ)} {after : ℕ} → [] ≡ clauses → e ≡ after
+pub at-last : (row : List ℕ) (e : ℕ) (p : Place) → p ≡ pastLast row e → e ≤ maxMadeVariables + 1 → {clauses : List (List ℕ)} {after : ℕ} → [] ≡ clauses → e ≡ after
     → Stands row p × (clausesAt row p ≡ clauses) × (auxiliaryAfter row p ≡ after)
 at-last row e p is few none same =
     let z = past row (pastLast row e) (omega arith) in
@@ -290,6 +291,8 @@ at-last row e p is few none same =
       here = λ h. absurd (omega arith);
       then = λ h. absurd (omega arith);
       alone = λ h last. absurd (omega arith);
+      one = omega arith;
+      early = omega arith;
       low = omega arith;
       high = omega arith;
       few = omega (arith, z .1);
@@ -298,19 +301,20 @@ at-last row e p is few none same =
 
 -- ---- clause number q of a row
 
-module _ (row : List ℕ) (e q i : ℕ) (p : Place) (is : p ≡ record { index = i; next = p .next; auxiliary = e + q / 6; r = q % 6 + 1; first = eqb (q / 6) 0 })
+module _ (row : List ℕ) (e q i : ℕ) (p : Place) (is : p ≡ record { index = i; next = p .next; auxiliary = e + q / 6; j = q / 6 + 1; r = q % 6 + 1 })
     (inside : q / 6 < length (pairsOf row)) (found : drop (q / 6) (pairsOf row) ≡ pairsAt i row) where
   pub numbered : getD (clausesAt row p) 0 [] ≡ getD (rowClauses e row) q []
   unfolding clausesAt rowClauses
   numbered =
       let whole : 6 * (q / 6) + (q % 6 + 1 - 1 + 0) ≡ q = omega arith in
+      let one : q / 6 + 1 ≡ 1 + q / 6 = omega arith in
       let pairs = pairsOf row in
       ap (λ (x : Place). getD (clausesAt row x) 0 []) is
-      ∙ getD-drop (q % 6 + 1 - 1) (clausesOn (eqb (q / 6) 0) (e + q / 6) (pairsAt i row)) 0 []
+      ∙ getD-drop (q % 6 + 1 - 1) (clausesOn (q / 6 + 1) (e + q / 6) (pairsAt i row)) 0 []
       ∙ ap (λ (l : List (List ℕ)). getD l (q % 6 + 1 - 1 + 0) [])
-      (ap (clausesOn (eqb (q / 6) 0) (e + q / 6)) (sym found) ∙ sym (pairs-from e pairs (q / 6) inside))
-      ∙ getD-drop (6 * (q / 6)) (clausesOn true e pairs) (q % 6 + 1 - 1 + 0) []
-      ∙ ap (λ (k : ℕ). getD (clausesOn true e pairs) k []) whole
+      (ap₂ (λ (j : ℕ) (l : List Pair). clausesOn j (e + q / 6) l) one (sym found) ∙ sym (pairs-from 1 e pairs (q / 6) inside))
+      ∙ getD-drop (6 * (q / 6)) (clausesOn 1 e pairs) (q % 6 + 1 - 1 + 0) []
+      ∙ ap (λ (k : ℕ). getD (clausesOn 1 e pairs) k []) whole
       ∙ ap (λ (l : List (List ℕ)). getD l q []) (sym (pairs-on e pairs))
 
   -- the last pair has no clauses of its own, so it is the only one
@@ -325,16 +329,18 @@ module _ (row : List ℕ) (e q i : ℕ) (p : Place) (is : p ≡ record { index =
       go (inr l) = absurd (omega (arith, size, row-many e row l))
 
   module _ (many : q < length (rowClauses e row)) (h : i < length row) (here : pairsAt i row ≡ pairAt row i ∷ pairsAt (i + 1) row) (then : Next row (i + 1) (p .next)) where
-    pub number-stands : e ≤ 40000 → length row ≤ 512 → Stands row p
-    unfolding auxiliaryAfter
-    number-stands low short =
+    pub number-stands : e + auxiliaries row ≤ maxMadeVariables + 1 → Stands row p
+    unfolding auxiliaryAfter auxiliaries
+    number-stands low =
         let last : p .next ≡ length row → q ≡ 0 = λ end. only many (ap length here ∙ ap (λ (l : List Pair). suc (length l)) (then .same ∙ walk-end row (p .next) (omega arith))) in
         rw is (record {
           within = omega arith;
           here = λ _. here;
           then = λ _. then;
-          alone = λ _ end. (eq-eqb (q / 6) 0 (omega (arith, last end)), omega (arith, last end));
+          alone = λ _ end. (omega (arith, last end), omega (arith, last end));
+          one = omega arith;
+          early = omega (arith, ap length (pairs-start row), later-pairs row 0 i (omega arith) .1, length-drop (q / 6) (pairsOf row), ap length found);
           low = omega arith;
           high = omega arith;
-          few = omega (arith, pairs-length row, length-drop (q / 6) (pairsOf row), ap length found);
+          few = omega (arith, low, length-drop (q / 6) (pairsOf row), ap length found);
         })

@@ -3,7 +3,8 @@ use mathlib.Core.Path.{_≡_, refl, sym, ap, _∙_}
 use mathlib.Core.Bool.{Bool, true, false, not, cond}
 use mathlib.Core.Logic.{_⊎_, inl, inr}
 use mathlib.Core.List.{List, [], _∷_}
-use Prim.Native.Nat.{ℕ, _+_, _-_, _*_, _≤_, _<_}
+use Prim.Native.Nat.{ℕ, zero, suc, _+_, _-_, _*_, _≤_, _<_}
+use native.Mathlib.Nat.{add-zero}
 use native.Mathlib.Omega.{arith}
 use borrow.Author.Tests.{eq-eqb, ne-eqb, eqb-true, eqb-false}
 use mir.Val.{boolByte}
@@ -41,6 +42,26 @@ module _ (row : List ℕ) (i : ℕ) where
   pub walk-end : length row ≤ i → pairsAt i row ≡ []
   unfolding pairsAt pairsFrom
   walk-end h = rw (drop-of-length-le row {i = i} h)
+
+-- there are as many pairs less after some variables as these are moved, so no more than these are
+module _ (row : List ℕ) where
+  next-pairs : (i : ℕ) → (length (pairsAt (i + 1) row) ≤ length (pairsAt i row)) × (length (pairsAt i row) ≤ 1 + length (pairsAt (i + 1) row))
+  next-pairs i = go (lt-or-le i (length row))
+    where
+      go : (i < length row) ⊎ (length row ≤ i) → (length (pairsAt (i + 1) row) ≤ length (pairsAt i row)) × (length (pairsAt i row) ≤ 1 + length (pairsAt (i + 1) row))
+      go (inl l) = let step = walk-counts row i (2 * (i + 1)) l refl in (omega (arith, step), omega (arith, step))
+      go (inr l) = rw (walk-end row i l, walk-end row (i + 1) (omega arith)) (omega arith, omega arith)
+
+  pairs-past : (i d : ℕ) → (length (pairsAt (i + d) row) ≤ length (pairsAt i row)) × (length (pairsAt i row) ≤ d + length (pairsAt (i + d) row))
+  pairs-past i zero = rw (add-zero i) (omega arith, omega arith)
+  pairs-past i (suc d) =
+      let next : i + suc d ≡ i + d + 1 = omega arith in
+      let before = pairs-past i d in
+      let step = next-pairs (i + d) in
+      rw next (omega (arith, before .0, step .0), omega (arith, before .1, step .1))
+
+  pub later-pairs : (i j : ℕ) → i ≤ j → (length (pairsAt j row) ≤ length (pairsAt i row)) × (length (pairsAt i row) ≤ j - i + length (pairsAt j row))
+  later-pairs i j h = let on : i + (j - i) ≡ j = omega arith in rw on at (pairs-past i (j - i))
 
 from-length : (i : ℕ) (row : List ℕ) → length (pairsFrom i row) ≤ length row
 unfolding pairsFrom

@@ -5,6 +5,7 @@ use Prim.Native.Nat.{ℕ, _+_, _-_, _*_, _≤_, _<_}
 use mathlib.Core.Bool.{Bool, cond}
 use mathlib.Core.List.{List, _∷_}
 use lib.ListN.{length, getD, take, drop}
+use lib.Dec.{eqb}
 use Rattle.lexleader.specs.declared.Clause.{Clause}
 use Rattle.lexleader.specs.Rows.{Pair, pairsFrom}
 use Rattle.lexleader.specs.Made.{firstSix, laterSix}
@@ -19,9 +20,13 @@ pub record Holds (c : Clause) (clause : List ℕ) : Type 0 where
   pub room : length (c .literals) ≡ 4
   pub are : clauseOf c ≡ clause
 
--- document 01's table for the auxiliary e, the pair (x, y) and the next one; `first` says that e is the row's first auxiliary
-abbrev pub tableOf : Bool → ℕ → Pair → Pair → List (List ℕ)
-tableOf first e q p = cond first (firstSix e q p) (laterSix e (e - 1) q p)
+-- a column of document 01's table, j = 1 or j of 2 or more, for the auxiliary whose number is e, its pair and the next one
+abbrev pub columnOf : Bool → ℕ → Pair → Pair → List (List ℕ)
+columnOf first e q p = cond first (firstSix e q p) (laterSix e (e - 1) q p)
+
+-- the table for the auxiliary ej
+abbrev pub tableOf : ℕ → ℕ → Pair → Pair → List (List ℕ)
+tableOf j e q p = columnOf (eqb j 1) e q p
 
 -- the variable at an index of a row, with its image
 abbrev pub pairAt : List ℕ → ℕ → Pair

@@ -2,14 +2,14 @@
 // 000, section 2). The code says what rows add, and finds the literals of one clause of that by its number: a row's moved variables are found by
 // walking it, and a table chooses the literals.
 ghost use mathlib.Core.Path.{_≡_};
-ghost use mathlib.Core.Bool.{true, false};
 ghost use mathlib.Core.List.{_∷_, [], _++_};
 ghost use Prim.Native.Nat.{ℕ, _+_, _-_, _*_, _≤_, _<_};
 ghost use lib.ListN.{length, getD, drop};
 ghost use Rattle.store.specs.Literals.{oppositeOf};
-ghost use Rattle.store.specs.Stores.{rowsOf};
+ghost use Rattle.store.specs.Stores.{maxVariables, maxRows, rowsOf};
 ghost use Rattle.lexleader.specs.Rows.{pairsOf};
 ghost use Rattle.lexleader.specs.Made.{rowClauses, auxiliaries, rowsClauses, allAuxiliaries};
+ghost use Rattle.lexleader.specs.Bounds.{maxAuxiliaries, maxMadeVariables};
 ghost use Rattle.lexleader.specs.Clause.{Holds, tableOf, pairAt, pairsAt, Next};
 ghost use Rattle.lexleader.specs.Places.{clausesAt, sixAt, auxiliaryAfter, pastLast, Stands};
 
@@ -19,14 +19,14 @@ pub struct Clause {
     pub literals: [u32; 4],
 }
 
-// A place among the clauses that a row adds: clause r of an auxiliary, the indices of its pair's variable and of the next one, and whether it is the row's
-// first auxiliary. Past the last clause the index is the row's length and the auxiliary the next row's first.
+// A place among the clauses that a row adds: clause r of auxiliary j, that auxiliary's number, and the indices of its pair's variable and of the next one.
+// Past the last clause the index is the row's length and the number that of the next row's first auxiliary.
 pub struct Place {
     pub index: usize,
     pub next: usize,
     pub auxiliary: u32,
+    pub j: usize,
     pub r: usize,
-    pub first: bool,
 }
 
 // What a row adds: its auxiliaries and its clauses.
@@ -37,7 +37,7 @@ pub struct Added {
 
 // How many variables a row moves. `own` is the code of the variable at i; the loop has no branch, so that compilers count several variables at once.
 pub fn pair_count(row: &[u16]) -> usize
-    requires { ⌜ length (now row) ≤ 512 ⌝ }
+    requires { ⌜ length (now row) ≤ maxVariables ⌝ }
     ensures { λ r. ⌜ r ≡ length (pairsOf (now (row .entry))) ⌝ }
 {
     let mut count: u16 = 0;
@@ -53,7 +53,7 @@ pub fn pair_count(row: &[u16]) -> usize
 
 // A row that moves k variables, k of 2 or more, adds k - 1 auxiliaries and six clauses for each.
 pub fn added_by(row: &[u16]) -> Added
-    requires { ⌜ length (now row) ≤ 512 ⌝ }
+    requires { ⌜ length (now row) ≤ maxVariables ⌝ }
     ensures { λ r. ⌜ (r .auxiliaries ≡ auxiliaries (now (row .entry))) × ((e : ℕ) → r .clauses ≡ length (rowClauses e (now (row .entry)))) ⌝ }
 {
     let k = pair_count(row);
@@ -71,8 +71,8 @@ pub fn added_by(row: &[u16]) -> Added
 
 // What all rows add.
 pub fn added_by_rows(images: &[u16], rows: usize, n: usize) -> Added
-    requires { ⌜ (n ≤ 512) × (rows ≤ 64) × (rows * n ≤ length (now images)) ⌝ }
-    ensures { λ r. ⌜ (r .auxiliaries ≡ allAuxiliaries (rowsOf n rows (now (images .entry)))) × ((e : ℕ) → r .clauses ≡ length (rowsClauses e (rowsOf n rows (now (images .entry))))) × (r .auxiliaries ≤ 64 * 512) × (r .clauses ≤ 6 * 64 * 512) ⌝ }
+    requires { ⌜ (n ≤ maxVariables) × (rows ≤ maxRows) × (rows * n ≤ length (now images)) ⌝ }
+    ensures { λ r. ⌜ (r .auxiliaries ≡ allAuxiliaries (rowsOf n rows (now (images .entry)))) × ((e : ℕ) → r .clauses ≡ length (rowsClauses e (rowsOf n rows (now (images .entry))))) × (r .auxiliaries ≤ maxAuxiliaries) × (r .clauses ≤ 6 * maxAuxiliaries) ⌝ }
 {
     let mut auxiliaries = 0;
     let mut clauses = 0;
@@ -93,7 +93,7 @@ pub fn added_by_rows(images: &[u16], rows: usize, n: usize) -> Added
 
 // Clause number q, from 0, of those that a row adds, its first auxiliary being e. Each auxiliary, j from 1, has six, r from 1 to 6.
 pub fn row_clause(row: &[u16], e: u32, q: usize) -> Clause
-    requires { ⌜ (length (now row) ≤ 512) × (e ≤ 40000) × (q < length (rowClauses e (now row))) ⌝ }
+    requires { ⌜ (length (now row) ≤ maxVariables) × (e + auxiliaries (now row) ≤ maxMadeVariables + 1) × (q < length (rowClauses e (now row))) ⌝ }
     ensures { λ r. ⌜ Holds r (getD (rowClauses e (now (row .entry))) q []) ⌝ }
 {
     let before = q / 6;
@@ -103,15 +103,15 @@ pub fn row_clause(row: &[u16], e: u32, q: usize) -> Clause
         index: i,
         next: next,
         auxiliary: e + before as u32,
+        j: before + 1,
         r: q % 6 + 1,
-        first: before == 0,
     };
     clause_at(row, place)
 }
 
 // The place of a row's first clause, its first auxiliary being e.
 pub fn first_place(row: &[u16], e: u32) -> Place
-    requires { ⌜ (length (now row) ≤ 512) × (e ≤ 40000) ⌝ }
+    requires { ⌜ (length (now row) ≤ maxVariables) × (e + auxiliaries (now row) ≤ maxMadeVariables + 1) ⌝ }
     ensures { λ r. ⌜ Stands (now (row .entry)) r × (clausesAt (now (row .entry)) r ≡ rowClauses e (now (row .entry))) × (auxiliaryAfter (now (row .entry)) r ≡ e + auxiliaries (now (row .entry))) ⌝ }
 {
     let index = next_moved(row, 0);
@@ -123,14 +123,14 @@ pub fn first_place(row: &[u16], e: u32) -> Place
         index: index,
         next: next,
         auxiliary: e,
+        j: 1,
         r: 1,
-        first: true,
     }
 }
 
 // The clause at a place. A row that moves one variable only, which no permutation does, has the table's first clause and no auxiliary.
 pub fn clause_at(row: &[u16], place: Place) -> Clause
-    requires { ⌜ (length (now row) ≤ 512) × Stands (now row) place × (place .index < length (now row)) ⌝ }
+    requires { ⌜ (length (now row) ≤ maxVariables) × Stands (now row) place × (place .index < length (now row)) ⌝ }
     ensures { λ r. ⌜ Holds r (getD (clausesAt (now (row .entry)) place) 0 []) ⌝ }
 {
     let i = place.index;
@@ -138,16 +138,16 @@ pub fn clause_at(row: &[u16], place: Place) -> Clause
     let x = own_code(i);
     let y = store::literal::wide(row[i]);
     if next == row.len() {
-        return table_clause(1, true, place.auxiliary, x, y, x, y);
+        return table_clause(1, 1, place.auxiliary, x, y, x, y);
     }
     let x2 = own_code(next);
     let y2 = store::literal::wide(row[next]);
-    table_clause(place.r, place.first, place.auxiliary, x, y, x2, y2)
+    table_clause(place.r, place.j, place.auxiliary, x, y, x2, y2)
 }
 
 // The place after one at which a clause stands.
 pub fn next_place(row: &[u16], place: Place) -> Place
-    requires { ⌜ (length (now row) ≤ 512) × Stands (now row) place × (place .index < length (now row)) ⌝ }
+    requires { ⌜ (length (now row) ≤ maxVariables) × Stands (now row) place × (place .index < length (now row)) ⌝ }
     ensures { λ r. ⌜ Stands (now (row .entry)) r × (clausesAt (now (row .entry)) place ≡ getD (clausesAt (now (row .entry)) place) 0 [] ∷ clausesAt (now (row .entry)) r) × (auxiliaryAfter (now (row .entry)) r ≡ auxiliaryAfter (now (row .entry)) place) ⌝ }
 {
     if place.next == row.len() {
@@ -158,8 +158,8 @@ pub fn next_place(row: &[u16], place: Place) -> Place
             index: place.index,
             next: place.next,
             auxiliary: place.auxiliary,
+            j: place.j,
             r: place.r + 1,
-            first: place.first,
         };
     }
     next_auxiliary(row, place)
@@ -167,7 +167,7 @@ pub fn next_place(row: &[u16], place: Place) -> Place
 
 // The place after the clauses of the auxiliary at one, whose pair is not the row's last.
 pub fn next_auxiliary(row: &[u16], place: Place) -> Place
-    requires { ⌜ (length (now row) ≤ 512) × Stands (now row) place × (place .index < length (now row)) × (place .next < length (now row)) ⌝ }
+    requires { ⌜ (length (now row) ≤ maxVariables) × Stands (now row) place × (place .index < length (now row)) × (place .next < length (now row)) ⌝ }
     ensures { λ r. ⌜ Stands (now (row .entry)) r × (clausesAt (now (row .entry)) place ≡ drop (place .r - 1) (sixAt (now (row .entry)) place) ++ clausesAt (now (row .entry)) r) × (auxiliaryAfter (now (row .entry)) r ≡ auxiliaryAfter (now (row .entry)) place) ⌝ }
 {
     let e = place.auxiliary + 1;
@@ -179,8 +179,8 @@ pub fn next_auxiliary(row: &[u16], place: Place) -> Place
         index: place.next,
         next: next,
         auxiliary: e,
+        j: place.j + 1,
         r: 1,
-        first: false,
     }
 }
 
@@ -192,14 +192,14 @@ fn no_place(row: &[u16], e: u32) -> Place
         index: row.len(),
         next: row.len(),
         auxiliary: e,
+        j: 1,
         r: 1,
-        first: false,
     }
 }
 
 // Clause number q, from 0, of those that all rows add.
 pub fn added_clause(images: &[u16], rows: usize, n: usize, q: usize) -> Clause
-    requires { ⌜ (n ≤ 512) × (rows ≤ 64) × (rows * n ≤ length (now images)) × (q < length (rowsClauses (n + 1) (rowsOf n rows (now images)))) ⌝ }
+    requires { ⌜ (n ≤ maxVariables) × (rows ≤ maxRows) × (rows * n ≤ length (now images)) × (q < length (rowsClauses (n + 1) (rowsOf n rows (now images)))) ⌝ }
     ensures { λ r. ⌜ Holds r (getD (rowsClauses (n + 1) (rowsOf n rows (now (images .entry)))) q []) ⌝ }
 {
     let mut e = n + 1;
@@ -218,11 +218,11 @@ pub fn added_clause(images: &[u16], rows: usize, n: usize, q: usize) -> Clause
     }
 }
 
-// Document 01's table: clause r of the auxiliary e, for the pair x, y and the next pair x2, y2. `first` says that e is the row's first auxiliary, as
-// it is for j = 1; otherwise the one before it is e - 1.
-fn table_clause(r: usize, first: bool, e: u32, x: u32, y: u32, x2: u32, y2: u32) -> Clause
-    requires { ⌜ (1 ≤ r) × (r ≤ 6) × (e ≤ 80000) × (x ≤ 80000) × (y ≤ 80000) × (x2 ≤ 80000) ⌝ }
-    ensures { λ c. ⌜ Holds c (getD (tableOf first e (record { x = x; y = y }) (record { x = x2; y = y2 })) (r - 1) []) ⌝ }
+// Document 01's table: clause r of the auxiliary ej, whose number is e, for the pair x, y and the next pair x2, y2. Where j is not 1, e(j-1) has the number
+// e - 1.
+fn table_clause(r: usize, j: usize, e: u32, x: u32, y: u32, x2: u32, y2: u32) -> Clause
+    requires { ⌜ (1 ≤ r) × (r ≤ 6) × (e ≤ maxMadeVariables + 1) ⌝ }
+    ensures { λ c. ⌜ Holds c (getD (tableOf j e (record { x = x; y = y }) (record { x = x2; y = y2 })) (r - 1) []) ⌝ }
 {
     let ej = 2 * e;
     let before = 2 * one_less(e);
@@ -230,29 +230,20 @@ fn table_clause(r: usize, first: bool, e: u32, x: u32, y: u32, x2: u32, y2: u32)
     let not_x = opposite(x);
     let not_y = opposite(y);
     match r {
-        1 => {
-            if first {
-                two(not_x, y)
-            } else {
-                two(not_ej, before)
-            }
-        }
+        1 => match j {
+            1 => two(not_x, y),
+            _ => two(not_ej, before),
+        },
         2 => three(not_ej, not_x, y),
         3 => three(not_ej, x, not_y),
-        4 => {
-            if first {
-                three(ej, x, y)
-            } else {
-                four(ej, opposite(before), x, y)
-            }
-        }
-        5 => {
-            if first {
-                three(ej, not_x, not_y)
-            } else {
-                four(ej, opposite(before), not_x, not_y)
-            }
-        }
+        4 => match j {
+            1 => three(ej, x, y),
+            _ => four(ej, opposite(before), x, y),
+        },
+        5 => match j {
+            1 => three(ej, not_x, not_y),
+            _ => four(ej, opposite(before), not_x, not_y),
+        },
         _ => three(not_ej, opposite(x2), y2),
     }
 }
@@ -296,7 +287,6 @@ fn four(a: u32, b: u32, c: u32, d: u32) -> Clause
 
 // The opposite literal.
 fn opposite(code: u32) -> u32
-    requires { ⌜ code ≤ 1000000 ⌝ }
     ensures { λ r. ⌜ r ≡ oppositeOf code ⌝ }
 {
     if code % 2 == 1 {
@@ -307,7 +297,7 @@ fn opposite(code: u32) -> u32
 
 // The index of moved variable number j, from 1.
 fn moved_at(row: &[u16], j: usize) -> usize
-    requires { ⌜ (length (now row) ≤ 512) × (1 ≤ j) × (j ≤ length (pairsOf (now row))) ⌝ }
+    requires { ⌜ (length (now row) ≤ maxVariables) × (1 ≤ j) × (j ≤ length (pairsOf (now row))) ⌝ }
     ensures { λ r. ⌜ (r < length (now (row .entry))) × (drop (j - 1) (pairsOf (now (row .entry))) ≡ pairsAt r (now (row .entry))) × (pairsAt r (now (row .entry)) ≡ pairAt (now (row .entry)) r ∷ pairsAt (r + 1) (now (row .entry))) ⌝ }
 {
     let mut i = next_moved(row, 0);
@@ -321,7 +311,7 @@ fn moved_at(row: &[u16], j: usize) -> usize
 
 // The index of the first moved variable at or after an index; the row's length where there is none.
 pub fn next_moved(row: &[u16], from: usize) -> usize
-    requires { ⌜ (length (now row) ≤ 512) × (from ≤ length (now row)) ⌝ }
+    requires { ⌜ (length (now row) ≤ maxVariables) × (from ≤ length (now row)) ⌝ }
     ensures { λ r. ⌜ Next (now (row .entry)) from r ⌝ }
 {
     let mut i = from;
@@ -336,7 +326,7 @@ pub fn next_moved(row: &[u16], from: usize) -> usize
 
 // The code of the variable at an index of a row.
 pub fn own_code(i: usize) -> u32
-    requires { ⌜ i ≤ 512 ⌝ }
+    requires { ⌜ i ≤ maxVariables ⌝ }
     ensures { λ r. ⌜ r ≡ 2 * (i + 1) ⌝ }
 {
     2 * (i as u32 + 1)

@@ -1,14 +1,20 @@
 -- Filling a buffer: one law for a line that fits, one for a line that does not, and one for nothing left. Assumes nothing.
 use mathlib.Core.Path.{_≡_, refl, sym, ap, _∙_}
+use mathlib.Core.Bool.{true}
 use mathlib.Core.List.{List, [], _∷_}
 use Prim.Native.Nat.{ℕ, _+_, _≤_, _<_}
 use native.Mathlib.Omega.{arith}
 use borrow.Author.Tests.{le-leb, lt-leb}
-use lib.ListN.{length}
-use Rattle.store.specs.Stores.{Store}
+use lib.ListN.{length, getD, List·getD-append}
+use Rattle.store.specs.Stores.{Store, plainOf, wellFormed}
+use Rattle.symmetry.proofs.SetLaws.{at-mem}
+use Rattle.lexleader.specs.Made.{made}
 use Rattle.render.specs.Text.{clauseLine, writtenAt}
 use Rattle.render.proofs.LineLaws.{line-short, line-some}
 use Rattle.render.proofs.Writing.{length-written}
+use Rattle.emit.specs.Emit.{madeOf, clausesOf}
+use Rattle.emit.proofs.MadeLaws.{plain-length, addedOf, clauses-are}
+use Rattle.emit.proofs.Bounds.{line-longest}
 use Rattle.cursor.specs.Cursors.{clausesLeft, Points}
 use Rattle.cursor.specs.declared.Cursor.{Cursor}
 use Rattle.pages.specs.Pages.{fillFrom, longest, Goes}
@@ -22,6 +28,22 @@ module _ (clause : List ℕ) (clauses : List (List ℕ)) (at : ℕ) (out : List 
   unfolding fillFrom
   fill-full h = rw (lt-leb (at + length (clauseLine clause)) (length out) h)
 
+-- ---- no line is too long for an empty page
+
+-- a plain clause is one of the made formula
+pub plain-short : (s : Store) → wellFormed s ≡ true → (i : ℕ) → i < s .counts .clauses → length (clauseLine (getD (plainOf s) i [])) ≤ longest
+unfolding madeOf made clausesOf
+plain-short s formed i h =
+    let same = List·getD-append (plainOf s) (addedOf s formed) [] i (omega (arith, plain-length s formed)) in
+    let line = line-longest s formed _ (at-mem [] (madeOf s) i (omega (arith, clauses-are s formed))) in
+    rw same at line
+
+-- one that the rows add has four literals at most, so it is short whatever they are
+pub added-short : (clause : List ℕ) → length clause ≤ 4 → length (clauseLine clause) ≤ longest
+added-short clause few = omega (arith, line-short clause)
+
+-- ---- one step
+
 module _ (s : Store) (c : Cursor) (p : Points (s .counts) (s .images) c) (at : ℕ) (out : List ℕ) (inside : at ≤ length out) where
   -- nothing is added
   stays : fillFrom at (clausesLeft s c) out ≡ record { buffer = out; end = at; left = clausesLeft s c } → (at + longest ≤ length out → clausesLeft s c ≡ []) → Goes s c at out c at out
@@ -32,8 +54,8 @@ module _ (s : Store) (c : Cursor) (p : Points (s .counts) (s .images) c) (at : �
   over none = stays (rw none) (λ _. none)
 
   module _ (clause : List ℕ) (rest : List (List ℕ)) (is : clausesLeft s c ≡ clause ∷ rest) where
-    pub full : length clause ≤ 12288 → length out < at + length (clauseLine clause) → Goes s c at out c at out
-    full few h = stays (rw is (fill-full clause rest at out h)) (λ room. absurd (omega (arith, line-short clause)))
+    pub full : length (clauseLine clause) ≤ longest → length out < at + length (clauseLine clause) → Goes s c at out c at out
+    full short h = stays (rw is (fill-full clause rest at out h)) (λ room. absurd (omega arith))
 
     pub adds : at + length (clauseLine clause) ≤ length out → (d : Cursor) → Points (s .counts) (s .images) d → clausesLeft s d ≡ rest
         → (to : ℕ) (after : List ℕ) → to ≡ at + length (clauseLine clause) → after ≡ writtenAt at (clauseLine clause) out → Goes s c at out d to after

@@ -24,9 +24,9 @@ fillFrom at (clause ∷ clauses) out =
     (fillFrom (at + length (clauseLine clause)) clauses (writtenAt at (clauseLine clause) out))
     (record { buffer = out; end = at; left = clause ∷ clauses })
 
--- no line is longer: a literal and the space after it have at most 22 bytes
+-- no line of the made formula is longer: a literal and the space after it have at most 7 bytes
 abbrev pub longest : ℕ
-longest = 22 * maxLiterals + 2
+longest = 7 * maxLiterals + 2
 
 -- One step of filling, from the cursor c and the place `at` to d and `to`: a line is added, or nothing where none is left or the next does not fit.
 pub record Goes (s : Store) (c : Cursor) (at : ℕ) (out : List ℕ) (d : Cursor) (to : ℕ) (after : List ℕ) : Type 0 where

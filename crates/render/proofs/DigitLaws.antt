@@ -8,7 +8,7 @@ use native.Mathlib.Omega.{arith}
 use borrow.Author.Tests.{lt-ltb, le-ltb}
 use lib.ListN.{length, set, length-append, length-set}
 use Rattle.lists.proofs.Cases.{lt-or-le}
-use Rattle.render.specs.Text.{decimalIn, decimal, writtenAt}
+use Rattle.render.specs.Text.{decimalIn, maxDigits, decimal, writtenAt}
 use Rattle.render.proofs.Writing.{written-last, stores}
 
 module _ (f x : ℕ) where
@@ -36,15 +36,15 @@ in-enough (suc f) x h =
     (lt-or-le x 10)
 
 -- the last digit, and those before it
-decimal-one : (x : ℕ) → x < 10 → decimal x ≡ (x + 48) ∷ []
+pub decimal-one : (x : ℕ) → x < 10 → decimal x ≡ (x + 48) ∷ []
 unfolding decimal
 decimal-one x h = in-one 19 x h
 
-decimal-more : (x : ℕ) → x < 2 ^ 64 → 10 ≤ x → decimal x ≡ decimal (x / 10) ++ ((x % 10 + 48) ∷ [])
+pub decimal-more : (x : ℕ) → x < 2 ^ 64 → 10 ≤ x → decimal x ≡ decimal (x / 10) ++ ((x % 10 + 48) ∷ [])
 unfolding decimal
 decimal-more x b h = in-more 19 x h ∙ ap (λ (ds : List ℕ). ds ++ ((x % 10 + 48) ∷ [])) (sym (in-enough 18 (x / 10) (omega arith)))
 
--- at least one, and at most twenty
+-- at least one, and at most as many as are allowed
 some-in : (f x : ℕ) → 0 < length (decimalIn (suc f) x)
 some-in f x = length-in f x (λ l e. omega arith) (λ l e. omega arith)
 
@@ -57,9 +57,20 @@ pub digits-some : (x : ℕ) → 0 < length (decimal x)
 unfolding decimal
 digits-some x = some-in 19 x
 
-pub digits-most : (x : ℕ) → length (decimal x) ≤ 20
+pub digits-most : (x : ℕ) → length (decimal x) ≤ maxDigits
 unfolding decimal
-digits-most x = most-in 20 x
+digits-most x = most-in maxDigits x
+
+-- a number below 10 ^ (k + 1) has at most k + 1
+below-in : (k f x : ℕ) → x < 10 ^ suc k → length (decimalIn f x) ≤ suc k
+unfolding decimalIn
+below-in k zero x h = omega arith
+below-in zero (suc f) x h = omega (arith, ap length (in-one f x (omega arith)))
+below-in (suc k) (suc f) x h = length-in f x (λ l e. omega arith) (λ l e. omega (arith, below-in k f (x / 10) (omega (arith, pow-suc 10 (suc k)))))
+
+pub digits-below : (k x : ℕ) → x < 10 ^ suc k → length (decimal x) ≤ suc k
+unfolding decimal
+digits-below k x h = below-in k maxDigits x h
 
 -- Counting the digits of x: n so far, with those of y for the last one.
 pub record Counted (x n y : ℕ) : Type 0 where

@@ -1,4 +1,5 @@
 pub mod Writing
 pub mod DigitLaws
 pub mod LineLaws
+pub mod AsRead
 pub mod Examples

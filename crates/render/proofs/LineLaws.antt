@@ -9,8 +9,9 @@ use borrow.Author.Tests.{eq-eqb, ne-eqb}
 use lib.ListN.{length, getD, drop, length-append, drop-of-length-le}
 use Rattle.lists.proofs.Cases.{eq-or-ne}
 use Rattle.lists.proofs.Steps.{drop-step}
-use Rattle.render.specs.Text.{decimal, literalText, clauseLine, twoNumbers, headerLine, refusalLine, writtenAt}
-use Rattle.render.proofs.DigitLaws.{digits-most}
+use Rattle.store.specs.Stores.{maxLiterals}
+use Rattle.render.specs.Text.{maxDigits, decimal, literalText, clauseLine, twoNumbers, headerLine, refusalLine, writtenAt}
+use Rattle.render.proofs.DigitLaws.{digits-most, digits-below}
 use Rattle.render.proofs.Writing.{Wrote, length-written, written-written}
 
 -- ---- a literal
@@ -40,6 +41,10 @@ length-header variables clauses = omega (arith, length-two variables clauses)
 pub length-refusal : (number place : ℕ) → length (refusalLine number place) ≡ length (decimal number) + length (decimal place) + 10
 unfolding refusalLine
 length-refusal number place = omega (arith, length-two number place)
+
+-- fewer than 100,000 variables and 1,000,000 clauses
+pub header-within : (variables clauses : ℕ) → variables < 10 ^ 5 → clauses < 10 ^ 6 → length (headerLine variables clauses) ≤ 19
+header-within variables clauses few many = omega (arith, length-header variables clauses, digits-below 4 variables few, digits-below 5 clauses many)
 
 -- ---- a clause's line, from the literal i on
 
@@ -79,17 +84,21 @@ unfolding clauseLine
 line-some [] = omega arith
 line-some (code ∷ clause) = omega (arith, length-append (literalText code) (32 ∷ clauseLine clause))
 
--- a literal has at most 21 bytes
-pub line-short : (clause : List ℕ) → length (clauseLine clause) ≤ 22 * length clause + 2
-line-short clause = line-most 21 clause (λ k _. omega (arith, length-text (getD clause k 0), digits-most (getD clause k 0 / 2)))
+-- a literal of any variable has a sign and the digits of a number
+pub line-short : (clause : List ℕ) → length (clauseLine clause) ≤ (maxDigits + 2) * length clause + 2
+line-short clause = line-most (maxDigits + 1) clause (λ k _. omega (arith, length-text (getD clause k 0), digits-most (getD clause k 0 / 2)))
+
+-- one of a variable below 100,000 has at most 6 bytes
+pub line-within : (clause : List ℕ) → ((i : ℕ) → i < length clause → getD clause i 0 / 2 < 10 ^ 5) → length (clauseLine clause) ≤ 7 * length clause + 2
+line-within clause f = line-most 6 clause (λ i h. omega (arith, length-text (getD clause i 0), digits-below 4 (getD clause i 0 / 2) (f i h)))
 
 -- ---- a clause's line measured: n bytes for the literals before i and the line's end
 
 pub record Measured (clause : List ℕ) (i n : ℕ) : Type 0 where
-  pub few : length clause ≤ 12288
+  pub few : length clause ≤ maxLiterals
   pub sum : n + length (clauseLine (drop i clause)) ≡ length (clauseLine clause) + 2
 
-pub measured-start : (clause : List ℕ) → length clause ≤ 12288 → Measured clause 0 2
+pub measured-start : (clause : List ℕ) → length clause ≤ maxLiterals → Measured clause 0 2
 measured-start clause h = record { few = h; sum = omega arith }
 
 module _ {clause : List ℕ} {i n : ℕ} (g : Measured clause i n) where

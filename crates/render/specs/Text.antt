@@ -12,8 +12,11 @@ decimalIn zero x = []
 decimalIn (suc f) x = cond (ltb x 10) ((x + 48) ∷ []) (decimalIn f (x / 10) ++ ((x % 10 + 48) ∷ []))
 
 -- the decimal digits of a number below 10^20, so of any number of 64 bits
+abbrev pub maxDigits : ℕ
+maxDigits = 20
+
 unfoldable pub decimal : ℕ → List ℕ
-decimal x = decimalIn 20 x
+decimal x = decimalIn maxDigits x
 
 -- a literal: `-` before a negative one, and its variable's number
 unfoldable pub literalText : ℕ → List ℕ

@@ -4,6 +4,7 @@ ghost use mathlib.Core.Path.{_≡_};
 ghost use mathlib.Core.List.{[], _∷_, _++_};
 ghost use Prim.Native.Nat.{_+_, _≤_};
 ghost use lib.ListN.{length};
+ghost use Rattle.store.specs.Stores.{maxLiterals};
 ghost use Rattle.render.specs.Text.{decimal, literalText, clauseLine, twoNumbers, headerLine, refusalLine, writtenAt};
 
 // The header.
@@ -47,7 +48,7 @@ fn put_numbers(out: &mut [u8], at: usize, a: u64, b: u64) -> usize
 
 // A clause of the store.
 pub fn stored_length(clause: &[u16]) -> usize
-    requires { ⌜ length (now clause) ≤ 12288 ⌝ }
+    requires { ⌜ length (now clause) ≤ maxLiterals ⌝ }
     ensures { λ r. ⌜ r ≡ length (clauseLine (now (clause .entry))) ⌝ }
 {
     let mut length = 2;
@@ -75,7 +76,7 @@ pub fn put_stored(out: &mut [u8], at: usize, clause: &[u16]) -> usize
 
 // A clause of any codes, as the made formula adds them.
 pub fn clause_length(clause: &[u32]) -> usize
-    requires { ⌜ length (now clause) ≤ 12288 ⌝ }
+    requires { ⌜ length (now clause) ≤ maxLiterals ⌝ }
     ensures { λ r. ⌜ r ≡ length (clauseLine (now (clause .entry))) ⌝ }
 {
     let mut length = 2;

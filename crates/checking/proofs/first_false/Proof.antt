@@ -16,9 +16,10 @@ use Rattle.store.specs.Stores.{Store, lent}
 use Rattle.lexleader.specs.Places.{sixAt}
 use Rattle.lexleader.proofs.Places.{six-length}
 use Rattle.emit.specs.Emit.{variablesOf, clausesOf}
+use Rattle.emit.proofs.Bounds.{store-within}
 use Rattle.cursor.specs.Cursors.{rowAt, clausesLeft, Points}
 use Rattle.checking.specs.Checking.{falseFrom, firstFalse}
-use Rattle.checking.proofs.CheckLaws.{none-false, found, passed, passed-all, store-within, rest-within}
+use Rattle.checking.proofs.CheckLaws.{none-false, found, passed, passed-all, rest-within}
 use Rattle.checking.proofs.first_false.Statement.{statement}
 use Rattle.checking.proofs.first_false.Tie as tie
 

@@ -3,7 +3,7 @@ use mathlib.Core.Path.{_≡_, sym, _∙_}
 use mathlib.Core.Bool.{true}
 use Prim.Native.Nat.{ℕ, _-_, _*_}
 use native.Mathlib.Omega.{arith}
-use borrow.Author.Tests.{not-true, not-false}
+use borrow.Author.Tests.{eq-eqb, ne-eqb, not-true, not-false}
 use Rattle.lists.specs.Tests.{allOf}
 use Rattle.packed.specs.Words.{bitsOf}
 use Rattle.packed.specs.Order.{valueOf}
@@ -19,18 +19,18 @@ use Rattle.checking.proofs.is_due.Tie as tie
 
 pair-agrees-requires : tie.Need-pair-agrees-requires
 pair-agrees-requires c κs =
-    let s = c .before .before .before in
+    let s = c .before .before .before .before in
     (s .pre .1, omega (arith, s .pre .0, s .pre .1), pair-within _ (s .args .row .now) (s .args .place) (s .pre .3))
 
 returns : tie.Need-returns
 unfolding due
 returns c n within =
-    let s = c .before .before .before .before in
-    rw (c .before .if1 .taken) (c .pair-agrees .ensures n (pair-within n (s .args .row .now) (s .args .place) within))
+    let s = c .before .before .before .before .before in
+    rw (eq-eqb _ 1 (c .before .if1 .taken)) (c .pair-agrees .ensures n (pair-within n (s .args .row .now) (s .args .place) within))
 
 sub-literal-value : tie.Need-sub-literal-value
 sub-literal-value c =
-    let s = c .before .before .before .before in
+    let s = c .before .before .before .before .before in
     omega (arith, literal-low _ _ (own-within _ (s .args .row .now) (s .args .place) (s .pre .3)))
 
 mul-literal-value : tie.Need-mul-literal-value
@@ -38,25 +38,25 @@ mul-literal-value c = search needs
 
 literal-value-requires : tie.Need-literal-value-requires
 literal-value-requires c κs =
-    let s = c .before .before .before .before in
+    let s = c .before .before .before .before .before in
     let e = before-within _ (s .args .row .now) (s .args .place) (s .pre .3) (c .before .if1 .left) in
     (literal-low _ _ e, literal-high _ _ e)
 
 -- the value of the auxiliary before
-before : (c : tie.After-literal-value) (n : ℕ) → let a = c .before .before .before .before .before .args in
+before : (c : tie.After-literal-value) (n : ℕ) → let a = c .before .before .before .before .before .before .args in
     allOf (allOf (isLiteral n)) (sixAt (a .row .now) (a .place)) ≡ true → c .literal-value .result ≡ literalValue (valueOf (bitsOf n (a .a .now))) (2 * (a .place .auxiliary - 1))
 before c n within =
     let i = c .before .before in
-    let a = i .before .before .before .args in
+    let a = i .before .before .before .before .args in
     c .literal-value .ensures n (literal-high _ _ (before-within n (a .row .now) (a .place) within (i .if1 .left)))
 
 returns-2 : tie.Need-returns-2
 unfolding due
-returns-2 c n within = rw (c .before .before .before .if1 .left, sym (before (c .before) n within) ∙ not-true _ (c .if2 .taken))
+returns-2 c n within = rw (ne-eqb _ 1 (c .before .before .before .if1 .left), sym (before (c .before) n within) ∙ not-true _ (c .if2 .taken))
 
 pair-agrees-requires-2 : tie.Need-pair-agrees-requires-2
 pair-agrees-requires-2 c κs =
-    let s = c .before .before .before .before .before .before in
+    let s = c .before .before .before .before .before .before .before in
     (s .pre .1, omega (arith, s .pre .0, s .pre .1), pair-within _ (s .args .row .now) (s .args .place) (s .pre .3))
 
 returns-3 : tie.Need-returns-3
@@ -64,8 +64,8 @@ unfolding due
 returns-3 c n within =
     let l = c .before .before in
     let i = l .before .before in
-    let a = i .before .before .before .args in
-    rw (i .if1 .left, sym (before l n within) ∙ not-false _ (c .before .if2 .left)) (c .pair-agrees2 .ensures n (pair-within n (a .row .now) (a .place) within))
+    let a = i .before .before .before .before .args in
+    rw (ne-eqb _ 1 (i .if1 .left), sym (before l n within) ∙ not-false _ (c .before .if2 .left)) (c .pair-agrees2 .ensures n (pair-within n (a .row .now) (a .place) within))
 
 pub is-due-spec : {M : Type 1} → statement M
 is-due-spec =

@@ -18,7 +18,7 @@ use Rattle.lexleader.specs.Models.{formulaHolds}
 use Rattle.lexleader.specs.Places.{sixAt}
 use Rattle.lexleader.proofs.Within.{formula-more}
 use Rattle.lexleader.proofs.Left.{part-is, room, row-size}
-use Rattle.lexleader.proofs.Places.{few-auxiliaries}
+use Rattle.lexleader.proofs.Places.{auxiliary-most}
 use Rattle.emit.specs.Emit.{variablesOf}
 use Rattle.cursor.specs.Cursors.{rowAt, AtAuxiliary}
 use Rattle.cursor.proofs.RowLaws.{row-part, here-six}
@@ -90,7 +90,7 @@ table-holds-requires c κs =
       omega (arith, f .variables-fit),
       omega (arith, s .pre .1 .there row),
       omega (arith, at i .more),
-      few-auxiliaries _ (a .at .place) stands,
+      auxiliary-most _ (a .at .place) stands (omega (arith, s .pre .1 .there row)) (omega (arith, at i .more)),
       formula-more (variablesOf (S s)) (64 * length (a .a .now)) (form-room (variablesOf (S s)) (a .a .now) (s .pre .2)) _ (within i),
     )
 

@@ -3,7 +3,8 @@ use mathlib.Core.Path.{_≡_, sym, ap₂, _∙_}
 use mathlib.Core.Bool.{Bool, true, not, cond, _&&_, _||_}
 use Prim.Native.Nat.{ℕ}
 use native.Mathlib.Omega.{arith}
-use borrow.Author.Tests.{not-true, not-false}
+use borrow.Author.Tests.{eq-eqb, ne-eqb, not-true, not-false}
+use lib.Dec.{eqb}
 use Rattle.lists.specs.Tests.{allOf}
 use Rattle.packed.specs.Words.{bitsOf}
 use Rattle.packed.specs.Order.{valueOf}
@@ -35,7 +36,7 @@ says : (c : tie.After-literal-value) (n : ℕ) → let a = c .before .before .be
     allOf (allOf (isLiteral n)) (sixAt (a .row .now) (a .place)) ≡ true
     → formulaHolds v (sixAt (a .row .now) (a .place))
     ≡ cond (c .literal-value .result) (c .before .before .is-due .result && ordered v (pairAt (a .row .now) (a .place .next)))
-    (not (c .before .before .is-due .result) && (not (a .place .first) || ordered v (pairAt (a .row .now) (a .place .index))))
+    (not (c .before .before .is-due .result) && (not (eqb (a .place .j) 1) || ordered v (pairAt (a .row .now) (a .place .index))))
 says c n within =
     let d = c .before .before in
     let a = d .before .before .before .args in
@@ -43,7 +44,7 @@ says c n within =
     let row = a .row .now in
     let p = a .place in
     six-say v row p
-    ∙ ap₂ (λ (e due : Bool). cond e (due && ordered v (pairAt row (p .next))) (not due && (not (p .first) || ordered v (pairAt row (p .index)))))
+    ∙ ap₂ (λ (e due : Bool). cond e (due && ordered v (pairAt row (p .next))) (not due && (not (eqb (p .j) 1) || ordered v (pairAt row (p .index)))))
     (sym (c .literal-value .ensures n (literal-high _ _ (own-within n row p within))))
     (sym (d .is-due .ensures n within))
 
@@ -72,23 +73,23 @@ returns-3 c n within =
 
 is-ordered-requires-2 : tie.Need-is-ordered-requires-2
 is-ordered-requires-2 c κs =
-    let s = c .before .before .before .before .before .before .before .before in
+    let s = c .before .before .before .before .before .before .before .before .before in
     (s .pre .1, omega (arith, s .pre .0, s .pre .1), pair-within _ (s .args .row .now) (s .args .place) (s .pre .4))
 
 returns-4 : tie.Need-returns-4
 returns-4 c n within =
-    let k = c .before .before in
+    let k = c .before .before .before in
     let i = k .before in
     let l = i .before in
     let a = l .before .before .before .before .before .args in
     c .is-ordered2 .ensures n (pair-within n (a .row .now) (a .place) within)
-    ∙ sym (says l n within ∙ rw (i .if1 .left, k .if3 .left, c .before .if4 .taken))
+    ∙ sym (says l n within ∙ rw (i .if1 .left, k .if3 .left, eq-eqb _ 1 (c .before .if4 .taken)))
 
 returns-5 : tie.Need-returns-5
 returns-5 c n within =
-    let k = c .before in
+    let k = c .before .before in
     let i = k .before in
-    sym (says (i .before) n within ∙ rw (i .if1 .left, k .if3 .left, c .if4 .left))
+    sym (says (i .before) n within ∙ rw (i .if1 .left, k .if3 .left, ne-eqb _ 1 (c .if4 .left)))
 
 pub table-holds-spec : {M : Type 1} → statement M
 table-holds-spec =

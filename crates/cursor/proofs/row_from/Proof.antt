@@ -4,9 +4,11 @@ use mathlib.Core.Path.{_≡_, refl, sym, _∙_}
 use mathlib.Core.List.{List}
 use Prim.Native.Nat.{ℕ, _+_, _-_, _*_, _≤_}
 use native.Mathlib.Omega.{arith}
-use lib.ListN.{length, length-take, length-drop}
+use lib.ListN.{length}
 use Rattle.lexleader.specs.Made.{rowsClauses}
-use Rattle.lexleader.proofs.Left.{room}
+use Rattle.lexleader.specs.Bounds.{maxBefore}
+use Rattle.lexleader.proofs.Bounds.{auxiliaries-most}
+use Rattle.lexleader.proofs.Left.{part-is, room, row-size}
 use Rattle.cursor.specs.Cursors.{rowAt, rowsLeft}
 use Rattle.cursor.proofs.RowLaws.{First, row-part, none-added, place-points, place-past, place-few, first-here, first-few}
 use borrow.Author.Needs.{needs}
@@ -15,7 +17,7 @@ use Rattle.cursor.proofs.row_from.Tie as tie
 
 abbrev Inv-loop : tie.InvT-loop
 Inv-loop counts images plain row e n first₀ r₀ first r =
-    (row ≤ r) × (r ≤ counts .rows) × (first ≤ 513 + 512 * r) × (n ≡ counts .variables) × (rowsClauses e (rowsLeft counts images row) ≡ rowsClauses first (rowsLeft counts images r))
+    (row ≤ r) × (r ≤ counts .rows) × (first ≤ maxBefore r + 1) × (n ≡ counts .variables) × (rowsClauses e (rowsLeft counts images row) ≡ rowsClauses first (rowsLeft counts images r))
 
 abbrev μ-loop : tie.MeasureT-loop
 μ-loop counts images plain row e n first₀ r₀ first r = counts .rows - r
@@ -58,7 +60,13 @@ part-first-place-end : tie.Need-part-first-place-end Inv-loop μ-loop
 part-first-place-end c = omega (arith, fits c)
 
 first-place-requires : tie.Need-first-place-requires Inv-loop μ-loop
-first-place-requires c κs = let l = c .before .before .before in (simp (length-take, length-drop) (omega (arith, fits (c .before))), omega arith)
+first-place-requires c κs =
+    let l = c .before .before .before in
+    let s = l .before .before in
+    let a = s .args in
+    let size = row-size (a .counts .variables) (a .counts .rows) (a .images .now) (s .pre .2) (l .loop .r) (search needs) in
+    rw (part-is (a .counts .variables) (l .loop .r) (a .images .now))
+    (omega arith, omega (arith, auxiliaries-most (rowAt (a .counts) (a .images .now) (l .loop .r))))
 
 returns : tie.Need-returns Inv-loop μ-loop
 returns c =

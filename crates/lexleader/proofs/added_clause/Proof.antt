@@ -6,6 +6,7 @@ use mathlib.Core.List.{List, []}
 use lib.ListN.{length, getD}
 use Rattle.store.proofs.Formed.{rowAt}
 use Rattle.lexleader.specs.Made.{auxiliaries, rowClauses}
+use Rattle.lexleader.proofs.Bounds.{auxiliaries-most}
 use Rattle.lexleader.proofs.Left.{Adds, part-is, part-adds, room, row-size, Sought, sought-first, sought-within, sought-here, sought-later}
 use native.Mathlib.Omega.{arith}
 use Rattle.lexleader.proofs.Table.{holds-same}
@@ -96,7 +97,7 @@ row-clause-requires c κs =
     let there = within l .0 in
     let size = row-size (a .n) (a .rows) (a .images .now) (s .pre .2) (l .loop .r) there in
     rw (part-is (a .n) (l .loop .r) (a .images .now))
-    (omega arith, omega arith, omega (arith, tells b .1 (l .loop .e)))
+    (omega arith, omega (arith, l .loop .inv .low, auxiliaries-most (rowAt (a .n) (l .loop .r) (a .images .now))), omega (arith, tells b .1 (l .loop .e)))
 
 returns : tie.Need-returns Inv-loop μ-loop
 returns c =

@@ -1,6 +1,5 @@
 -- `lexleader::clause_at` meets its contract: the table has the clause. Assumes nothing.
 use mathlib.Core.Path.{refl, sym, _∙_}
-use mathlib.Core.Bool.{true}
 use native.Mathlib.Omega.{arith}
 use Rattle.lexleader.specs.Clause.{pairAt}
 use Rattle.lexleader.proofs.Table.{holds-same, same-table}
@@ -25,7 +24,7 @@ table-clause-requires : tie.Need-table-clause-requires
 table-clause-requires c κs =
     let s = c .before .before .before .before .before in
     let few = few-auxiliaries (s .args .row .now) (s .args .place) (s .pre .1) in
-    (omega arith, omega arith, few, omega arith, omega arith, omega arith)
+    (omega arith, omega arith, few)
 
 returns : tie.Need-returns
 returns c =
@@ -35,7 +34,7 @@ returns c =
     let row = s .args .row .now in
     let p = s .args .place in
     holds-same (c .table-clause .ensures)
-    (same-table true {e = p .auxiliary} {k = 0} refl refl (o .own-code .ensures) (w .wide .ensures .0) (o .own-code .ensures) (w .wide .ensures .0)
+    (same-table 1 {e = p .auxiliary} {k = 0} refl refl (o .own-code .ensures) (w .wide .ensures .0) (o .own-code .ensures) (w .wide .ensures .0)
     ∙ sym (at-one row p (s .pre .1) (s .pre .2) (omega arith) (pairAt row (p .index))))
 
 own-code-requires-2 : tie.Need-own-code-requires-2
@@ -54,8 +53,7 @@ table-clause-requires-2 : tie.Need-table-clause-requires-2
 table-clause-requires-2 c κs =
     let s = c .before .before .before .before .before .before .before .before in
     let few = few-auxiliaries (s .args .row .now) (s .args .place) (s .pre .1) in
-    let next = s .pre .1 .then (s .pre .2) .within in
-    (s .pre .1 .low, s .pre .1 .high, few, omega (arith, next), omega (arith, next), omega (arith, next))
+    (s .pre .1 .low, s .pre .1 .high, few)
 
 returns-2 : tie.Need-returns-2
 returns-2 c =
@@ -68,7 +66,7 @@ returns-2 c =
     let p = s .args .place in
     let more = s .pre .1 .then (s .pre .2) .within in
     holds-same (c .table-clause2 .ensures)
-    (same-table (p .first) {e = p .auxiliary} refl refl (o .own-code .ensures) (w .wide .ensures .0) (o2 .own-code2 .ensures) (w2 .wide2 .ensures .0)
+    (same-table (p .j) {e = p .auxiliary} refl refl (o .own-code .ensures) (w .wide .ensures .0) (o2 .own-code2 .ensures) (w2 .wide2 .ensures .0)
     ∙ sym (at-two row p (s .pre .1) (s .pre .2) (omega arith)))
 
 pub clause-at-spec : {M : Type 1} → statement M

@@ -1,8 +1,7 @@
 -- `lexleader::first_place` meets its contract: what is left at a row's first moved variable is all of the row's. Assumes nothing.
 use mathlib.Core.Path.{refl, _∙_}
-use mathlib.Core.Bool.{true}
 use native.Mathlib.Omega.{arith}
-use Rattle.lexleader.proofs.Places.{first-rest, first-none, first-few, at-last, starts, start-clauses, start-after}
+use Rattle.lexleader.proofs.Places.{first-rest, first-none, at-last, starts, start-clauses, start-after}
 use borrow.Author.Needs.{needs}
 use Rattle.lexleader.proofs.first_place.Statement.{statement}
 use Rattle.lexleader.proofs.first_place.Tie as tie
@@ -18,7 +17,7 @@ returns c =
     let n = c .before .before in
     let a = n .before .before .args in
     let none = first-none (a .row .now) (a .e) (n .next-moved .result) (n .next-moved .ensures) (omega arith) in
-    at-last (a .row .now) (a .e) (c .no-place .result) (c .no-place .ensures) (omega arith) (none .0) (none .1)
+    at-last (a .row .now) (a .e) (c .no-place .result) (c .no-place .ensures) (omega (arith, none .1)) (none .0) (none .1)
 
 add-next-moved : tie.Need-add-next-moved
 add-next-moved c = search needs
@@ -33,12 +32,11 @@ returns-2 c =
     let row = a .row .now in
     let index = n .next-moved .result in
     let rest = first-rest row (a .e) index (n .next-moved .ensures) in
-    let few = first-few row (a .e) index (n .next-moved .ensures) (omega arith) (omega arith) in
     let here = n .next-moved .ensures .here (omega arith) in
     let then = c .next-moved2 .ensures in (
-      starts row index (c .next-moved2 .result) (a .e) true (omega arith) here then (λ _. refl) few,
-      start-clauses row index (c .next-moved2 .result) (a .e) true (omega arith) here then ∙ rest .0,
-      start-after row index (c .next-moved2 .result) (a .e) true (omega arith) here then ∙ rest .1,
+      starts row index (c .next-moved2 .result) (a .e) 1 (omega arith) here then (λ _. refl) (omega arith) (omega arith) (omega (arith, rest .1)),
+      start-clauses row index (c .next-moved2 .result) (a .e) 1 (omega arith) here then ∙ rest .0,
+      start-after row index (c .next-moved2 .result) (a .e) 1 (omega arith) here then ∙ rest .1,
     )
 
 pub first-place-spec : {M : Type 1} → statement M

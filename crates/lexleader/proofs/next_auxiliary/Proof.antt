@@ -1,6 +1,5 @@
 -- `lexleader::next_auxiliary` meets its contract: the next pair has an auxiliary where another pair follows it. Assumes nothing.
 use mathlib.Core.Path.{sym}
-use mathlib.Core.Bool.{false}
 use Prim.Native.Nat.{_+_}
 use native.Mathlib.Omega.{arith}
 use Rattle.lexleader.proofs.Places.{few-auxiliaries, at-last, no-later, starts, start-clauses, start-after, after-next, to-next}
@@ -27,14 +26,17 @@ returns c =
     let row = s .args .row .now in
     let p = s .args .place in
     let here = s .pre .1 .then (s .pre .2) .here (s .pre .3) in
-    let none = no-later row (p .next) (n .next-moved .result) (p .auxiliary + 1) false (s .pre .3) here (n .next-moved .ensures) (omega arith) in
+    let none = no-later row (p .next) (n .next-moved .result) (p .auxiliary + 1) (p .j + 1) (s .pre .3) here (n .next-moved .ensures) (omega (arith, s .pre .1 .one)) (omega arith) in
     let few = after-next row p (s .pre .1) (s .pre .2) (s .pre .3) in
     to-next row p (s .pre .1) (s .pre .2) (s .pre .3) _
     (at-last row (p .auxiliary + 1) (c .no-place .result) (c .no-place .ensures) (omega (arith, few, s .pre .1 .few)) (sym (none .0)) (sym (none .1)))
 
+add-t5 : tie.Need-add-t5
+add-t5 c = let s = c .before .before .before .before .before .before in omega (arith, s .pre .1 .early)
+
 returns-2 : tie.Need-returns-2
 returns-2 c =
-    let n = c .before in
+    let n = c .before .before in
     let s = n .before .before .before .before in
     let row = s .args .row .now in
     let p = s .args .place in
@@ -43,11 +45,11 @@ returns-2 c =
     let then = n .next-moved .ensures in
     let few = after-next row p (s .pre .1) (s .pre .2) (s .pre .3) in
     to-next row p (s .pre .1) (s .pre .2) (s .pre .3) _ (
-      starts row (p .next) next (p .auxiliary + 1) false (s .pre .3) here then (λ last. absurd (omega arith)) (omega (arith, few, s .pre .1 .few)),
-      start-clauses row (p .next) next (p .auxiliary + 1) false (s .pre .3) here then,
-      start-after row (p .next) next (p .auxiliary + 1) false (s .pre .3) here then,
+      starts row (p .next) next (p .auxiliary + 1) (p .j + 1) (s .pre .3) here then (λ last. absurd (omega arith)) (omega arith) (omega (arith, s .pre .1 .early, s .pre .1 .then (s .pre .2) .onward)) (omega (arith, few, s .pre .1 .few)),
+      start-clauses row (p .next) next (p .auxiliary + 1) (p .j + 1) (s .pre .3) here then,
+      start-after row (p .next) next (p .auxiliary + 1) (p .j + 1) (s .pre .3) here then,
     )
 
 pub next-auxiliary-spec : {M : Type 1} → statement M
 next-auxiliary-spec =
-    tie.close (tie.spec add-e add-next-moved next-moved-requires no-place-requires returns returns-2)
+    tie.close (tie.spec add-e add-next-moved next-moved-requires no-place-requires returns add-t5 returns-2)

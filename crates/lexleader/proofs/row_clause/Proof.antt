@@ -3,6 +3,7 @@ use mathlib.Core.Path.{_≡_, refl, ap, _∙_}
 use Prim.Native.Nat.{ℕ, _+_, _-_, _/_, _≤_}
 use native.Mathlib.Omega.{arith}
 use lib.ListN.{length, drop}
+use Rattle.store.specs.Stores.{maxVariables}
 use Rattle.lexleader.specs.Rows.{pairsOf}
 use Rattle.lexleader.specs.Clause.{pairsAt}
 use Rattle.lexleader.proofs.Walk.{pairs-length}
@@ -14,7 +15,7 @@ use Rattle.lexleader.proofs.row_clause.Statement.{statement}
 use Rattle.lexleader.proofs.row_clause.Tie as tie
 
 -- the clause's auxiliary is one of the row's
-number : (c : tie.Start) → (c .args .q / 6 + 1 ≤ length (pairsOf (c .args .row .now))) × (c .args .q / 6 + 1 ≤ 512)
+number : (c : tie.Start) → (c .args .q / 6 + 1 ≤ length (pairsOf (c .args .row .now))) × (c .args .q / 6 + 1 ≤ maxVariables)
 number c =
     let row = c .args .row .now in
     (omega (arith, row-most (c .args .e) row), omega (arith, row-most (c .args .e) row, pairs-length row))
@@ -37,8 +38,11 @@ cast-t9 c = omega (arith, number (c .before .before .before) .1)
 add-t10 : tie.Need-add-t10
 add-t10 c = omega (arith, number (c .before .before .before) .1)
 
-add-t11 : tie.Need-add-t11
-add-t11 c = search needs
+add-t8 : tie.Need-add-t8
+add-t8 c = omega (arith, number (c .before .before .before) .1)
+
+add-t12 : tie.Need-add-t12
+add-t12 c = search needs
 
 clause-at-requires : tie.Need-clause-at-requires
 clause-at-requires c κs =
@@ -47,7 +51,7 @@ clause-at-requires c κs =
     let row = s .args .row .now in
     let found = m .moved-at .ensures in
     let same : drop (s .args .q / 6) (pairsOf row) ≡ pairsAt (m .moved-at .result) row = ap (λ (k : ℕ). drop k (pairsOf row)) {x = s .args .q / 6} {y = s .args .q / 6 + 1 - 1} (omega arith) ∙ found .1 in
-    (s .pre .0, number-stands row (s .args .e) (s .args .q) (m .moved-at .result) _ refl (omega (arith, number s .0)) same (s .pre .2) (found .0) (found .2) (c .next-moved .ensures) (s .pre .1) (s .pre .0), found .0)
+    (s .pre .0, number-stands row (s .args .e) (s .args .q) (m .moved-at .result) _ refl (omega (arith, number s .0)) same (s .pre .2) (found .0) (found .2) (c .next-moved .ensures) (s .pre .1), found .0)
 
 returns : tie.Need-returns
 returns c =
@@ -68,6 +72,7 @@ row-clause-spec =
     next-moved-requires
     cast-t9
     add-t10
-    add-t11
+    add-t8
+    add-t12
     clause-at-requires
     returns)

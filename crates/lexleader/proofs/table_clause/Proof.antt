@@ -92,7 +92,7 @@ returns c =
     let s = start o in
     holds-same (c .two .ensures)
     (same-two (not-x o) refl
-    ∙ table-first (s .args .first) (s .args .e) (pair s) (next s) (s .args .r) 0 (c .before .before .match .keys1) (c .before .if1 .taken))
+    ∙ table-first (s .args .j) (s .args .e) (pair s) (next s) (s .args .r) 0 (c .before .before .match .keys1) (c .before .match2 .keys1))
 
 returns-2 : tie.Need-returns-2
 returns-2 c =
@@ -100,7 +100,7 @@ returns-2 c =
     let s = start o in
     holds-same (c .two2 .ensures)
     (same-two (not-e o) (ap (λ (d : ℕ). 2 * d) (before o))
-    ∙ table-later (s .args .first) (s .args .e) (pair s) (next s) (s .args .r) 0 (c .before .before .match .keys1) (c .before .if1 .left))
+    ∙ table-later (s .args .j) (s .args .e) (pair s) (next s) (s .args .r) 0 (c .before .before .match .keys1) (λ e. omega arith))
 
 returns-3 : tie.Need-returns-3
 returns-3 c =
@@ -108,7 +108,7 @@ returns-3 c =
     let s = start o in
     holds-same (c .three .ensures)
     (same-three (not-e o) (not-x o) refl
-    ∙ table-both (s .args .first) (s .args .e) (pair s) (next s) (s .args .r) 1 (c .before .match .keys2) refl)
+    ∙ table-both (s .args .j) (s .args .e) (pair s) (next s) (s .args .r) 1 (c .before .match .keys2) refl)
 
 returns-4 : tie.Need-returns-4
 returns-4 c =
@@ -116,14 +116,14 @@ returns-4 c =
     let s = start o in
     holds-same (c .three2 .ensures)
     (same-three (not-e o) refl (not-y o)
-    ∙ table-both (s .args .first) (s .args .e) (pair s) (next s) (s .args .r) 2 (c .before .match .keys3) refl)
+    ∙ table-both (s .args .j) (s .args .e) (pair s) (next s) (s .args .r) 2 (c .before .match .keys3) refl)
 
 returns-5 : tie.Need-returns-5
 returns-5 c =
     let o = c .before .before .before in
     let s = start o in
     holds-same (c .three3 .ensures)
-    (table-first (s .args .first) (s .args .e) (pair s) (next s) (s .args .r) 3 (c .before .before .match .keys4) (c .before .if2 .taken))
+    (table-first (s .args .j) (s .args .e) (pair s) (next s) (s .args .r) 3 (c .before .before .match .keys4) (c .before .match3 .keys1))
 
 returns-6 : tie.Need-returns-6
 returns-6 c =
@@ -131,7 +131,7 @@ returns-6 c =
     let s = start o in
     holds-same (c .four .ensures)
     (same-four refl (c .before .opposite4 .ensures ∙ ap (λ (d : ℕ). oppositeOf (2 * d)) (before o)) refl refl
-    ∙ table-later (s .args .first) (s .args .e) (pair s) (next s) (s .args .r) 3 (c .before .before .before .match .keys4) (c .before .before .if2 .left))
+    ∙ table-later (s .args .j) (s .args .e) (pair s) (next s) (s .args .r) 3 (c .before .before .before .match .keys4) (λ e. omega arith))
 
 returns-7 : tie.Need-returns-7
 returns-7 c =
@@ -139,7 +139,7 @@ returns-7 c =
     let s = start o in
     holds-same (c .three4 .ensures)
     (same-three refl (not-x o) (not-y o)
-    ∙ table-first (s .args .first) (s .args .e) (pair s) (next s) (s .args .r) 4 (c .before .before .match .keys5) (c .before .if3 .taken))
+    ∙ table-first (s .args .j) (s .args .e) (pair s) (next s) (s .args .r) 4 (c .before .before .match .keys5) (c .before .match4 .keys1))
 
 returns-8 : tie.Need-returns-8
 returns-8 c =
@@ -147,7 +147,7 @@ returns-8 c =
     let s = start o in
     holds-same (c .four2 .ensures)
     (same-four refl (c .before .opposite5 .ensures ∙ ap (λ (d : ℕ). oppositeOf (2 * d)) (before o)) (not-x o) (not-y o)
-    ∙ table-later (s .args .first) (s .args .e) (pair s) (next s) (s .args .r) 4 (c .before .before .before .match .keys5) (c .before .before .if3 .left))
+    ∙ table-later (s .args .j) (s .args .e) (pair s) (next s) (s .args .r) 4 (c .before .before .before .match .keys5) (λ e. omega arith))
 
 returns-9 : tie.Need-returns-9
 returns-9 c =
@@ -155,7 +155,7 @@ returns-9 c =
     let s = start o in
     holds-same (c .three5 .ensures)
     (same-three (not-e o) (c .before .opposite6 .ensures) refl
-    ∙ table-both (s .args .first) (s .args .e) (pair s) (next s) (s .args .r) 5 (omega arith) refl)
+    ∙ table-both (s .args .j) (s .args .e) (pair s) (next s) (s .args .r) 5 (omega arith) refl)
 
 pub table-clause-spec : {M : Type 1} → statement M
 table-clause-spec =

@@ -13,7 +13,7 @@ use Rattle.lexleader.proofs.Left.{part-is, room, row-size}
 use Rattle.render.specs.Text.{clauseLine, writtenAt}
 use Rattle.cursor.specs.Cursors.{rowAt}
 use Rattle.cursor.proofs.RowLaws.{row-part}
-use Rattle.pages.proofs.FillLaws.{full, adds}
+use Rattle.pages.proofs.FillLaws.{added-short, full, adds}
 use Rattle.cursor.proofs.CursorLaws.{past-plain}
 use borrow.Author.Needs.{needs}
 use Rattle.pages.proofs.add_added.Statement.{statement}
@@ -88,7 +88,7 @@ returns c =
     let k2 = n .before .before .before in
     let line = ap (λ (x : List ℕ). length (clauseLine x)) (holds k .are) in
     full (S s) (s .args .cursor) (s .pre .1) (s .args .at) (s .args .out .now) (s .pre .2) _ _ (past-plain (S s) (s .pre .0) (s .args .cursor) (s .pre .3) ∙ k2 .next-added .ensures .1)
-    (omega (arith, ap length (holds k .are), size k, holds k .few)) (omega (arith, line, n .clause-length .ensures, c .if1 .taken))
+    (added-short _ (omega (arith, ap length (holds k .are), size k, holds k .few))) (omega (arith, line, n .clause-length .ensures, c .if1 .taken))
 
 array-share-prefix-codes-2 : tie.Need-array-share-prefix-codes-2
 array-share-prefix-codes-2 c = let h = c .before .before .before .before .before .before .clause-at .ensures in omega (arith, h .few, h .room)

@@ -7,7 +7,7 @@ use lib.ListN.{length, getD, take, drop, length-take, length-drop}
 use Rattle.store.specs.Stores.{Store, lent, maxLiterals, plainOf}
 use Rattle.store.proofs.Formed.{formed}
 use Rattle.render.specs.Text.{clauseLine, writtenAt}
-use Rattle.pages.proofs.FillLaws.{full, adds}
+use Rattle.pages.proofs.FillLaws.{plain-short, full, adds}
 use Rattle.cursor.proofs.CursorLaws.{next-plain, bounds, rises, plain-part}
 use borrow.Author.Needs.{needs}
 use Rattle.pages.proofs.add_plain.Statement.{statement}
@@ -27,16 +27,12 @@ lies c =
     let end = c .literal-count2 .ensures in
     (omega (arith, r), omega (arith, b .within), omega (arith, b .few))
 
--- the clause, and that it is not long
+-- the clause
 clause-is : (c : tie.After-literal-count2) → let s = c .before .before .before .before .before .before in
     take (c .literal-count2 .result - c .before .literal-count .result) (drop (c .before .literal-count .result) (s .args .literals .now)) ≡ getD (plainOf (S s)) (s .args .cursor .plain) []
 clause-is c =
     let s = c .before .before .before .before .before .before in
     plain-part (S s) (s .pre .0) (s .args .cursor) (s .pre .3) _ _ (c .before .literal-count .ensures) (c .literal-count2 .ensures)
-
-short : (c : tie.After-literal-count2) → let s = c .before .before .before .before .before .before in
-    length (take (c .literal-count2 .result - c .before .literal-count .result) (drop (c .before .literal-count .result) (s .args .literals .now))) ≤ 12288
-short c = let k = lies c in simp (length-take, length-drop) (omega (arith, k))
 
 literal-count-requires : tie.Need-literal-count-requires
 literal-count-requires c κs = let s = c .before .before .before .before in omega (arith, formed (S s) (s .pre .0) .ends-long, s .pre .3)
@@ -70,10 +66,9 @@ returns c =
     let n = c .before in
     let l = n .before .before in
     let s = l .before .before .before .before .before .before in
-    let few = ap length (clause-is l) in
     let line = ap (λ (x : List ℕ). length (clauseLine x)) (clause-is l) in
     full (S s) (s .args .cursor) (s .pre .1) (s .args .at) (s .args .out .now) (s .pre .2) _ _ (next-plain (S s) (s .pre .0) (s .args .cursor) (s .pre .3))
-    (omega (arith, few, short l)) (omega (arith, line, n .stored-length .ensures, c .if1 .taken))
+    (plain-short (S s) (s .pre .0) (s .args .cursor .plain) (s .pre .3)) (omega (arith, line, n .stored-length .ensures, c .if1 .taken))
 
 mul-put-stored : tie.Need-mul-put-stored
 mul-put-stored c = omega (arith, lies (c .before .before .before .before))

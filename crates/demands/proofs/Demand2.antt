@@ -1,19 +1,22 @@
 -- Demand 2 holds for every store: acceptance is that of Acceptance.antt, and the lines that the calls write, one after another, are the text of the made
 -- formula. Assumes nothing.
 use mathlib.Core.Path.{_≡_, refl, _∙_}
-use mathlib.Core.List.{List, _++_}
-use Prim.Native.Nat.{ℕ, zero, suc, _+_, _≤_}
+use mathlib.Core.Bool.{true}
+use mathlib.Core.List.{List, [], _++_}
+use Prim.Native.Nat.{ℕ, zero, suc, _+_, _-_, _≤_}
 use native.Mathlib.Omega.{arith}
 use borrow.Author.Tests.{le-leb, le-ltb, ne-eqb}
-use lib.ListN.{length, drop}
+use lib.ListN.{length, getD, drop}
 use lib.Seq.{take-append-seam}
-use Rattle.store.specs.Stores.{Store, plainOf, heldRows, standingOf}
+use Rattle.store.specs.Stores.{Store, plainOf, heldRows, wellFormed, standingOf}
 use Rattle.store.specs.declared.form.Standing.{Standing}
 use Rattle.store.proofs.StandingLaws.{ready-of}
+use Rattle.symmetry.proofs.SetLaws.{at-mem}
 use Rattle.permutation.proofs.Theorem.{row-at-name, row-elsewhere}
 use Rattle.lexleader.specs.Made.{rowsClauses, made}
 use Rattle.render.specs.Text.{headerLine}
-use Rattle.emit.specs.Emit.{madeOf, variablesOf, clausesOf, headerOf, lineOf, linesOf, textOf, writtenIf, headerBy, clauseBy}
+use Rattle.emit.specs.Emit.{madeOf, variablesOf, clausesOf, headerOf, lineOf, linesOf, textOf, maxHeader, maxLine, writtenIf, headerBy, clauseBy}
+use Rattle.emit.proofs.Bounds.{header-most, line-longest}
 use Rattle.emit.proofs.Text.{linesFrom, text-is-plain-then-documented}
 use Rattle.symbreak.specs.Calls.{saidWritten, bufferLeft, headerSays, headerLeaves, clauseSays, clauseLeaves}
 use Rattle.demands.specs.Demand2.{writtenBy, clausesWritten, textWritten, Demand2}
@@ -26,6 +29,11 @@ line-written : (line buffer : List ℕ) → length line ≤ length buffer
 unfolding writtenIf
 line-written line buffer h = rw (le-leb (length line) (length buffer) h) (take-append-seam line (drop (length line) buffer))
 
+-- every line fits into a buffer of the longest
+line-fits : (s : Store) → wellFormed s ≡ true → (q : ℕ) → 1 ≤ q → q ≤ clausesOf s → length (lineOf s q) ≤ maxLine
+unfolding lineOf clausesOf
+line-fits s formed q low high = line-longest s formed (getD (madeOf s) (q - 1) []) (at-mem [] (madeOf s) (q - 1) (omega arith))
+
 module _ (s : Store) (ready : standingOf s ≡ Standing.Ready) where
   header-written : (buffer : List ℕ) → length (headerOf s) ≤ length buffer → writtenBy (headerSays s (length buffer)) (headerLeaves s buffer) ≡ headerOf s
   unfolding headerSays headerLeaves headerBy
@@ -37,18 +45,20 @@ module _ (s : Store) (ready : standingOf s ≡ Standing.Ready) where
   clause-written q low high buffer h =
       rw (ready, ne-eqb q 0 (λ e. omega arith), le-ltb (clausesOf s) q high) (line-written (lineOf s q) buffer h)
 
-  clauses-written : (buffers : ℕ → List ℕ) → ((q : ℕ) → length (lineOf s q) ≤ length (buffers q)) → (q count : ℕ) → 1 ≤ q → q + count ≤ clausesOf s + 1
+  clauses-written : (buffers : ℕ → List ℕ) → ((q : ℕ) → 1 ≤ q → q ≤ clausesOf s → length (lineOf s q) ≤ length (buffers q)) → (q count : ℕ) → 1 ≤ q → q + count ≤ clausesOf s + 1
       → clausesWritten s buffers q count ≡ linesFrom s q count
   unfolding clausesWritten linesFrom
   clauses-written buffers room q zero low high = refl
   clauses-written buffers room q (suc count) low high =
-      rw (clause-written q low (omega arith) (buffers q) (room q), clauses-written buffers room (q + 1) count (omega arith) (omega arith))
+      rw (clause-written q low (omega arith) (buffers q) (room q low (omega arith)), clauses-written buffers room (q + 1) count (omega arith) (omega arith))
 
-  text-written : (buffer : List ℕ) → length (headerOf s) ≤ length buffer → (buffers : ℕ → List ℕ) → ((q : ℕ) → length (lineOf s q) ≤ length (buffers q))
+  text-written : wellFormed s ≡ true → (buffer : List ℕ) → maxHeader ≤ length buffer → (buffers : ℕ → List ℕ) → ((q : ℕ) → maxLine ≤ length (buffers q))
       → textWritten s buffer buffers ≡ textOf s
   unfolding textWritten
-  text-written buffer room buffers rooms =
-      rw (header-written buffer room, clauses-written buffers rooms 1 (clausesOf s) (omega arith) (omega arith)) (text-is-plain-then-documented s)
+  text-written formed buffer room buffers rooms =
+      let fits : (q : ℕ) → 1 ≤ q → q ≤ clausesOf s → length (lineOf s q) ≤ length (buffers q) = λ q low high. omega (arith, line-fits s formed q low high, rooms q) in
+      rw (header-written buffer (omega (arith, header-most s formed)), clauses-written buffers fits 1 (clausesOf s) (omega arith) (omega arith))
+      (text-is-plain-then-documented s)
 
 text-is : (s : Store) → textOf s ≡ headerLine (variablesOf s) (clausesOf s) ++ linesOf (plainOf s ++ rowsClauses (s .counts .variables + 1) (heldRows s))
 unfolding textOf headerOf madeOf made
@@ -66,5 +76,5 @@ demand-2 s = record {
   holds = λ names values said. accepted-held s names values said;
   named = λ names values said k h. row-at-name (s .counts .variables) names values (accepts-of s names values said .stated) k h;
   others = λ names values said i low high e. row-elsewhere (s .counts .variables) names values i low high e;
-  text = λ opened formed buffer room buffers rooms. text-written s (ready-of s opened formed) buffer room buffers rooms ∙ text-is s;
+  text = λ opened formed buffer room buffers rooms. text-written s (ready-of s opened formed) formed buffer room buffers rooms ∙ text-is s;
 }

@@ -16,7 +16,7 @@ use Rattle.symmetry.specs.Symmetry.{IsSymmetry}
 use Rattle.offering.specs.Offering.{rowFor, imagesNeeded}
 use Rattle.lexleader.specs.Made.{rowsClauses}
 use Rattle.render.specs.Text.{headerLine}
-use Rattle.emit.specs.Emit.{variablesOf, clausesOf, lineOf, linesOf, headerOf}
+use Rattle.emit.specs.Emit.{variablesOf, clausesOf, linesOf, maxHeader, maxLine}
 use Rattle.symbreak.specs.Calls.{accepted, offerSays, offerStore, headerSays, headerLeaves, clauseSays, clauseLeaves}
 
 -- what a call that writes put at the start of its buffer: as many bytes as it says
@@ -54,8 +54,8 @@ module _ (s : Store) where
         → getD (rowFor s names values) (getD (namesOn names) k 0 - 1) 0 ≡ getD (valuesOn values) k 0
     pub others : (names values : List ℕ) → offerSays s names values ≡ done accepted → (i : ℕ) → 1 ≤ i → i ≤ s .counts .variables → has (namesOn names) i ≡ false
         → getD (rowFor s names values) (i - 1) 0 ≡ 2 * i
-    -- "and the text written is exactly the plain formula followed by the documented clauses", into buffers with room
-    pub text : s .counts .is_open ≡ true → wellFormed s ≡ true → (buffer : List ℕ) → length (headerOf s) ≤ length buffer
-        → (buffers : ℕ → List ℕ) → ((q : ℕ) → length (lineOf s q) ≤ length (buffers q))
+    -- "and the text written is exactly the plain formula followed by the documented clauses"; buffers that long have room for every line
+    pub text : s .counts .is_open ≡ true → wellFormed s ≡ true → (buffer : List ℕ) → maxHeader ≤ length buffer
+        → (buffers : ℕ → List ℕ) → ((q : ℕ) → maxLine ≤ length (buffers q))
         → textWritten buffer buffers
         ≡ headerLine (variablesOf s) (clausesOf s) ++ linesOf (plainOf s ++ rowsClauses (s .counts .variables + 1) (heldRows s))

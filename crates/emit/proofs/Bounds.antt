@@ -27,7 +27,7 @@ use Rattle.lexleader.proofs.Within.{made-within}
 use Rattle.lexleader.proofs.Bounds.{rows-six, all-auxiliaries-most, isShort, rows-short}
 use Rattle.render.specs.Text.{clauseLine}
 use Rattle.render.proofs.LineLaws.{line-within, header-within}
-use Rattle.emit.specs.Emit.{madeOf, variablesOf, clausesOf, headerOf}
+use Rattle.emit.specs.Emit.{madeOf, variablesOf, clausesOf, headerOf, maxHeader, maxLine}
 use Rattle.emit.proofs.MadeLaws.{addedOf, clauses-are, made-plain, made-added}
 use Rattle.emit.proofs.Ranges.{range}
 
@@ -60,7 +60,7 @@ module _ (s : Store) (well : wellFormed s ≡ true) where
   clauses-most = omega (arith, clauses-sum, auxiliaries-few, formed s well .clauses-fit)
 
   -- "Header line: `p cnf N M`"
-  pub header-most : length (headerOf s) ≤ 19
+  pub header-most : length (headerOf s) ≤ maxHeader
   unfolding headerOf
   header-most = header-within (variablesOf s) (clausesOf s) (omega (arith, variables-most)) (omega (arith, clauses-most))
 
@@ -96,5 +96,5 @@ module _ (s : Store) (well : wellFormed s ≡ true) where
                 omega (arith, ap length (sym is ∙ made-added s well (i + 1) (omega arith)), short)
 
     -- so a buffer of SYMBREAK_MAX_LINE bytes has room for every line
-    pub line-longest : length (clauseLine clause) ≤ 7 * maxLiterals + 2
+    pub line-longest : length (clauseLine clause) ≤ maxLine
     line-longest = omega (arith, line-most, clause-most)

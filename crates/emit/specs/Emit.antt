@@ -1,10 +1,10 @@
 -- The made formula of a store, and its text (document 01, "Made formula"). Assumes nothing.
-use Prim.Native.Nat.{ℕ, _-_}
+use Prim.Native.Nat.{ℕ, _+_, _-_, _*_}
 use mathlib.Core.Bool.{cond}
 use mathlib.Core.List.{List, [], _∷_, _++_}
 use lib.ListN.{length, getD, drop}
 use lib.Dec.{eqb, leb, ltb}
-use Rattle.store.specs.Stores.{Store, plainOf, heldRows}
+use Rattle.store.specs.Stores.{Store, plainOf, heldRows, maxLiterals}
 use Rattle.store.specs.declared.refusal.Refusal.{Refusal}
 use Rattle.lexleader.specs.Made.{made, madeVariables}
 use Rattle.render.specs.Text.{clauseLine, headerLine}
@@ -34,6 +34,14 @@ linesOf (clause ∷ clauses) = clauseLine clause ++ linesOf clauses
 
 unfoldable pub textOf : Store → List ℕ
 textOf s = headerOf s ++ linesOf (madeOf s)
+
+-- no header and no line of a well-formed store's made formula is longer (`header-most`, `line-longest`, proofs/Bounds.antt): a literal has at most a sign, five
+-- digits and the space after it
+abbrev pub maxHeader : ℕ
+maxHeader = 19
+
+abbrev pub maxLine : ℕ
+maxLine = 7 * maxLiterals + 2
 
 -- 23: "an output slice too short (place: the length needed)"
 unfoldable pub writtenIf : List ℕ → ℕ → Written

@@ -37,7 +37,7 @@ shared-slice-read-image c = omega arith
 cast-image : tie.Need-cast-image Inv-loop μ-loop
 cast-image c = omega (arith, c .shared-slice-known2 .given (c .before .before .loop .i - 1))
 
--- the image has a place in the table
+-- the image has a place in the table; the writes rest on it too, so that a move by the inverse (must-fail/by_inverse) is refused for its values alone
 image-here : (c : tie.After-slice-known2 Inv-loop μ-loop) → let l = c .before .before .before in
     let a = l .before .before .before .args in
     getD (a .row .now) (l .loop .i - 1) 0 < length (a .values .now)

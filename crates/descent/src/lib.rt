@@ -90,9 +90,11 @@ fn move_by(row: &[u16], values: &mut [bool])
     let mut next = [false; valuation::TABLE];
     let mut i = 1;
     while i <= row.len() {
-        let value = values[row[i - 1] as usize];
-        next[2 * i] = value;
-        next[2 * i + 1] = !value;
+        let own = 2 * i;
+        let image = row[i - 1] as usize;
+        let value = values[image];
+        next[own] = value;
+        next[own + 1] = !value;
         i += 1;
     }
     copy(&next, values);

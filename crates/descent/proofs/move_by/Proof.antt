@@ -2,9 +2,9 @@
 use mathlib.Core.Path.{_≡_, refl, sym}
 use mathlib.Core.Bool.{Bool}
 use mathlib.Core.List.{List}
-use Prim.Native.Nat.{_+_, _-_, _≤_}
+use Prim.Native.Nat.{_+_, _-_, _≤_, _<_}
 use native.Mathlib.Omega.{arith}
-use lib.ListN.{length, length-set}
+use lib.ListN.{length, getD, length-set}
 use Rattle.lexleader.specs.Rows.{moved}
 use Rattle.valuation.specs.Tables.{maxTable, Tabled}
 use Rattle.valuation.proofs.TableLaws.{Begun, begun-none, begun-more}
@@ -22,38 +22,41 @@ abbrev μ-loop : tie.MeasureT-loop
 loop-holds : tie.Need-loop-holds Inv-loop μ-loop
 loop-holds c = (omega arith, omega arith, refl, λ bits tabled. begun-none _ _)
 
-sub-value : tie.Need-sub-value Inv-loop μ-loop
-sub-value c = omega arith
+mul-own : tie.Need-mul-own Inv-loop μ-loop
+mul-own c = omega arith
 
-mul-value : tie.Need-mul-value Inv-loop μ-loop
-mul-value c = omega arith
+sub-image : tie.Need-sub-image Inv-loop μ-loop
+sub-image c = omega arith
 
-shared-slice-read-value : tie.Need-shared-slice-read-value Inv-loop μ-loop
-shared-slice-read-value c = omega arith
+mul-image : tie.Need-mul-image Inv-loop μ-loop
+mul-image c = omega arith
 
-cast-value : tie.Need-cast-value Inv-loop μ-loop
-cast-value c = omega (arith, c .shared-slice-known2 .given (c .before .before .loop .i - 1))
+shared-slice-read-image : tie.Need-shared-slice-read-image Inv-loop μ-loop
+shared-slice-read-image c = omega arith
 
-slice-read-value : tie.Need-slice-read-value Inv-loop μ-loop
-slice-read-value c =
+cast-image : tie.Need-cast-image Inv-loop μ-loop
+cast-image c = omega (arith, c .shared-slice-known2 .given (c .before .before .loop .i - 1))
+
+-- the image has a place in the table; the writes rest on it too, so that a move by the inverse (must-fail/by_inverse) is refused for its values alone
+image-here : (c : tie.After-slice-known2 Inv-loop μ-loop) → let l = c .before .before .before in
+    let a = l .before .before .before .args in
+    getD (a .row .now) (l .loop .i - 1) 0 < length (a .values .now)
+image-here c =
     let l = c .before .before .before in
     let s = l .before .before .before in
     image-in (s .args .row .now) (s .args .values .now) (s .pre .0, s .pre .1) (l .loop .i - 1) (omega arith)
 
-mul-next : tie.Need-mul-next Inv-loop μ-loop
-mul-next c = omega arith
+slice-read-value : tie.Need-slice-read-value Inv-loop μ-loop
+slice-read-value c = omega (arith, image-here c)
 
 array-write-next : tie.Need-array-write-next Inv-loop μ-loop
-array-write-next c = omega arith
-
-mul-next-2 : tie.Need-mul-next-2 Inv-loop μ-loop
-mul-next-2 c = omega arith
+array-write-next c = omega (arith, image-here c)
 
 add-next : tie.Need-add-next Inv-loop μ-loop
-add-next c = omega arith
+add-next c = omega (arith, image-here c)
 
 array-write-next-2 : tie.Need-array-write-next-2 Inv-loop μ-loop
-array-write-next-2 c = omega arith
+array-write-next-2 c = omega (arith, image-here c)
 
 add-i : tie.Need-add-i Inv-loop μ-loop
 add-i c = omega arith
@@ -100,14 +103,13 @@ move-by-spec =
     Inv-loop
     μ-loop
     loop-holds
-    sub-value
-    mul-value
-    shared-slice-read-value
-    cast-value
+    mul-own
+    sub-image
+    mul-image
+    shared-slice-read-image
+    cast-image
     slice-read-value
-    mul-next
     array-write-next
-    mul-next-2
     add-next
     array-write-next-2
     add-i

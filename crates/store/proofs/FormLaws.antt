@@ -147,27 +147,3 @@ module _ (n : ℕ) (row : List ℕ) where
   row-all seen i p e h =
       let all : distinct (variables row) ≡ true = rw (take-all i (variables row) (rw (length-map row variableOf) h)) at (p .different) in
       rw (eq-eqb (length row) n e, all-in (isImage n) row 0 (λ k l. p .images k (omega arith)), all)
-
--- ---- the rows
-
-pub rows-step : (n k r at : ℕ) (images : List ℕ) → r < k → rowsOf n (k - r) (drop at images) ≡ take n (drop at images) ∷ rowsOf n (k - (r + 1)) (drop (at + n) images)
-unfolding rowsOf
-rows-step n k r at images h =
-    let e : k - r ≡ suc (k - (r + 1)) = omega arith in
-    rw (e, drop-drop n at images)
-
-module _ (n k r at : ℕ) (images : List ℕ) where
-  pub rows-miss : r < k → isRow n (take n (drop at images)) ≡ false → allOf (isRow n) (rowsOf n (k - r) (drop at images)) ≡ false
-  unfolding allOf
-  rows-miss more e = rw (rows-step n k r at images more, e)
-
-  pub rows-hit : r < k → isRow n (take n (drop at images)) ≡ true
-      → allOf (isRow n) (rowsOf n (k - r) (drop at images)) ≡ allOf (isRow n) (rowsOf n (k - (r + 1)) (drop (at + n) images))
-  unfolding allOf
-  rows-hit more e = rw (rows-step n k r at images more, e)
-
-  pub rows-end : k ≤ r → allOf (isRow n) (rowsOf n (k - r) (drop at images)) ≡ true
-  unfolding allOf rowsOf
-  rows-end h =
-      let e : k - r ≡ 0 = omega arith in
-      rw e

@@ -1,5 +1,5 @@
 -- What is known of a well formed store, for the functions that rely on it: every demand as a fact about places. Assumes nothing.
-use mathlib.Core.Path.{_≡_, refl, sym, _∙_}
+use mathlib.Core.Path.{_≡_, refl, sym, ap, _∙_}
 use mathlib.Core.Bool.{true, not, _&&_}
 use mathlib.Core.List.{List, [], _∷_}
 use Prim.Native.Nat.{ℕ, zero, suc, _+_, _-_, _*_, _/_, _%_, _≤_, _<_}
@@ -14,8 +14,9 @@ use Rattle.lists.proofs.Cases.{and-l, and-r}
 use Rattle.lists.proofs.Members.{all-at}
 use Rattle.lists.proofs.Distinct.{distinct-inj}
 use Rattle.store.specs.Literals.{variableOf, isNegative, isLiteral}
-use Rattle.store.specs.Stores.{Store, maxVariables, maxClauses, maxLiterals, maxRows, rising, rowsOf, heldRows, isImage, isRow, wellFormed}
-use Rattle.store.proofs.FormLaws.{variables, variable-at, literal-low, literal-high, image-literal, count-last}
+use Rattle.store.specs.Stores.{Store, maxVariables, maxClauses, maxLiterals, maxRows, rising, literalCount, rowAt, heldRows, isImage, isRow, FormedRows, FormedClauses, wellFormed}
+use Rattle.store.proofs.FormLaws.{variables, variable-at, literal-low, literal-high, image-literal, count-none, count-last}
+use Rattle.store.proofs.RowLaws.{rows-at}
 use Rattle.store.proofs.Demands.{used, rest-of, rows-of}
 
 -- ---- a row
@@ -73,22 +74,6 @@ rising-order from (x ∷ l) e (suc i) zero h k = absurd (not-suc-le-zero h)
 rising-order from (x ∷ l) e (suc i) (suc j) h k =
     rising-order x l (and-r (leb from x) (rising x l) e) i j (le-of-suc-le-suc h) (le-of-suc-le-suc k)
 
--- ---- the rows
-
--- row r, from 0
-abbrev pub rowAt : ℕ → ℕ → List ℕ → List ℕ
-rowAt n r images = take n (drop (r * n) images)
-
-pub rows-at : (n k : ℕ) (images : List ℕ) → allOf (isRow n) (rowsOf n k images) ≡ true → (r : ℕ) → r < k → isRow n (rowAt n r images) ≡ true
-unfolding rowsOf allOf
-rows-at n zero images e r h = absurd (not-suc-le-zero h)
-rows-at n (suc k) images e zero h =
-    let z : 0 * n ≡ 0 = omega arith in
-    rw z (and-l (isRow n (take n images)) (allOf (isRow n) (rowsOf n k (drop n images))) e)
-rows-at n (suc k) images e (suc r) h =
-    let z : suc r * n ≡ n + r * n = omega arith in
-    rw (z, ← drop-drop (r * n) n images) (rows-at n k (drop n images) (and-r (isRow n (take n images)) (allOf (isRow n) (rowsOf n k (drop n images))) e) r (le-of-suc-le-suc h))
-
 -- ---- the store
 
 pub record Formed (s : Store) : Type 0 where
@@ -130,3 +115,25 @@ formed s e =
       literal-high = λ i h. literal-high n (getD (s .literals) i 0) (literal i h);
       row = λ k h. row-of n (rowAt n k (s .images)) (rows-at n (s .counts .rows) (s .images) (rows-of s e) k h);
     }
+
+-- ---- its rows and its clauses alone
+
+pub formed-rows : (s : Store) → wellFormed s ≡ true → FormedRows (s .counts .variables) (s .counts .rows) (s .images)
+unfolding heldRows
+formed-rows s e = let r = rest-of s e in record { small = r .variables-fit; few = r .rows-fit; fits = r .images-long; good = rows-of s e }
+
+pub formed-clauses : (s : Store) → Formed s → FormedClauses (s .counts .clauses) (s .literals) (s .ends)
+formed-clauses s f = record {
+  known = f .ends-long;
+  rise = rise;
+  within = λ c h. omega (arith, own c, f .end-within c h, f .literals-long);
+}
+  where
+    own : (c : ℕ) → literalCount (c + 1) (s .ends) ≡ getD (s .ends) c 0
+    own c = let same : c + 1 - 1 ≡ c = omega arith in count-last (c + 1) (s .ends) (λ e. omega arith) ∙ rw same
+
+    rise : (c : ℕ) → c < s .counts .clauses → literalCount c (s .ends) ≤ literalCount (c + 1) (s .ends)
+    rise zero h = omega (arith, count-none 0 (s .ends) refl)
+    rise (suc c) h =
+        let last : suc c - 1 ≡ c = omega arith in
+        omega (arith, own (suc c), count-last (suc c) (s .ends) (λ e. omega arith), ap (λ (k : ℕ). getD (s .ends) k 0) last, f .ends-rise c (suc c) (omega arith) h)

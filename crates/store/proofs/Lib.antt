@@ -1,4 +1,5 @@
 pub mod FormLaws
+pub mod RowLaws
 pub mod Demands
 pub mod Formed
 pub mod Cuts

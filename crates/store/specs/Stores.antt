@@ -1,11 +1,13 @@
 -- The store: "what the caller lends at every call" (document 01, "Plain formula"), and when it is well formed ("Turned back by the store", 21).
 -- Assumes nothing.
-use Prim.Native.Nat.{ℕ, zero, suc, _-_, _*_}
+use mathlib.Core.Path.{_≡_}
+use Prim.Native.Nat.{ℕ, zero, suc, _+_, _-_, _*_, _≤_, _<_}
 use mathlib.Core.Bool.{Bool, true, false, cond, not, _&&_}
-use mathlib.Core.List.{List, [], _∷_, map}
+use mathlib.Core.List.{List, [], _∷_, _++_, map}
 use lib.ListN.{length, getD, take, drop}
 use lib.Seq.{slice}
 use lib.Dec.{eqb, leb}
+use denote.Ref.{RefT}
 use Rattle.lists.specs.Tests.{allOf, distinct}
 use Rattle.store.specs.Literals.{variableOf, isNegative, isLiteral}
 use Rattle.store.specs.declared.form.Standing.{Standing}
@@ -40,6 +42,10 @@ pub record Store : Type 0 where
 abbrev pub lent : Record → List ℕ → List ℕ → List ℕ → Store
 lent counts literals ends images = record { counts = counts; literals = literals; ends = ends; images = images }
 
+-- the store that a record and three lent slices are
+abbrev pub stored : Record → RefT (List ℕ) → RefT (List ℕ) → RefT (List ℕ) → Store
+stored counts literals ends images = lent counts (literals .now) (ends .now) (images .now)
+
 -- the ends never fall: each is at least the one before it, the first at least `from`
 unfoldable pub rising : ℕ → List ℕ → Bool
 rising from [] = true
@@ -53,6 +59,21 @@ literalCount m ends = cond (eqb m 0) 0 (getD ends (m - 1) 0)
 unfoldable pub rowsOf : ℕ → ℕ → List ℕ → List (List ℕ)
 rowsOf n zero images = []
 rowsOf n (suc k) images = take n images ∷ rowsOf n k (drop n images)
+
+-- row r of those, from 0, and that row with those after it
+abbrev pub rowAt : ℕ → ℕ → List ℕ → List ℕ
+rowAt n r images = take n (drop (r * n) images)
+
+abbrev pub rowsFrom : ℕ → ℕ → List ℕ → ℕ → List (List ℕ)
+rowsFrom n k images r = rowsOf n (k - r) (drop (r * n) images)
+
+-- the images with a row behind the first k, and what was past it
+abbrev pub appended : ℕ → ℕ → List ℕ → List ℕ → List ℕ
+appended n k row images = take (k * n) images ++ row ++ drop ((k + 1) * n) images
+
+-- clause c, from 0: the literals from the end before its own up to its own
+abbrev pub clauseAt : List ℕ → List ℕ → ℕ → List ℕ
+clauseAt literals ends c = slice (literalCount c ends) (literalCount (c + 1) ends) literals
 
 -- the literals cut into clauses, the first from `from` on, each up to its end
 unfoldable pub cut : ℕ → List ℕ → List ℕ → List (List ℕ)
@@ -73,6 +94,12 @@ isImage n code = isLiteral n code && not (isNegative code)
 -- a row: n images whose variables are all different, so a permutation of 1..n
 unfoldable pub isRow : ℕ → List ℕ → Bool
 isRow n row = eqb (length row) n && allOf (isImage n) row && distinct (map variableOf row)
+
+-- the store with a row more
+abbrev pub withRow : Store → List ℕ → Store
+withRow s row =
+    lent (record { variables = s .counts .variables; clauses = s .counts .clauses; rows = s .counts .rows + 1; is_open = s .counts .is_open })
+    (s .literals) (s .ends) (appended (s .counts .variables) (s .counts .rows) row (s .images))
 
 -- the opposite of 21: "a slice too short for the counts, ends that fall or pass the literals, a literal 0 or beyond n, a row that isn't a
 -- permutation, a count over its limit"
@@ -96,6 +123,19 @@ demands s =
 
 unfoldable pub wellFormed : Store → Bool
 wellFormed s = allOf (λ b. b) (demands s)
+
+-- The rows of a well-formed store, for functions that read no more of it.
+pub record FormedRows (n k : ℕ) (images : List ℕ) : Type 0 where
+  pub small : n ≤ maxVariables
+  pub few : k ≤ maxRows
+  pub fits : k * n ≤ length images
+  pub good : allOf (isRow n) (rowsOf n k images) ≡ true
+
+-- Its clauses, m of them: the ends never fall, and none passes the literals.
+pub record FormedClauses (m : ℕ) (literals ends : List ℕ) : Type 0 where
+  pub known : m ≤ length ends
+  pub rise : (c : ℕ) → c < m → literalCount c ends ≤ literalCount (c + 1) ends
+  pub within : (c : ℕ) → c < m → literalCount (c + 1) ends ≤ length literals
 
 -- "20. Not open. 21. Badly formed .. These have place 0 and come first, in this order."
 unfoldable pub standingOf : Store → Standing

@@ -5,9 +5,11 @@ ghost use Prim.Native.Nat.{_*_, _≤_};
 ghost use lib.ListN.{length};
 ghost use Rattle.lists.specs.Tests.{allOf};
 ghost use Rattle.store.specs.Literals.{isLiteral};
-ghost use Rattle.store.specs.Stores.{lent, wellFormed, standingOf, rising, literalCount, isImage, isRow, rowsOf, maxVariables};
+ghost use Rattle.store.specs.Stores.{stored, wellFormed, standingOf, rising, literalCount, isImage, isRow, rowsOf, maxVariables};
+use crate::clauses;
 use crate::record::Record;
 use crate::refusal::Refusal;
+use crate::rows;
 
 // What a call that needs an open store finds first.
 pub enum Standing {
@@ -17,7 +19,7 @@ pub enum Standing {
 
 // Whether a store is open and well formed: 20, then 21.
 pub fn admit(counts: Record, literals: &[u16], ends: &[u16], images: &[u16]) -> Standing
-    ensures { λ r. ⌜ r ≡ standingOf (lent counts (now (literals .entry)) (now (ends .entry)) (now (images .entry))) ⌝ }
+    ensures { λ r. ⌜ r ≡ standingOf (stored counts (literals .entry) (ends .entry) (images .entry)) ⌝ }
 {
     if !counts.is_open {
         return Standing::Refused(Refusal::NotOpen);
@@ -29,18 +31,18 @@ pub fn admit(counts: Record, literals: &[u16], ends: &[u16], images: &[u16]) -> 
 }
 
 pub fn well_formed(counts: Record, literals: &[u16], ends: &[u16], images: &[u16]) -> bool
-    ensures { λ r. ⌜ r ≡ wellFormed (lent counts (now (literals .entry)) (now (ends .entry)) (now (images .entry))) ⌝ }
+    ensures { λ r. ⌜ r ≡ wellFormed (stored counts (literals .entry) (ends .entry) (images .entry)) ⌝ }
 {
     let n = counts.variables;
     let m = counts.clauses;
-    let rows = counts.rows;
+    let k = counts.rows;
     if Record::MAX_VARIABLES < n {
         return false;
     }
     if Record::MAX_CLAUSES < m {
         return false;
     }
-    if Record::MAX_ROWS < rows {
+    if Record::MAX_ROWS < k {
         return false;
     }
     if ends.len() < m {
@@ -49,7 +51,7 @@ pub fn well_formed(counts: Record, literals: &[u16], ends: &[u16], images: &[u16
     if !ends_rise(&ends[..m]) {
         return false;
     }
-    let used = literal_count(ends, m);
+    let used = clauses::literal_count(ends, m);
     if Record::MAX_LITERALS < used {
         return false;
     }
@@ -59,21 +61,10 @@ pub fn well_formed(counts: Record, literals: &[u16], ends: &[u16], images: &[u16
     if !literals_within(&literals[..used], n) {
         return false;
     }
-    if images.len() < rows * n {
+    if images.len() < k * n {
         return false;
     }
-    rows_formed(images, rows, n)
-}
-
-// The count of literals in use by m clauses.
-pub fn literal_count(ends: &[u16], m: usize) -> usize
-    requires { ⌜ m ≤ length (now ends) ⌝ }
-    ensures { λ r. ⌜ r ≡ literalCount m (now (ends .entry)) ⌝ }
-{
-    if m == 0 {
-        return 0;
-    }
-    ends[m - 1] as usize
+    rows_formed(images, n, k)
 }
 
 // Whether a row is a permutation of the variables 1..n.
@@ -101,19 +92,16 @@ pub fn is_row(row: &[u16], n: usize) -> bool
     true
 }
 
-// Whether each of the first `rows` rows of n images is one.
-fn rows_formed(images: &[u16], rows: usize, n: usize) -> bool
-    requires { ⌜ (n ≤ maxVariables) × (rows * n ≤ length (now images)) ⌝ }
-    ensures { λ r. ⌜ r ≡ allOf (isRow n) (rowsOf n rows (now (images .entry))) ⌝ }
+// Whether each of the first k rows of n images is one.
+fn rows_formed(images: &[u16], n: usize, k: usize) -> bool
+    requires { ⌜ (n ≤ maxVariables) × (k * n ≤ length (now images)) ⌝ }
+    ensures { λ r. ⌜ r ≡ allOf (isRow n) (rowsOf n k (now (images .entry))) ⌝ }
 {
     let mut r = 0;
-    let mut at = 0;
-    while r < rows {
-        let to = at + n;
-        if !is_row(&images[at..to], n) {
+    while r < k {
+        if !is_row(rows::row(images, n, r), n) {
             return false;
         }
-        at = to;
         r += 1;
     }
     true

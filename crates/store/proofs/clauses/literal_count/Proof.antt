@@ -1,11 +1,11 @@
--- `store::form::literal_count` meets its contract. Assumes nothing.
+-- `store::clauses::literal_count` meets its contract. Assumes nothing.
 use mathlib.Core.Path.{sym}
 use Prim.Native.Nat.{_-_}
 use Rattle.store.proofs.FormLaws.{count-none, count-last}
 use borrow.Author.Needs.{needs}
 use native.Mathlib.Omega.{arith}
-use Rattle.store.proofs.form.literal_count.Statement.{statement}
-use Rattle.store.proofs.form.literal_count.Tie as tie
+use Rattle.store.proofs.clauses.literal_count.Statement.{statement}
+use Rattle.store.proofs.clauses.literal_count.Tie as tie
 
 returns : tie.Need-returns
 returns c = sym (count-none _ _ (c .if1 .taken))

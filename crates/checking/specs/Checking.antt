@@ -7,7 +7,7 @@ use Rattle.packed.specs.Words.{bitsOf}
 use Rattle.packed.specs.Order.{valueOf}
 use Rattle.store.specs.Stores.{Store}
 use Rattle.lexleader.specs.Models.{clauseHolds}
-use Rattle.emit.specs.Emit.{madeOf, variablesOf}
+use Rattle.lexleader.specs.Store.{madeOf, variablesOf}
 use Rattle.checking.specs.declared.Checked.{Checked}
 
 -- every clause is true, or the number of the first that is false

@@ -20,7 +20,7 @@ ghost use Rattle.lexleader.specs.Bounds.{maxMadeVariables};
 ghost use Rattle.lexleader.specs.Clause.{pairAt};
 ghost use Rattle.lexleader.specs.Places.{sixAt};
 ghost use Rattle.cursor.specs.Cursors.{rowAt, clausesLeft, Points, AtAuxiliary};
-ghost use Rattle.emit.specs.Emit.{variablesOf};
+ghost use Rattle.lexleader.specs.Store.{variablesOf};
 ghost use Rattle.checking.specs.Checking.{verdictOf, firstFalse};
 ghost use Rattle.checking.specs.Six.{Within, ordered, due};
 
@@ -157,8 +157,8 @@ fn holds_at(
 {
     if at.plain < counts.clauses {
         let passed = at.plain;
-        let start = store::form::literal_count(ends, passed);
-        let end = store::form::literal_count(ends, passed + 1);
+        let start = store::clauses::literal_count(ends, passed);
+        let end = store::clauses::literal_count(ends, passed + 1);
         return stored_holds(&literals[start..end], a);
     }
     let from = at.row * counts.variables;

@@ -11,10 +11,10 @@ use Rattle.lists.proofs.Cases.{lt-or-le}
 use Rattle.lists.proofs.Steps.{drop-step}
 use Rattle.store.specs.Stores.{Store, literalCount, plainOf, heldRows, wellFormed}
 use Rattle.store.proofs.Formed.{formed as facts}
+use Rattle.store.proofs.RowLaws.{from-first}
 use Rattle.lexleader.specs.Made.{made, rowsClauses}
-use Rattle.lexleader.proofs.Left.{left-all}
-use Rattle.emit.specs.Emit.{madeOf}
-use Rattle.emit.proofs.MadeLaws.{plain-length, plain-at}
+use Rattle.lexleader.specs.Store.{madeOf}
+use Rattle.lexleader.proofs.MadeLaws.{plain-length, plain-at}
 use Rattle.emit.proofs.Ranges.{Range, range}
 use Rattle.emit.proofs.WrittenLaws.{part-slice}
 use Rattle.cursor.specs.Cursors.{rowsLeft, addedLeft, clausesLeft}
@@ -29,7 +29,7 @@ pub begins : (s : Store) (c : Cursor) → c .plain ≡ 0
 unfolding clausesLeft madeOf made heldRows
 begins s c none all =
     let n = s .counts .variables in
-    rw (none, all) (ap (λ (rows : List (List ℕ)). plainOf s ++ rowsClauses (n + 1) rows) (left-all n (s .counts .rows) (s .images)))
+    rw (none, all) (ap (λ (rows : List (List ℕ)). plainOf s ++ rowsClauses (n + 1) rows) (from-first n (s .counts .rows) (s .images)))
 
 -- ---- the next clause
 

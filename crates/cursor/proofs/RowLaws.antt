@@ -6,13 +6,13 @@ use native.Mathlib.Omega.{arith}
 use lib.ListN.{length, getD, take, drop, List·getD-append}
 use Rattle.store.specs.Stores.{maxVariables}
 use Rattle.store.specs.declared.record.Record.{Record}
+use Rattle.store.proofs.RowLaws.{part-is, from-here, from-end, row-size}
 use Rattle.lexleader.specs.Made.{rowClauses, auxiliaries, rowsClauses}
 use Rattle.lexleader.specs.Bounds.{maxBefore}
 use Rattle.lexleader.specs.Clause.{pairsAt}
 use Rattle.lexleader.specs.Places.{clausesOn, clausesAt, sixAt, auxiliaryAfter, Stands}
 use Rattle.lexleader.specs.declared.Place.{Place}
 use Rattle.lexleader.proofs.Bounds.{auxiliaries-most}
-use Rattle.lexleader.proofs.Left.{part-is, left-step, left-end, row-size}
 use Rattle.lexleader.proofs.Places.{past, then-next, some-clause}
 use Rattle.cursor.specs.Cursors.{rowAt, rowsLeft, addedLeft, Points}
 
@@ -31,7 +31,7 @@ module _ (counts : Record) (images : List ℕ) where
   row-part P r h = subst P (part-is (counts .variables) r images) h
 
   none-left : (r : ℕ) → counts .rows ≤ r → rowsLeft counts images r ≡ []
-  none-left r h = left-end (counts .variables) (counts .rows) images r h
+  none-left r h = from-end (counts .variables) (counts .rows) images r h
 
   pub nothing-added : (r : ℕ) → counts .rows ≤ r → (p : Place) → addedLeft (rowsLeft counts images r) p ≡ []
   unfolding addedLeft
@@ -49,7 +49,7 @@ module _ (counts : Record) (images : List ℕ) where
     later = rowsLeft counts images (r + 1)
 
     here : rowsLeft counts images r ≡ row ∷ later
-    here = left-step (counts .variables) (counts .rows) images r h
+    here = from-here (counts .variables) (counts .rows) images r h
 
     added-here : (p : Place) → addedLeft (rowsLeft counts images r) p ≡ clausesAt row p ++ rowsClauses (auxiliaryAfter row p) later
     unfolding addedLeft

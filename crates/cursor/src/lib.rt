@@ -12,7 +12,7 @@ ghost use Rattle.store.specs.Stores.{maxVariables, maxRows, lent, wellFormed};
 ghost use Rattle.lexleader.specs.Made.{rowsClauses};
 ghost use Rattle.lexleader.specs.Bounds.{maxBefore};
 ghost use Rattle.lexleader.specs.Places.{clausesAt, sixAt, auxiliaryAfter, Stands};
-ghost use Rattle.emit.specs.Emit.{madeOf};
+ghost use Rattle.lexleader.specs.Store.{madeOf};
 ghost use Rattle.cursor.specs.Cursors.{rowAt, rowsLeft, addedLeft, clausesLeft, Points, AtAuxiliary};
 
 // How many plain clauses are passed, the row whose clauses come next, and the place among them.

@@ -11,13 +11,13 @@ use lib.Arith.{lt-of-le-ne}
 use lib.ListN.{length}
 use lib.Dec.{eqb, leb}
 use Rattle.store.specs.Refusals.{Said, done, refused}
-use Rattle.store.specs.Stores.{Store, wellFormed, standingOf, plainOf, heldRows, isRow, maxRows}
+use Rattle.store.specs.Stores.{Store, wellFormed, standingOf, plainOf, heldRows, isRow, maxRows, withRow}
 use Rattle.store.specs.declared.form.Standing.{Standing}
 use Rattle.store.specs.declared.refusal.Refusal.{Refusal}
 use Rattle.store.proofs.Demands.{rest-of}
 use Rattle.store.proofs.Formed.{formed, row-of}
 use Rattle.store.proofs.StandingLaws.{ready-of, ready}
-use Rattle.store.proofs.Append.{withRow, with-row-held, with-row-formed}
+use Rattle.store.proofs.Append.{with-row-held, with-row-formed}
 use Rattle.permutation.specs.Stated.{statedBy}
 use Rattle.permutation.specs.declared.Stated.{Stated}
 use Rattle.permutation.proofs.RowLaws.{row-length}

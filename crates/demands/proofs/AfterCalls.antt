@@ -11,7 +11,7 @@ use lib.ListN.{length, take, length-append}
 use lib.Seq.{length-take-le}
 use Rattle.store.specs.Refusals.{Said, done, refused}
 use Rattle.store.specs.Stores.{Store, wellFormed, plainOf, rowsOf, heldRows}
-use Rattle.store.proofs.Append.{rows-append, rows-take}
+use Rattle.store.proofs.RowLaws.{rows-append, rows-take}
 use Rattle.store.proofs.Demands.{rest-of, rows-of, rows-decide}
 use Rattle.symmetry.specs.Symmetry.{IsSymmetry}
 use Rattle.opening.specs.Opening.{openedBy, formulaOf}

@@ -15,7 +15,7 @@ use Rattle.store.specs.Stores.{Store, wellFormed, standingOf}
 use Rattle.store.specs.declared.form.Standing.{Standing}
 use Rattle.store.proofs.StandingLaws.{ready-of, ready}
 use Rattle.lexleader.specs.Models.{Model}
-use Rattle.emit.specs.Emit.{madeOf, variablesOf}
+use Rattle.lexleader.specs.Store.{madeOf, variablesOf}
 use Rattle.checking.specs.Checking.{Verdict, yes, falseAt, firstFalse}
 use Rattle.checking.proofs.VerdictLaws.{yes-iff, FirstFalse, false-at, at-false}
 use Rattle.symbreak.specs.Calls.{onStore, checkSays}

@@ -15,7 +15,8 @@ use Rattle.store.specs.Refusals.{Said, done, refused}
 use Rattle.store.specs.Stores.{Store}
 use Rattle.store.specs.declared.refusal.Refusal.{Refusal}
 use Rattle.emit.specs.declared.Written.{Written}
-use Rattle.emit.specs.Emit.{variablesOf, clausesOf, headerOf, lineOf, writtenIf, headerBy, clauseBy}
+use Rattle.lexleader.specs.Store.{variablesOf, clausesOf}
+use Rattle.emit.specs.Emit.{headerOf, lineOf, writtenIf, headerBy, clauseBy}
 use Rattle.opening.specs.Opening.{openedBy}
 use Rattle.opening.specs.declared.Opened.{Opened}
 use Rattle.symbreak.specs.Calls.{saidOpened, openSays, openStore, saidWritten, headerSays, headerLeaves, clauseSays, clauseLeaves, compareSays, fillSays, fillLeaves, checkSays, descendSays, descendLeaves, efficiencySays}

@@ -15,7 +15,8 @@ use Rattle.symmetry.proofs.SetLaws.{at-mem}
 use Rattle.permutation.proofs.Theorem.{row-at-name, row-elsewhere}
 use Rattle.lexleader.specs.Made.{rowsClauses, made}
 use Rattle.render.specs.Text.{headerLine}
-use Rattle.emit.specs.Emit.{madeOf, variablesOf, clausesOf, headerOf, lineOf, linesOf, textOf, maxHeader, maxLine, writtenIf, headerBy, clauseBy}
+use Rattle.lexleader.specs.Store.{madeOf, variablesOf, clausesOf}
+use Rattle.emit.specs.Emit.{headerOf, lineOf, linesOf, textOf, maxHeader, maxLine, writtenIf, headerBy, clauseBy}
 use Rattle.emit.proofs.Bounds.{header-most, line-longest}
 use Rattle.emit.proofs.Text.{linesFrom, text-is-plain-then-documented}
 use Rattle.symbreak.specs.Calls.{saidWritten, bufferLeft, headerSays, headerLeaves, clauseSays, clauseLeaves}

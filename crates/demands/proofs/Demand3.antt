@@ -24,7 +24,7 @@ use Rattle.lexleader.specs.Models.{Model}
 use Rattle.lexleader.specs.Kept.{Completes, Symmetric}
 use Rattle.lexleader.specs.Descent.{Ending, settled, spent, descend}
 use Rattle.lexleader.proofs.Theorems.{kept-iff, one-setting, filled-completes, carried-to-kept, satisfiable-iff, settled-kept}
-use Rattle.emit.specs.Emit.{madeOf, variablesOf}
+use Rattle.lexleader.specs.Store.{madeOf, variablesOf}
 use Rattle.filling.specs.Written.{filledWords}
 use Rattle.filling.proofs.Runs.{length-filled}
 use Rattle.checking.specs.Checking.{yes}

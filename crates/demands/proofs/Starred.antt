@@ -27,7 +27,7 @@ use Rattle.lexleader.specs.Models.{literalValue}
 use Rattle.lexleader.specs.Rows.{moved, lowers, pairsFrom, pairsOf}
 use Rattle.lexleader.specs.Made.{auxiliaries, allAuxiliaries, madeVariables, agrees, settingsAfter, rowSettings, settings, filledIn}
 use Rattle.lexleader.specs.Descent.{stepBy, descendFrom}
-use Rattle.emit.specs.Emit.{variablesOf}
+use Rattle.lexleader.specs.Store.{variablesOf}
 use Rattle.filling.specs.Written.{filledWords}
 use Rattle.descent.specs.Words.{Outcome, settledAfter, spentAfter, descended}
 use Rattle.symbreak.specs.Calls.{Accepted, accepted, openStore, offerSays, offerStore, fillSays, fillLeaves, descendSays, descendLeaves, efficiencySays}

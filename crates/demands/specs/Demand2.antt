@@ -16,7 +16,8 @@ use Rattle.symmetry.specs.Symmetry.{IsSymmetry}
 use Rattle.offering.specs.Offering.{rowFor, imagesNeeded}
 use Rattle.lexleader.specs.Made.{rowsClauses}
 use Rattle.render.specs.Text.{headerLine}
-use Rattle.emit.specs.Emit.{variablesOf, clausesOf, linesOf, maxHeader, maxLine}
+use Rattle.lexleader.specs.Store.{variablesOf, clausesOf}
+use Rattle.emit.specs.Emit.{linesOf, maxHeader, maxLine}
 use Rattle.symbreak.specs.Calls.{accepted, offerSays, offerStore, headerSays, headerLeaves, clauseSays, clauseLeaves}
 
 -- what a call that writes put at the start of its buffer: as many bytes as it says

@@ -13,7 +13,7 @@ use Rattle.opening.specs.Opening.{formulaOf}
 use Rattle.lexleader.specs.Models.{Model, Satisfiable}
 use Rattle.lexleader.specs.Made.{made, madeVariables}
 use Rattle.lexleader.specs.Kept.{Completes, Kept, Least, Carried}
-use Rattle.emit.specs.Emit.{madeOf, variablesOf}
+use Rattle.lexleader.specs.Store.{madeOf, variablesOf}
 use Rattle.checking.specs.Checking.{yes}
 use Rattle.descent.specs.Words.{settledAfter}
 use Rattle.symbreak.specs.Calls.{openStore, fillSays, fillLeaves, checkSays, descendSays, descendLeaves}

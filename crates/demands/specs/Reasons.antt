@@ -22,7 +22,8 @@ use Rattle.opening.specs.declared.Problem.{Problem}
 use Rattle.symmetry.specs.Sets.{Among}
 use Rattle.symmetry.specs.Symmetry.{clauseImage}
 use Rattle.offering.specs.Offering.{rowFor, imagesNeeded}
-use Rattle.emit.specs.Emit.{variablesOf, clausesOf, headerOf, lineOf}
+use Rattle.lexleader.specs.Store.{variablesOf, clausesOf}
+use Rattle.emit.specs.Emit.{headerOf, lineOf}
 
 -- A documented reason to refuse: its number, and at which places it holds.
 pub record Reason : Type 1 where

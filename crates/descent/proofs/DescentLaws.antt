@@ -8,11 +8,10 @@ use native.Mathlib.Omega.{arith}
 use lib.ListN.{length, take, drop}
 use Rattle.lists.specs.Tests.{allOf}
 use Rattle.packed.specs.Words.{bitsOf, wordsOf}
-use Rattle.store.specs.Stores.{isRow, rowsOf}
-use Rattle.store.proofs.Formed.{rowAt, rows-at}
+use Rattle.store.specs.Stores.{isRow, rowsOf, rowsFrom, rowAt}
+use Rattle.store.proofs.RowLaws.{part-is, from-first, from-here, from-end, row-size, rows-at}
 use Rattle.lexleader.specs.Rows.{moved, lowers}
 use Rattle.lexleader.specs.Descent.{rest, to, stepBy, settled, spent, descendFrom, descend}
-use Rattle.lexleader.proofs.Left.{part-is, left, left-all, left-step, left-end, row-size}
 use Rattle.descent.specs.declared.Descended.{Descended}
 use Rattle.valuation.specs.Tables.{Tabled, bitsIn}
 use Rattle.descent.specs.Words.{answerOf, outcomeOf, descended}
@@ -20,21 +19,21 @@ use Rattle.descent.proofs.MoveLaws.{Fit, bits-in}
 
 -- ---- the search for a row
 
-pub step-all : (n rows : ℕ) (images : List ℕ) (bits : List Bool) → stepBy (rowsOf n rows images) bits ≡ stepBy (left n rows images 0) bits
-step-all n rows images bits = rw (left-all n rows images)
+pub step-all : (n rows : ℕ) (images : List ℕ) (bits : List Bool) → stepBy (rowsOf n rows images) bits ≡ stepBy (rowsFrom n rows images 0) bits
+step-all n rows images bits = rw (from-first n rows images)
 
 module _ (n rows : ℕ) (images : List ℕ) (bits : List Bool) (r : ℕ) where
-  pub step-here : r < rows → lowers (rowAt n r images) bits ≡ true → stepBy (left n rows images r) bits ≡ to (moved (rowAt n r images) bits)
+  pub step-here : r < rows → lowers (rowAt n r images) bits ≡ true → stepBy (rowsFrom n rows images r) bits ≡ to (moved (rowAt n r images) bits)
   unfolding stepBy
-  step-here h e = rw (left-step n rows images r h, e)
+  step-here h e = rw (from-here n rows images r h, e)
 
-  pub step-on : r < rows → lowers (rowAt n r images) bits ≡ false → stepBy (left n rows images r) bits ≡ stepBy (left n rows images (r + 1)) bits
+  pub step-on : r < rows → lowers (rowAt n r images) bits ≡ false → stepBy (rowsFrom n rows images r) bits ≡ stepBy (rowsFrom n rows images (r + 1)) bits
   unfolding stepBy
-  step-on h e = rw (left-step n rows images r h, e)
+  step-on h e = rw (from-here n rows images r h, e)
 
-  pub step-end : rows ≤ r → stepBy (left n rows images r) bits ≡ rest
+  pub step-end : rows ≤ r → stepBy (rowsFrom n rows images r) bits ≡ rest
   unfolding stepBy
-  step-end h = rw (left-end n rows images r h)
+  step-end h = rw (from-end n rows images r h)
 
 -- ---- row r, lent as a part of the images
 

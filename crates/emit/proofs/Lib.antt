@@ -1,5 +1,3 @@
-pub mod MadeLaws
-pub mod Ranges
 pub mod Bounds
 pub mod WrittenLaws
 pub mod Text

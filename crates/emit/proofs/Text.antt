@@ -7,7 +7,8 @@ use lib.ListN.{length, length-append}
 use lib.Seq.{getD-append-seam}
 use Rattle.store.specs.Stores.{Store}
 use Rattle.render.specs.Text.{clauseLine}
-use Rattle.emit.specs.Emit.{madeOf, clausesOf, headerOf, lineOf, linesOf, textOf}
+use Rattle.lexleader.specs.Store.{madeOf, clausesOf}
+use Rattle.emit.specs.Emit.{headerOf, lineOf, linesOf, textOf}
 
 -- the lines of clauses q, q + 1, .., k of them
 unfoldable pub linesFrom : Store → ℕ → ℕ → List ℕ

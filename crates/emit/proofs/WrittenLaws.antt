@@ -10,7 +10,8 @@ use lib.Seq.{slice, take-nil}
 use Rattle.store.specs.Stores.{Store}
 use Rattle.store.specs.declared.refusal.Refusal.{Refusal}
 use Rattle.render.specs.Text.{writtenAt}
-use Rattle.emit.specs.Emit.{clausesOf, lineOf, writtenIf, clauseBy, bufferAfter}
+use Rattle.lexleader.specs.Store.{clausesOf}
+use Rattle.emit.specs.Emit.{lineOf, writtenIf, clauseBy, bufferAfter}
 use Rattle.emit.specs.declared.Written.{Written}
 
 module _ (line out : List ℕ) (needed : ℕ) (is : needed ≡ length line) where

@@ -1,24 +1,14 @@
--- The made formula of a store, and its text (document 01, "Made formula"). Assumes nothing.
+-- The made formula's text (document 01, "Made formula"). Assumes nothing.
 use Prim.Native.Nat.{ℕ, _+_, _-_, _*_}
 use mathlib.Core.Bool.{cond}
 use mathlib.Core.List.{List, [], _∷_, _++_}
 use lib.ListN.{length, getD, drop}
 use lib.Dec.{eqb, leb, ltb}
-use Rattle.store.specs.Stores.{Store, plainOf, heldRows, maxLiterals}
+use Rattle.store.specs.Stores.{Store, maxLiterals}
 use Rattle.store.specs.declared.refusal.Refusal.{Refusal}
-use Rattle.lexleader.specs.Made.{made, madeVariables}
+use Rattle.lexleader.specs.Store.{madeOf, variablesOf, clausesOf}
 use Rattle.render.specs.Text.{clauseLine, headerLine}
 use Rattle.emit.specs.declared.Written.{Written}
-
--- the made formula, N and M
-unfoldable pub madeOf : Store → List (List ℕ)
-madeOf s = made (s .counts .variables) (plainOf s) (heldRows s)
-
-unfoldable pub variablesOf : Store → ℕ
-variablesOf s = madeVariables (s .counts .variables) (heldRows s)
-
-unfoldable pub clausesOf : Store → ℕ
-clausesOf s = length (madeOf s)
 
 -- the header line, and the line of clause q, from 1
 unfoldable pub headerOf : Store → List ℕ

@@ -6,31 +6,14 @@ ghost use mathlib.Core.Bool.{true};
 ghost use Prim.Native.Nat.{_≤_, _<_};
 ghost use lib.ListN.{length};
 ghost use Rattle.store.specs.Stores.{lent, wellFormed, maxLiterals};
-ghost use Rattle.lexleader.specs.Bounds.{maxMadeVariables, maxMadeClauses};
 ghost use Rattle.render.specs.Text.{clauseLine};
-ghost use Rattle.emit.specs.Emit.{variablesOf, clausesOf, headerOf, lineOf, headerBy, clauseBy, writtenIf, bufferAfter};
+ghost use Rattle.lexleader.specs.Store.{variablesOf, clausesOf};
+ghost use Rattle.emit.specs.Emit.{headerOf, lineOf, headerBy, clauseBy, writtenIf, bufferAfter};
 
 // How many bytes were written, or a refusal.
 pub enum Written {
     Bytes(usize),
     Refused(Refusal),
-}
-
-// N and M.
-pub struct Totals {
-    pub variables: usize,
-    pub clauses: usize,
-}
-
-pub fn totals_of(counts: Record, literals: &[u16], ends: &[u16], images: &[u16]) -> Totals
-    requires { ⌜ wellFormed (lent counts (now literals) (now ends) (now images)) ≡ true ⌝ }
-    ensures { λ r. ⌜ (r .variables ≡ variablesOf (lent counts (now (literals .entry)) (now (ends .entry)) (now (images .entry)))) × (r .clauses ≡ clausesOf (lent counts (now (literals .entry)) (now (ends .entry)) (now (images .entry)))) × (r .variables ≤ maxMadeVariables) × (r .clauses ≤ maxMadeClauses) ⌝ }
-{
-    let added = lexleader::added_by_rows(images, counts.rows, counts.variables);
-    Totals {
-        variables: counts.variables + added.auxiliaries,
-        clauses: counts.clauses + added.clauses,
-    }
 }
 
 // Writes the header line.
@@ -45,7 +28,7 @@ pub fn header(
     ensures answer { λ r. ⌜ r ≡ headerBy (lent counts (now (literals .entry)) (now (ends .entry)) (now (images .entry))) (length (now (out .entry))) ⌝ }
     ensures buffer { λ r. ⌜ now (out .exit) ≡ bufferAfter r (headerOf (lent counts (now (literals .entry)) (now (ends .entry)) (now (images .entry)))) (now (out .entry)) ⌝ }
 {
-    let total = totals_of(counts, literals, ends, images);
+    let total = lexleader::totals_of(counts, images);
     let variables = total.variables as u64;
     let clauses = total.clauses as u64;
     let needed = render::header_length(variables, clauses);
@@ -72,7 +55,7 @@ pub fn clause(
     if q == 0 {
         return Written::Refused(Refusal::NoSuchClause);
     }
-    let total = totals_of(counts, literals, ends, images);
+    let total = lexleader::totals_of(counts, images);
     if total.clauses < q {
         return Written::Refused(Refusal::NoSuchClause);
     }
@@ -95,8 +78,8 @@ fn plain(
     ensures answer { λ r. ⌜ r ≡ writtenIf (lineOf (lent counts (now (literals .entry)) (now (ends .entry)) (now (images .entry))) q) (length (now (out .entry))) ⌝ }
     ensures buffer { λ r. ⌜ now (out .exit) ≡ bufferAfter r (lineOf (lent counts (now (literals .entry)) (now (ends .entry)) (now (images .entry))) q) (now (out .entry)) ⌝ }
 {
-    let start = store::form::literal_count(ends, q - 1);
-    let end = store::form::literal_count(ends, q);
+    let start = store::clauses::literal_count(ends, q - 1);
+    let end = store::clauses::literal_count(ends, q);
     write_stored(&literals[start..end], out)
 }
 

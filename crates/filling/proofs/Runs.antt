@@ -13,8 +13,8 @@ use Rattle.lists.proofs.Cases.{never}
 use Rattle.packed.specs.Words.{bitsOf, wordCount}
 use Rattle.packed.specs.Order.{valueOf}
 use Rattle.packed.proofs.Bits.{length-bits}
-use Rattle.store.specs.Stores.{rowsOf}
-use Rattle.store.proofs.Formed.{rowAt}
+use Rattle.store.specs.Stores.{rowsOf, rowsFrom, rowAt}
+use Rattle.store.proofs.RowLaws.{from-here, from-end}
 use Rattle.lexleader.specs.Models.{literalValue}
 use Rattle.lexleader.specs.Rows.{Pair, pairsOf}
 use Rattle.lexleader.specs.Clause.{pairAt, pairsAt}
@@ -22,7 +22,6 @@ use Rattle.lexleader.specs.Made.{agrees, settingsAfter, rowSettings, settings, 
 use Rattle.lexleader.proofs.Settings.{length-settings}
 use Rattle.lexleader.proofs.Walk.{walk-past, walk-moved, walk-end}
 use Rattle.lexleader.proofs.Bounds.{all-auxiliaries-most}
-use Rattle.lexleader.proofs.Left.{left, left-step, left-end}
 use Rattle.filling.specs.declared.Writer.{Writer}
 use Rattle.valuation.specs.Ready.{Ready}
 use Rattle.filling.specs.Written.{Holds, Some, Room, Appends, agreeing}
@@ -148,13 +147,13 @@ module _ (v : ℕ → Bool) (row : List ℕ) (i : ℕ) where
 -- ---- the auxiliaries of all rows
 
 module _ (n rows : ℕ) (images : List ℕ) (a : List Bool) (r : ℕ) where
-  pub over-end : rows ≤ r → settings (left n rows images r) a ≡ []
+  pub over-end : rows ≤ r → settings (rowsFrom n rows images r) a ≡ []
   unfolding settings
-  over-end h = rw (left-end n rows images r h)
+  over-end h = rw (from-end n rows images r h)
 
-  pub over-more : r < rows → settings (left n rows images r) a ≡ rowSettings (rowAt n r images) a ++ settings (left n rows images (r + 1)) a
+  pub over-more : r < rows → settings (rowsFrom n rows images r) a ≡ rowSettings (rowAt n r images) a ++ settings (rowsFrom n rows images (r + 1)) a
   unfolding settings
-  over-more h = rw (left-step n rows images r h)
+  over-more h = rw (from-here n rows images r h)
 
 -- ---- the whole
 

@@ -3,14 +3,12 @@ use mathlib.Core.Path.{_≡_, ap, subst, _∙_}
 use mathlib.Core.Logic.{_⊎_, inl, inr, ⊎-elim}
 use mathlib.Core.List.{List, [], _∷_, _++_}
 use Prim.Native.Nat.{ℕ, _+_, _-_, _*_, _≤_, _<_}
-use native.Mathlib.Nat.{mul-le-mul-right}
 use native.Mathlib.Omega.{arith}
-use lib.ListN.{length, getD, take, drop, length-append, length-drop, List·getD-append}
-use lib.Seq.{getD-append-add, length-take-le}
+use lib.ListN.{length, getD, take, drop, length-append, List·getD-append}
+use lib.Seq.{getD-append-add}
 use Rattle.lists.proofs.Cases.{lt-or-le}
-use Rattle.store.specs.Stores.{maxVariables, rowsOf}
-use Rattle.store.proofs.FormLaws.{rows-step}
-use Rattle.store.proofs.Formed.{rowAt}
+use Rattle.store.specs.Stores.{maxVariables, rowsOf, rowAt, rowsFrom}
+use Rattle.store.proofs.RowLaws.{part-is, from-first, from-here, from-end, row-size}
 use Rattle.lexleader.specs.Rows.{pairsOf}
 use Rattle.lexleader.specs.Made.{rowClauses, auxiliaries, rowsClauses, allAuxiliaries}
 use Rattle.lexleader.specs.Bounds.{maxBefore}
@@ -22,12 +20,6 @@ use Rattle.lexleader.proofs.Bounds.{auxiliaries-most}
 clauses-most : (e k : ℕ) (row : List ℕ) → length row ≤ k → 2 ≤ k → length (rowClauses e row) ≤ 6 * (k - 1)
 clauses-most e k row h many = ⊎-elim (λ l. omega (arith, row-few e row l)) (λ l. omega (arith, row-many e row l, pairs-length row)) (lt-or-le (length (pairsOf row)) 2)
 
--- `&images[at..to]` is row r, where at is r·n and to is n more
-pub part-is : (n r : ℕ) (images : List ℕ) → take (r * n + n - r * n) (drop (r * n) images) ≡ rowAt n r images
-part-is n r images =
-    let size : r * n + n - r * n ≡ n = omega arith in
-    rw size
-
 -- x auxiliaries and y clauses are what a row adds
 abbrev pub Adds : ℕ → ℕ → List ℕ → Type 0
 Adds x y row = (x ≡ auxiliaries row) × ((e : ℕ) → y ≡ length (rowClauses e row))
@@ -37,32 +29,8 @@ part-adds n r images x y h = subst (Adds x y) (part-is n r images) h
 
 module _ (n rows : ℕ) (images : List ℕ) where
   -- row r and those after it
-  abbrev pub left : ℕ → List (List ℕ)
-  left r = rowsOf n (rows - r) (drop (r * n) images)
-
-  pub left-all : left 0 ≡ rowsOf n rows images
-  left-all =
-      let all : rows - 0 ≡ rows = omega arith in
-      let none : 0 * n ≡ 0 = omega arith in
-      rw (all, none)
-
-  pub left-step : (r : ℕ) → r < rows → left r ≡ rowAt n r images ∷ left (r + 1)
-  left-step r h =
-      let on : r * n + n ≡ (r + 1) * n = omega arith in
-      rows-step n rows r (r * n) images h ∙ rw on
-
-  pub left-end : (r : ℕ) → rows ≤ r → left r ≡ []
-  unfolding rowsOf
-  left-end r h =
-      let none : rows - r ≡ 0 = omega arith in
-      rw none
-
-  module _ (fits : rows * n ≤ length images) (r : ℕ) (h : r < rows) where
-    pub room : r * n + n ≤ length images
-    room = let more : r + 1 ≤ rows = omega arith in omega (arith, mul-le-mul-right n more)
-
-    pub row-size : length (rowAt n r images) ≡ n
-    row-size = length-take-le n (drop (r * n) images) (omega (arith, room, length-drop (r * n) images))
+  abbrev left : ℕ → List (List ℕ)
+  left r = rowsFrom n rows images r
 
   -- The sums at row r: a auxiliaries and k clauses so far.
   pub record Summed (a k r : ℕ) : Type 0 where
@@ -77,8 +45,8 @@ module _ (n rows : ℕ) (images : List ℕ) where
     upto = omega arith;
     few-auxiliaries = omega arith;
     few-clauses = omega arith;
-    all-auxiliaries = omega (arith, ap allAuxiliaries left-all);
-    all-clauses = omega (arith, ap (λ (l : List (List ℕ)). length (rowsClauses 0 l)) left-all);
+    all-auxiliaries = omega (arith, ap allAuxiliaries (from-first n rows images));
+    all-clauses = omega (arith, ap (λ (l : List (List ℕ)). length (rowsClauses 0 l)) (from-first n rows images));
   }
 
   pub summed-more : {a k r x y : ℕ} → Summed a k r → r < rows → n ≤ maxVariables → rows * n ≤ length images
@@ -87,17 +55,17 @@ module _ (n rows : ℕ) (images : List ℕ) where
   summed-more {a} {k} {r} {x} {y} s h small fits (ax, ky) =
       let row : List ℕ = rowAt n r images in
       let rest : List (List ℕ) = left (r + 1) in
-      let size = row-size fits r h in
+      let size = row-size n rows images fits r h in
       record {
         upto = omega arith;
         few-auxiliaries = omega (arith, s .few-auxiliaries, auxiliaries-most row);
         few-clauses = omega (arith, s .few-clauses, ky 0, clauses-most 0 maxVariables row (omega arith) (omega arith));
-        all-auxiliaries = omega (arith, s .all-auxiliaries, ap allAuxiliaries (left-step r h));
+        all-auxiliaries = omega (arith, s .all-auxiliaries, ap allAuxiliaries (from-here n rows images r h));
         all-clauses =
             omega (
               arith,
               s .all-clauses,
-              ap (λ (l : List (List ℕ)). length (rowsClauses 0 l)) (left-step r h),
+              ap (λ (l : List (List ℕ)). length (rowsClauses 0 l)) (from-here n rows images r h),
               length-append (rowClauses 0 row) (rowsClauses (0 + auxiliaries row) rest),
               rows-length (0 + auxiliaries row) 0 rest,
               ky 0,
@@ -108,8 +76,8 @@ module _ (n rows : ℕ) (images : List ℕ) where
       → (a ≡ allAuxiliaries (rowsOf n rows images)) × ((e : ℕ) → k ≡ length (rowsClauses e (rowsOf n rows images)))
   unfolding allAuxiliaries rowsClauses
   summed-all {a} {k} {r} s h = (
-    omega (arith, s .all-auxiliaries, ap allAuxiliaries (left-end r h)),
-    λ e. omega (arith, s .all-clauses, ap (λ (l : List (List ℕ)). length (rowsClauses 0 l)) (left-end r h), rows-length 0 e (rowsOf n rows images)),
+    omega (arith, s .all-auxiliaries, ap allAuxiliaries (from-end n rows images r h)),
+    λ e. omega (arith, s .all-clauses, ap (λ (l : List (List ℕ)). length (rowsClauses 0 l)) (from-end n rows images r h), rows-length 0 e (rowsOf n rows images)),
   )
 
   -- The search for clause q at row r, whose first auxiliary is e: it is clause k of what is left.
@@ -122,8 +90,8 @@ module _ (n rows : ℕ) (images : List ℕ) where
     pub sought-first : n ≤ maxVariables → q < length (rowsClauses (n + 1) (rowsOf n rows images)) → Sought q (n + 1) q 0
     sought-first small inside = record {
       low = omega arith;
-      inside = rw left-all inside;
-      same = rw left-all;
+      inside = rw (from-first n rows images) inside;
+      same = rw (from-first n rows images);
     }
 
     module _ (e k r : ℕ) (s : Sought q e k r) where
@@ -133,11 +101,11 @@ module _ (n rows : ℕ) (images : List ℕ) where
         where
           go : (r < rows) ⊎ (rows ≤ r) → r < rows
           go (inl h) = h
-          go (inr h) = absurd (omega (arith, s .inside, ap (λ (l : List (List ℕ)). length (rowsClauses e l)) (left-end r h)))
+          go (inr h) = absurd (omega (arith, s .inside, ap (λ (l : List (List ℕ)). length (rowsClauses e l)) (from-end n rows images r h)))
 
       apart : rowsClauses e (left r) ≡ rowClauses e (rowAt n r images) ++ rowsClauses (e + auxiliaries (rowAt n r images)) (left (r + 1))
       unfolding rowsClauses
-      apart = ap (rowsClauses e) (left-step r sought-within)
+      apart = ap (rowsClauses e) (from-here n rows images r sought-within)
 
       pub sought-here : k < length (rowClauses e (rowAt n r images))
           → getD (rowsClauses (n + 1) (rowsOf n rows images)) q [] ≡ getD (rowClauses e (rowAt n r images)) k []
@@ -154,7 +122,7 @@ module _ (n rows : ℕ) (images : List ℕ) where
           let cut : rowsClauses e (left r) ≡ rowClauses e row ++ rest = rw ax apart in
           let number : k ≡ length (rowClauses e row) + (k - y) = omega arith in
           record {
-            low = omega (arith, s .low, auxiliaries-most row, row-size fits r sought-within);
+            low = omega (arith, s .low, auxiliaries-most row, row-size n rows images fits r sought-within);
             inside = omega (arith, s .inside, ap length cut, length-append (rowClauses e row) rest);
             same =
                 s .same

@@ -17,3 +17,5 @@ pub mod Bounds
 pub mod Places
 pub mod Table
 pub mod Left
+pub mod MadeLaws
+pub mod StoreBounds

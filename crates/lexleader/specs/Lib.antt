@@ -1,7 +1,9 @@
 pub mod Models
 pub mod Rows
 pub mod Made
+pub mod Store
 pub mod Bounds
+pub mod Counted
 pub mod Clause
 pub mod Places
 pub mod Kept

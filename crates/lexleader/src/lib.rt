@@ -1,15 +1,17 @@
 // The made formula and its theory (document 01, "Made formula" and "Assignments, filling in and descent"; source documents 003, sections 2 and 3, and
 // 000, section 2). The code says what rows add, and finds the literals of one clause of that by its number: a row's moved variables are found by
 // walking it, and a table chooses the literals.
+use store::record::Record;
 ghost use mathlib.Core.Path.{_≡_};
 ghost use mathlib.Core.List.{_∷_, [], _++_};
 ghost use Prim.Native.Nat.{ℕ, _+_, _-_, _*_, _≤_, _<_};
 ghost use lib.ListN.{length, getD, drop};
 ghost use Rattle.store.specs.Literals.{oppositeOf};
-ghost use Rattle.store.specs.Stores.{maxVariables, maxRows, rowsOf};
+ghost use Rattle.store.specs.Stores.{maxVariables, maxRows, rowsOf, maxClauses, FormedRows};
 ghost use Rattle.lexleader.specs.Rows.{pairsOf};
 ghost use Rattle.lexleader.specs.Made.{rowClauses, auxiliaries, rowsClauses, allAuxiliaries};
 ghost use Rattle.lexleader.specs.Bounds.{maxAuxiliaries, maxMadeVariables};
+ghost use Rattle.lexleader.specs.Counted.{Counted};
 ghost use Rattle.lexleader.specs.Clause.{Holds, tableOf, pairAt, pairsAt, Next};
 ghost use Rattle.lexleader.specs.Places.{clausesAt, sixAt, auxiliaryAfter, pastLast, Stands};
 
@@ -88,6 +90,24 @@ pub fn added_by_rows(images: &[u16], rows: usize, n: usize) -> Added
     Added {
         auxiliaries,
         clauses,
+    }
+}
+
+// N and M.
+pub struct Totals {
+    pub variables: usize,
+    pub clauses: usize,
+}
+
+// N and M of a store: its own counts, and what its rows add.
+pub fn totals_of(counts: Record, images: &[u16]) -> Totals
+    requires { ⌜ (counts .clauses ≤ maxClauses) × FormedRows (counts .variables) (counts .rows) (now images) ⌝ }
+    ensures { λ r. ⌜ Counted counts (now (images .entry)) r ⌝ }
+{
+    let added = added_by_rows(images, counts.rows, counts.variables);
+    Totals {
+        variables: counts.variables + added.auxiliaries,
+        clauses: counts.clauses + added.clauses,
     }
 }
 

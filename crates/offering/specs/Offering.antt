@@ -1,10 +1,10 @@
 -- An offer to a store that is open, well formed and not full (document 01, "Permutations", refusals 7 to 11 and 23). Assumes nothing.
 use Prim.Native.Nat.{ℕ, _+_, _*_}
 use mathlib.Core.Bool.{cond}
-use mathlib.Core.List.{List, _++_}
-use lib.ListN.{length, take, drop}
+use mathlib.Core.List.{List}
+use lib.ListN.{length}
 use lib.Dec.{eqb, leb}
-use Rattle.store.specs.Stores.{Store, plainOf}
+use Rattle.store.specs.Stores.{Store, plainOf, appended}
 use Rattle.store.specs.declared.refusal.Refusal.{Refusal}
 use Rattle.permutation.specs.Stated.{statedBy, rowStated}
 use Rattle.permutation.specs.declared.Stated.{Stated}
@@ -39,5 +39,5 @@ offeredBy s names values =
 
 -- the images afterwards: the rows held, the new row, and what was past it; as they were where the offer is refused
 abbrev pub imagesAfter : Offered → Store → List ℕ → List ℕ
-imagesAfter Offered.Accepted s row = take (s .counts .rows * s .counts .variables) (s .images) ++ row ++ drop (imagesNeeded s) (s .images)
+imagesAfter Offered.Accepted s row = appended (s .counts .variables) (s .counts .rows) row (s .images)
 imagesAfter (Offered.Refused r) s row = s .images

@@ -38,7 +38,7 @@ pub fn offer(
     }
     let mut row = [0u16; 512];
     permutation::fill_row(names, values, n, &mut row);
-    let used = store::form::literal_count(ends, m);
+    let used = store::clauses::literal_count(ends, m);
     let missing = symmetry::first_missing(&literals[..used], &ends[..m], &row[..n]);
     if missing != 0 {
         return Offered::Refused(Refusal::NoSymmetry(missing));
@@ -47,19 +47,6 @@ pub fn offer(
     if images.len() < needed {
         return Offered::Refused(Refusal::TooShort(needed));
     }
-    append_row(images, rows, n, &row[..n]);
+    store::rows::append(images, n, rows, &row[..n]);
     Offered::Accepted
-}
-
-// Writes a row of n images behind the rows held.
-fn append_row(images: &mut [u16], rows: usize, n: usize, row: &[u16])
-    requires { ⌜ (n ≤ maxVariables) × (rows < maxRows) × (length (now row) ≡ n) × (rows * n + n ≤ length (now images)) ⌝ }
-    ensures { λ _. ⌜ now (images .exit) ≡ take (rows * n) (now (images .entry)) ++ now (row .entry) ++ drop ((rows + 1) * n) (now (images .entry)) ⌝ }
-{
-    let at = rows * n;
-    let mut j = 0;
-    while j < n {
-        images[at + j] = row[j];
-        j += 1;
-    }
 }

@@ -12,8 +12,8 @@ use Rattle.lexleader.specs.Made.{made}
 use Rattle.render.specs.Text.{clauseLine, writtenAt}
 use Rattle.render.proofs.LineLaws.{line-short, line-some}
 use Rattle.render.proofs.Writing.{length-written}
-use Rattle.emit.specs.Emit.{madeOf, clausesOf}
-use Rattle.emit.proofs.MadeLaws.{plain-length, addedOf, clauses-are}
+use Rattle.lexleader.specs.Store.{madeOf, clausesOf}
+use Rattle.lexleader.proofs.MadeLaws.{plain-length, addedOf, clauses-are}
 use Rattle.emit.proofs.Bounds.{line-longest}
 use Rattle.cursor.specs.Cursors.{clausesLeft, Points}
 use Rattle.cursor.specs.declared.Cursor.{Cursor}

@@ -92,8 +92,8 @@ fn add_plain(
     ensures { λ r. ⌜ Goes (lent counts (now (literals .entry)) (now (ends .entry)) (now (images .entry))) cursor at (now (out .entry)) (r .cursor) (r .at) (now (out .exit)) ⌝ }
 {
     let written = cursor.plain;
-    let start = store::form::literal_count(ends, written);
-    let end = store::form::literal_count(ends, written + 1);
+    let start = store::clauses::literal_count(ends, written);
+    let end = store::clauses::literal_count(ends, written + 1);
     let needed = render::stored_length(&literals[start..end]);
     if out.len() - at < needed {
         return Line {

@@ -14,7 +14,8 @@ use Rattle.render.specs.Text.{refusalLine, headerLine, writtenAt}
 use Rattle.render.proofs.Writing.{length-written}
 use Rattle.render.proofs.LineLaws.{length-header, length-refusal}
 use Rattle.render.proofs.DigitLaws.{digits-most}
-use Rattle.emit.specs.Emit.{madeOf, variablesOf, clausesOf, headerOf, linesOf, textOf}
+use Rattle.lexleader.specs.Store.{madeOf, variablesOf, clausesOf}
+use Rattle.emit.specs.Emit.{headerOf, linesOf, textOf}
 use Rattle.emit.proofs.WrittenLaws.{at-start}
 use Rattle.cursor.specs.Cursors.{clausesLeft, Points}
 use Rattle.cursor.specs.declared.Cursor.{Cursor}

@@ -127,6 +127,7 @@ formed-clauses s f = record {
   known = f .ends-long;
   rise = rise;
   within = λ c h. omega (arith, own c, f .end-within c h, f .literals-long);
+  few = λ c h. omega (arith, own c, f .end-within c h, f .literals-fit);
 }
   where
     own : (c : ℕ) → literalCount (c + 1) (s .ends) ≡ getD (s .ends) c 0

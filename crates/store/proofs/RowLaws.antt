@@ -40,14 +40,6 @@ module _ (n k : ℕ) (images : List ℕ) where
         let none : k - r ≡ 0 = omega arith in
         rw none
 
-    -- there is room for row r, and it has n images
-    module _ (fits : k * n ≤ length images) (h : r < k) where
-      pub row-room : r * n + n ≤ length images
-      row-room = let more : r + 1 ≤ k = omega arith in omega (arith, mul-le-mul-right n more)
-
-      pub row-size : length (rowAt n r images) ≡ n
-      row-size = length-take-le n (drop (r * n) images) (omega (arith, row-room, length-drop (r * n) images))
-
     -- whether all from row r on are permutations
     pub good-here : r < k → isRow n (rowAt n r images) ≡ true → allOf (isRow n) (rowsFrom n k images r) ≡ allOf (isRow n) (rowsFrom n k images (r + 1))
     unfolding allOf
@@ -60,6 +52,14 @@ module _ (n k : ℕ) (images : List ℕ) where
     pub good-end : k ≤ r → allOf (isRow n) (rowsFrom n k images r) ≡ true
     unfolding allOf
     good-end h = rw (from-end h)
+
+-- there is room for row r, and it has n images
+module _ (n k : ℕ) (images : List ℕ) (fits : k * n ≤ length images) (r : ℕ) (h : r < k) where
+  pub row-room : r * n + n ≤ length images
+  row-room = let more : r + 1 ≤ k = omega arith in omega (arith, mul-le-mul-right n more)
+
+  pub row-size : length (rowAt n r images) ≡ n
+  row-size = length-take-le n (drop (r * n) images) (omega (arith, row-room, length-drop (r * n) images))
 
 pub rows-at : (n k : ℕ) (images : List ℕ) → allOf (isRow n) (rowsOf n k images) ≡ true → (r : ℕ) → r < k → isRow n (rowAt n r images) ≡ true
 unfolding rowsOf allOf

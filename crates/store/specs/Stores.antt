@@ -136,6 +136,7 @@ pub record FormedClauses (m : ℕ) (literals ends : List ℕ) : Type 0 where
   pub known : m ≤ length ends
   pub rise : (c : ℕ) → c < m → literalCount c ends ≤ literalCount (c + 1) ends
   pub within : (c : ℕ) → c < m → literalCount (c + 1) ends ≤ length literals
+  pub few : (c : ℕ) → c < m → literalCount (c + 1) ends ≤ maxLiterals
 
 -- "20. Not open. 21. Badly formed .. These have place 0 and come first, in this order."
 unfoldable pub standingOf : Store → Standing

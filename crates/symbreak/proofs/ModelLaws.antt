@@ -17,7 +17,7 @@ use Rattle.store.proofs.Formed.{formed}
 use Rattle.store.proofs.Demands.{rows-of}
 use Rattle.lexleader.specs.Made.{filledIn}
 use Rattle.lexleader.specs.Descent.{descend}
-use Rattle.emit.specs.Emit.{variablesOf}
+use Rattle.lexleader.specs.Store.{variablesOf}
 use Rattle.checking.specs.Checking.{verdictOf, firstFalse}
 use Rattle.checking.specs.declared.Checked.{Checked}
 use Rattle.filling.specs.Written.{filledWords}

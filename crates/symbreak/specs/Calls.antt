@@ -1,6 +1,6 @@
 -- What each public call says, in document 01's numbers, and what the lent store holds afterwards. For each answer enum of the code a definition gives
 -- the numbers and the values of its cases. Assumes nothing.
-use Prim.Native.Nat.{ℕ, _+_}
+use Prim.Native.Nat.{ℕ}
 use mathlib.Core.Bool.{true, cond, _&&_}
 use mathlib.Core.List.{List, _++_}
 use lib.ListN.{length, drop}
@@ -9,16 +9,17 @@ use Rattle.packed.specs.Words.{maxWords, bitsOf, wordCount, isAssignment}
 use Rattle.packed.specs.Order.{allBits, firstDifference}
 use Rattle.quality.specs.Efficiency.{hasEfficiency, efficiencyOf}
 use Rattle.store.specs.Refusals.{Said, done, refused, saidRefused}
-use Rattle.store.specs.Stores.{Store, lent, heldRows, standingOf, maxRows}
+use Rattle.store.specs.Stores.{Store, lent, withRow, heldRows, standingOf, maxRows}
 use Rattle.store.specs.declared.form.Standing.{Standing}
 use Rattle.store.specs.declared.record.Record.{Record}
 use Rattle.opening.specs.Clauses.{literalsIn, endsFrom}
 use Rattle.opening.specs.Opening.{bodyOf, openedBy, written}
 use Rattle.opening.specs.declared.Opened.{Opened}
-use Rattle.offering.specs.Offering.{rowFor, offeredBy, imagesAfter}
+use Rattle.offering.specs.Offering.{rowFor, offeredBy}
 use Rattle.offering.specs.declared.Offered.{Offered}
 use Rattle.lexleader.specs.Descent.{descend}
-use Rattle.emit.specs.Emit.{variablesOf, headerOf, lineOf, headerBy, clauseBy}
+use Rattle.lexleader.specs.Store.{variablesOf}
+use Rattle.emit.specs.Emit.{headerOf, lineOf, headerBy, clauseBy}
 use Rattle.emit.specs.declared.Written.{Written}
 use Rattle.filling.specs.Written.{filledWords}
 use Rattle.checking.specs.Checking.{Verdict, verdictOf, firstFalse}
@@ -72,9 +73,7 @@ offerSays s names values = onStore (standingOf s) (cond (eqb (s .counts .rows) m
 
 -- the store with one row more, or as it was where the offer is refused
 abbrev pub storeOffered : Said Accepted → Store → List ℕ → Store
-storeOffered (done a) s row =
-    lent (record { variables = s .counts .variables; clauses = s .counts .clauses; rows = s .counts .rows + 1; is_open = s .counts .is_open })
-    (s .literals) (s .ends) (imagesAfter Offered.Accepted s row)
+storeOffered (done a) s row = withRow s row
 storeOffered (refused number place) s row = s
 
 unfoldable pub offerStore : Store → List ℕ → List ℕ → Store

@@ -42,7 +42,7 @@ fn clause_bucket(literals: &[u16], ends: &[u16], c: usize) -> usize
     requires { ⌜ (c < length (now ends)) × EndsWithin (now literals) (now ends) ⌝ }
     ensures { λ r. ⌜ r ≡ clauseBucket (cut 0 (now (literals .entry)) (now (ends .entry))) c ⌝ }
 {
-    let start = store::form::literal_count(ends, c);
+    let start = store::clauses::literal_count(ends, c);
     let end = ends[c] as usize;
     bucket::of_clause(literals, start, end)
 }
@@ -100,7 +100,7 @@ fn is_clause(literals: &[u16], ends: &[u16], row: &[u16], from: usize, to: usize
     requires { ⌜ (to ≤ length (now literals)) × (c < length (now ends)) × Fitting (now literals) (now row) × EndsWithin (now literals) (now ends) ⌝ }
     ensures { λ r. ⌜ r ≡ sameSet (clauseImage (now (row .entry)) (slice from to (now (literals .entry)))) (getD (cut 0 (now (literals .entry)) (now (ends .entry))) c []) ⌝ }
 {
-    let start = store::form::literal_count(ends, c);
+    let start = store::clauses::literal_count(ends, c);
     let end = ends[c] as usize;
     is_image(literals, row, from, to, start, end)
 }

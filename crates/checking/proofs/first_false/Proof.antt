@@ -15,7 +15,7 @@ use Rattle.store.specs.Literals.{isLiteral}
 use Rattle.store.specs.Stores.{Store, lent}
 use Rattle.lexleader.specs.Places.{sixAt}
 use Rattle.lexleader.proofs.Places.{six-length}
-use Rattle.emit.specs.Emit.{variablesOf, clausesOf}
+use Rattle.lexleader.specs.Store.{variablesOf, clausesOf}
 use Rattle.emit.proofs.Bounds.{store-within}
 use Rattle.cursor.specs.Cursors.{rowAt, clausesLeft, Points}
 use Rattle.checking.specs.Checking.{falseFrom, firstFalse}

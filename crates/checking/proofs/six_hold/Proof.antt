@@ -14,12 +14,12 @@ use Rattle.packed.proofs.Form.{form-room}
 use Rattle.store.specs.Literals.{isLiteral}
 use Rattle.store.specs.Stores.{Store, lent}
 use Rattle.store.proofs.Formed.{Formed, formed}
+use Rattle.store.proofs.RowLaws.{part-is, row-room, row-size}
 use Rattle.lexleader.specs.Models.{formulaHolds}
 use Rattle.lexleader.specs.Places.{sixAt}
 use Rattle.lexleader.proofs.Within.{formula-more}
-use Rattle.lexleader.proofs.Left.{part-is, room, row-size}
 use Rattle.lexleader.proofs.Places.{auxiliary-most}
-use Rattle.emit.specs.Emit.{variablesOf}
+use Rattle.lexleader.specs.Store.{variablesOf}
 use Rattle.cursor.specs.Cursors.{rowAt, AtAuxiliary}
 use Rattle.cursor.proofs.RowLaws.{row-part, here-six}
 use Rattle.cursor.proofs.CursorLaws.{past-plain}
@@ -34,14 +34,14 @@ S c = lent (c .args .counts) (c .args .literals .now) (c .args .ends .now) (c .a
 facts : (c : tie.Start) → Formed (S c)
 facts c = formed (S c) (c .pre .0)
 
--- the cursor is at an auxiliary, and there is room for its row
+-- the cursor is at an auxiliary, and there is row-room for its row
 at : (c : tie.Else1) → let a = c .before .before .before .before .before .before .args in AtAuxiliary (a .counts) (a .at)
 at c = c .before .at-auxiliary .ensures (not-false _ (c .if1 .left))
 
 fits : (c : tie.Else1) → let a = c .before .before .before .before .before .before .args in a .at .row * a .counts .variables + a .counts .variables ≤ length (a .images .now)
 fits c =
     let s = c .before .before .before .before .before .before in
-    room (s .args .counts .variables) (s .args .counts .rows) (s .args .images .now) (facts s .images-long) (s .args .at .row) (at c .row)
+    row-room (s .args .counts .variables) (s .args .counts .rows) (s .args .images .now) (facts s .images-long) (s .args .at .row) (at c .row)
 
 -- the literals of the six clauses are of 1..N
 within : (c : tie.Else1) → let s = c .before .before .before .before .before .before in

@@ -4,17 +4,17 @@ use mathlib.Core.List.{List, _∷_, []}
 use Prim.Native.Nat.{ℕ, _+_, _*_, _≤_}
 use native.Mathlib.Omega.{arith}
 use lib.ListN.{length, getD}
+use Rattle.store.proofs.RowLaws.{part-is, row-room, row-size}
 use Rattle.lexleader.specs.Places.{clausesAt}
-use Rattle.lexleader.proofs.Left.{part-is, room, row-size}
 use Rattle.cursor.specs.Cursors.{rowAt}
 use Rattle.cursor.proofs.RowLaws.{After, row-part, after-here}
 use borrow.Author.Needs.{needs}
 use Rattle.cursor.proofs.next_added.Statement.{statement}
 use Rattle.cursor.proofs.next_added.Tie as tie
 
--- there is room for the cursor's row
+-- there is row-room for the cursor's row
 fits : (c : tie.Start) → c .args .cursor .row * c .args .counts .variables + c .args .counts .variables ≤ length (c .args .images .now)
-fits c = room (c .args .counts .variables) (c .args .counts .rows) (c .args .images .now) (c .pre .2) (c .args .cursor .row) (c .pre .4)
+fits c = row-room (c .args .counts .variables) (c .args .counts .rows) (c .args .images .now) (c .pre .2) (c .args .cursor .row) (c .pre .4)
 
 -- what the next place is
 found : (c : tie.After-next-place) → let a = c .before .before .before .before .before .before .before .args in let row = rowAt (a .counts) (a .images .now) (a .cursor .row) in

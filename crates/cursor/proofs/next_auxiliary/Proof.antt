@@ -6,8 +6,8 @@ use native.Mathlib.Omega.{arith}
 use lib.ListN.{length}
 use Rattle.store.specs.Stores.{Store, lent}
 use Rattle.store.proofs.Formed.{Formed, formed}
+use Rattle.store.proofs.RowLaws.{part-is, row-room, row-size}
 use Rattle.lexleader.specs.Places.{sixAt}
-use Rattle.lexleader.proofs.Left.{part-is, room, row-size}
 use Rattle.cursor.specs.Cursors.{rowAt}
 use Rattle.cursor.proofs.RowLaws.{After, row-part, after-here}
 use Rattle.cursor.proofs.CursorLaws.{past-added}
@@ -21,9 +21,9 @@ S c = lent (c .args .counts) (c .args .literals .now) (c .args .ends .now) (c .a
 facts : (c : tie.Start) → Formed (S c)
 facts c = formed (S c) (c .pre .0)
 
--- there is room for the cursor's row
+-- there is row-room for the cursor's row
 fits : (c : tie.Start) → c .args .cursor .row * c .args .counts .variables + c .args .counts .variables ≤ length (c .args .images .now)
-fits c = room (c .args .counts .variables) (c .args .counts .rows) (c .args .images .now) (facts c .images-long) (c .args .cursor .row) (c .pre .2 .row)
+fits c = row-room (c .args .counts .variables) (c .args .counts .rows) (c .args .images .now) (facts c .images-long) (c .args .cursor .row) (c .pre .2 .row)
 
 -- what the next place is
 found : (c : tie.After-next-auxiliary) → let a = c .before .before .before .before .before .before .before .before .before .args in let row = rowAt (a .counts) (a .images .now) (a .cursor .row) in

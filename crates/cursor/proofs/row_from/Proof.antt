@@ -5,10 +5,10 @@ use mathlib.Core.List.{List}
 use Prim.Native.Nat.{ℕ, _+_, _-_, _*_, _≤_}
 use native.Mathlib.Omega.{arith}
 use lib.ListN.{length}
+use Rattle.store.proofs.RowLaws.{part-is, row-room, row-size}
 use Rattle.lexleader.specs.Made.{rowsClauses}
 use Rattle.lexleader.specs.Bounds.{maxBefore}
 use Rattle.lexleader.proofs.Bounds.{auxiliaries-most}
-use Rattle.lexleader.proofs.Left.{part-is, room, row-size}
 use Rattle.cursor.specs.Cursors.{rowAt, rowsLeft}
 use Rattle.cursor.proofs.RowLaws.{First, row-part, none-added, place-points, place-past, place-few, first-here, first-few}
 use borrow.Author.Needs.{needs}
@@ -22,13 +22,13 @@ Inv-loop counts images plain row e n first₀ r₀ first r =
 abbrev μ-loop : tie.MeasureT-loop
 μ-loop counts images plain row e n first₀ r₀ first r = counts .rows - r
 
--- there is room for row r
+-- there is row-room for row r
 fits : (c : tie.Then1 Inv-loop μ-loop) → let l = c .before .before in let a = l .before .before .args in
     l .loop .r * a .counts .variables + a .counts .variables ≤ length (a .images .now)
 fits c =
     let l = c .before .before in
     let s = l .before .before in
-    room (s .args .counts .variables) (s .args .counts .rows) (s .args .images .now) (s .pre .2) (l .loop .r) (search needs)
+    row-room (s .args .counts .variables) (s .args .counts .rows) (s .args .images .now) (s .pre .2) (l .loop .r) (search needs)
 
 -- what the first place of row r is
 found : (c : tie.After-first-place Inv-loop μ-loop) → let l = c .before .before .before .before in let a = l .before .before .args in

@@ -6,10 +6,9 @@ use native.Mathlib.Omega.{arith}
 use lib.ListN.{length}
 use Rattle.packed.specs.Words.{bitsOf, wordCount}
 use Rattle.packed.proofs.Form.{form-count, form-room}
-use Rattle.store.specs.Stores.{rowsOf}
-use Rattle.store.proofs.Formed.{rowAt}
+use Rattle.store.specs.Stores.{rowsOf, rowAt}
+use Rattle.store.proofs.RowLaws.{row-room}
 use Rattle.lexleader.specs.Rows.{moved}
-use Rattle.lexleader.proofs.Left.{room}
 use Rattle.valuation.specs.Tables.{maxTable}
 use Rattle.descent.proofs.DescentLaws.{part-fit, part-moved, Reached, reached-none, reached-more, ends-settled, ends-spent}
 use Rattle.descent.proofs.descend.Statement.{statement}
@@ -33,7 +32,7 @@ tabulate-requires c κs =
 loop-holds : tie.Need-loop-holds Inv-loop μ-loop
 loop-holds c = let t = c .before in (reached-none _ _ _ _ _ (t .tabulate .ensures), t .tabulate .kept .1 .1 .0, refl)
 
--- there is room for the table, and there are as many words as the assignment has
+-- there is row-room for the table, and there are as many words as the assignment has
 module _ (c : tie.At-loop Inv-loop μ-loop) where
   enough : 2 * c .before .before .before .before .before .before .before .args .n + 2 ≤ length (c .loop .values)
   enough = let s = c .before .before .before .before .before .before .before in omega (arith, s .pre .small, c .loop .inv .1)
@@ -67,7 +66,7 @@ returns c =
     let reached = l .loop .inv .0 in
     ends-settled _ _ _ _ _ _ reached _ (w .write .ensures) (f .first-lowering .ensures .0 (reached .bits) (reached .tabled) (omega arith))
 
--- a row lowers the assignment, and there is room for it
+-- a row lowers the assignment, and there is row-room for it
 inside : (c : tie.Else1 Inv-loop μ-loop) → c .before .first-lowering .result < c .before .before .before .before .before .before .before .before .before .before .args .rows
 inside c = omega (arith, c .before .first-lowering .ensures .1 .0)
 
@@ -75,7 +74,7 @@ within : (c : tie.Else1 Inv-loop μ-loop) → let a = c .before .before .before 
     c .before .first-lowering .result * a .n + a .n ≤ length (a .images .now)
 within c =
     let s = c .before .before .before .before .before .before .before .before .before .before in
-    room (s .args .n) (s .args .rows) (s .args .images .now) (s .pre .fits) (c .before .first-lowering .result) (inside c)
+    row-room (s .args .n) (s .args .rows) (s .args .images .now) (s .pre .fits) (c .before .first-lowering .result) (inside c)
 
 slice-aggregate-write-2 : tie.Need-slice-aggregate-write-2 Inv-loop μ-loop
 slice-aggregate-write-2 c = sym (c .before .before .before .before .before .loop .inv .1)

@@ -5,11 +5,10 @@ use mathlib.Core.List.{List}
 use Prim.Native.Nat.{_+_, _-_, _*_, _≤_}
 use native.Mathlib.Omega.{arith}
 use lib.ListN.{length}
-use Rattle.store.specs.Stores.{rowsOf}
-use Rattle.store.proofs.Formed.{rowAt}
+use Rattle.store.specs.Stores.{rowsOf, rowsFrom, rowAt}
+use Rattle.store.proofs.RowLaws.{row-room}
 use Rattle.lexleader.specs.Rows.{lowers}
 use Rattle.lexleader.specs.Descent.{stepBy}
-use Rattle.lexleader.proofs.Left.{left, room}
 use Rattle.valuation.specs.Tables.{Tabled}
 use Rattle.descent.proofs.DescentLaws.{step-all, step-here, step-on, step-end, part-fit, part-lowers}
 use Rattle.descent.proofs.first_lowering.Statement.{statement}
@@ -17,19 +16,19 @@ use Rattle.descent.proofs.first_lowering.Tie as tie
 
 abbrev Inv-loop : tie.InvT-loop
 Inv-loop images rows n values r₀ r =
-    ((bits : List Bool) → Tabled n bits values → stepBy (rowsOf n rows images) bits ≡ stepBy (left n rows images r) bits) × (r ≤ rows)
+    ((bits : List Bool) → Tabled n bits values → stepBy (rowsOf n rows images) bits ≡ stepBy (rowsFrom n rows images r) bits) × (r ≤ rows)
 
 abbrev μ-loop : tie.MeasureT-loop
 μ-loop images rows n values r₀ r = rows - r
 
--- there is room for row r
+-- there is row-room for row r
 within : (c : tie.In-loop Inv-loop μ-loop) → let l = c .before in
     let a = l .before .before .before .args in
     l .loop .r * a .n + a .n ≤ length (a .images .now)
 within c =
     let l = c .before in
     let s = l .before .before .before in
-    room (s .args .n) (s .args .rows) (s .args .images .now) (s .pre .0) (l .loop .r) (omega arith)
+    row-room (s .args .n) (s .args .rows) (s .args .images .now) (s .pre .0) (l .loop .r) (omega arith)
 
 loop-holds : tie.Need-loop-holds Inv-loop μ-loop
 loop-holds c = (λ bits tabled. step-all _ _ _ _, omega arith)

@@ -8,7 +8,7 @@ use Rattle.store.specs.Stores.{Store, lent, heldRows}
 use Rattle.store.proofs.Formed.{Formed, formed}
 use Rattle.render.specs.Text.{clauseLine}
 use Rattle.emit.specs.Emit.{lineOf, writtenIf, bufferAfter}
-use Rattle.emit.proofs.MadeLaws.{clauses-are, made-added}
+use Rattle.lexleader.proofs.MadeLaws.{clauses-are, made-added}
 use borrow.Author.Needs.{needs}
 use native.Mathlib.Omega.{arith}
 use Rattle.emit.proofs.added.Statement.{statement}

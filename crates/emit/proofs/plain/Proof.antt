@@ -8,7 +8,7 @@ use Rattle.store.specs.Stores.{Store, lent, maxLiterals}
 use Rattle.store.proofs.Formed.{formed}
 use Rattle.render.specs.Text.{clauseLine}
 use Rattle.emit.specs.Emit.{lineOf, writtenIf, bufferAfter}
-use Rattle.emit.proofs.MadeLaws.{made-plain}
+use Rattle.lexleader.proofs.MadeLaws.{made-plain}
 use Rattle.emit.proofs.Ranges.{range}
 use Rattle.emit.proofs.WrittenLaws.{part-slice}
 use borrow.Author.Needs.{needs}

@@ -4,10 +4,9 @@ use mathlib.Core.List.{List, _++_}
 use Prim.Native.Nat.{ℕ, _+_, _-_, _*_, _≤_}
 use native.Mathlib.Omega.{arith}
 use lib.ListN.{length, length-append}
-use Rattle.store.specs.Stores.{rowsOf}
-use Rattle.store.proofs.Formed.{rowAt, rows-at}
+use Rattle.store.specs.Stores.{rowsOf, rowsFrom, rowAt}
+use Rattle.store.proofs.RowLaws.{from-first, part-is, row-room, row-size, rows-at}
 use Rattle.lexleader.specs.Made.{auxiliaries, rowSettings, settings}
-use Rattle.lexleader.proofs.Left.{left, left-all, part-is, room, row-size}
 use Rattle.lexleader.proofs.Settings.{length-row, length-settings}
 use Rattle.valuation.specs.Tables.{Tabled}
 use Rattle.filling.proofs.Runs.{Run, run-start, run-more, run-end, run-some, run-size, run-room, over-end, over-more}
@@ -17,23 +16,23 @@ use Rattle.filling.proofs.fill_rows.Tie as tie
 abbrev Inv-loop : tie.InvT-loop
 Inv-loop images rows n values out₀ taken₀ r₀ out taken r =
     (r ≤ rows)
-    × ((bits : List Bool) → Tabled n bits values → Run taken₀ out₀ (settings (rowsOf n rows images) bits) (settings (left n rows images r) bits) taken out)
+    × ((bits : List Bool) → Tabled n bits values → Run taken₀ out₀ (settings (rowsOf n rows images) bits) (settings (rowsFrom n rows images r) bits) taken out)
 
 abbrev μ-loop : tie.MeasureT-loop
 μ-loop images rows n values out₀ taken₀ r₀ out taken r = rows - r
 
--- there is room for row r
+-- there is row-room for row r
 within : (c : tie.In-loop Inv-loop μ-loop) → let l = c .before in let a = l .before .before .before .before .args in l .loop .r * a .n + a .n ≤ length (a .images .now)
 within c =
     let l = c .before in
     let s = l .before .before .before .before in
-    room (s .args .n) (s .args .rows) (s .args .images .now) (s .pre .1) (l .loop .r) (omega arith)
+    row-room (s .args .n) (s .args .rows) (s .args .images .now) (s .pre .1) (l .loop .r) (omega arith)
 
 loop-holds : tie.Need-loop-holds Inv-loop μ-loop
 loop-holds c =
     let s = c .before .before .before in
     let a = s .args in
-    let all = left-all (a .n) (a .rows) (a .images .now) in
+    let all = from-first (a .n) (a .rows) (a .images .now) in
     (omega arith, λ bits t. rw all (run-start (a .w) (a .out .now) _))
 
 mul-from : tie.Need-mul-from Inv-loop μ-loop
@@ -65,8 +64,8 @@ fill-row-requires c κs =
     let known = s .pre .3 in
     let bits = known .bits in
     let run = rw (over-more n (a .rows) images bits r (omega arith)) at (l .loop .inv .1 bits (known .is)) in
-    let more : auxiliaries (rowAt n r images) ≤ length (rowSettings (rowAt n r images) bits ++ settings (left n (a .rows) images (r + 1)) bits) =
-    omega (arith, length-append (rowSettings (rowAt n r images) bits) (settings (left n (a .rows) images (r + 1)) bits), length-row (rowAt n r images) bits) in
+    let more : auxiliaries (rowAt n r images) ≤ length (rowSettings (rowAt n r images) bits ++ settings (rowsFrom n (a .rows) images (r + 1)) bits) =
+    omega (arith, length-append (rowSettings (rowAt n r images) bits) (settings (rowsFrom n (a .rows) images (r + 1)) bits), length-row (rowAt n r images) bits) in
     rw (part-is n r images, row-size n (a .rows) images (s .pre .1) r (omega arith)) (
       s .pre .0,
       rows-at n (a .rows) images (s .pre .2) r (omega arith),

@@ -2,8 +2,9 @@
 -- Assumes nothing.
 use Prim.Native.Nat.{_+_, _-_, _*_, _≤_}
 use lib.ListN.{length}
+use Rattle.store.proofs.RowLaws.{row-room}
 use Rattle.lexleader.specs.Made.{auxiliaries}
-use Rattle.lexleader.proofs.Left.{part-adds, room, Summed, summed-none, summed-more, summed-all}
+use Rattle.lexleader.proofs.Left.{part-adds, Summed, summed-none, summed-more, summed-all}
 use native.Mathlib.Omega.{arith}
 use Rattle.lexleader.proofs.added_by_rows.Statement.{statement}
 use Rattle.lexleader.proofs.added_by_rows.Tie as tie
@@ -14,9 +15,9 @@ Inv-loop images rows n auxiliaries₀ clauses₀ r₀ auxiliaries clauses r = Su
 abbrev μ-loop : tie.MeasureT-loop
 μ-loop images rows n auxiliaries₀ clauses₀ r₀ auxiliaries clauses r = rows - r
 
--- there is room for row r
+-- there is row-room for row r
 within : (c : tie.In-loop Inv-loop μ-loop) → let l = c .before in let a = l .before .before .args in l .loop .r * a .n + a .n ≤ length (a .images .now)
-within c = let l = c .before in let s = l .before .before in room (s .args .n) (s .args .rows) (s .args .images .now) (s .pre .2) (l .loop .r) (omega arith)
+within c = let l = c .before in let s = l .before .before in row-room (s .args .n) (s .args .rows) (s .args .images .now) (s .pre .2) (l .loop .r) (omega arith)
 
 -- the sums with row r
 more : (c : tie.After-added-by Inv-loop μ-loop) → let l = c .before .before .before in

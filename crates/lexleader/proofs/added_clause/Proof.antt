@@ -4,10 +4,11 @@ use mathlib.Core.Path.{sym, ap, _∙_}
 use Prim.Native.Nat.{ℕ, _+_, _-_, _*_, _≤_, _<_}
 use mathlib.Core.List.{List, []}
 use lib.ListN.{length, getD}
-use Rattle.store.proofs.Formed.{rowAt}
+use Rattle.store.proofs.RowLaws.{part-is, row-room, row-size}
+use Rattle.store.specs.Stores.{rowAt}
 use Rattle.lexleader.specs.Made.{auxiliaries, rowClauses}
 use Rattle.lexleader.proofs.Bounds.{auxiliaries-most}
-use Rattle.lexleader.proofs.Left.{Adds, part-is, part-adds, room, row-size, Sought, sought-first, sought-within, sought-here, sought-later}
+use Rattle.lexleader.proofs.Left.{Adds, part-adds, Sought, sought-first, sought-within, sought-here, sought-later}
 use native.Mathlib.Omega.{arith}
 use Rattle.lexleader.proofs.Table.{holds-same}
 use Rattle.lexleader.proofs.added_clause.Statement.{statement}
@@ -19,13 +20,13 @@ Inv-loop images rows n q e₀ left₀ r₀ e left r = Sought n rows images q e l
 abbrev μ-loop : tie.MeasureT-loop
 μ-loop images rows n q e₀ left₀ r₀ e left r = rows - r
 
--- there is a row r, and room for it
+-- there is a row r, and row-room for it
 within : (c : tie.At-loop Inv-loop μ-loop) → let a = c .before .before .args in (c .loop .r < a .rows) × (c .loop .r * a .n + a .n ≤ length (a .images .now))
 within c =
     let s = c .before .before in
     let a = s .args in
     let there = sought-within (a .n) (a .rows) (a .images .now) (a .q) (c .loop .e) (c .loop .left) (c .loop .r) (c .loop .inv) in
-    (there, room (a .n) (a .rows) (a .images .now) (s .pre .2) (c .loop .r) there)
+    (there, row-room (a .n) (a .rows) (a .images .now) (s .pre .2) (c .loop .r) there)
 
 -- what row r adds
 tells : (c : tie.After-added-by Inv-loop μ-loop) → let l = c .before .before in

@@ -108,11 +108,11 @@ returns-3 c = let s = c .before .before .before .before .before .before .before 
 array-share-prefix-row-2 : tie.Need-array-share-prefix-row-2
 array-share-prefix-row-2 c = let f = facts (c .before .before .before .before .before .before .before .before .before .before .before .before .before .before .before .before .before .before .before) in omega (arith, filled-size (c .before .before .before .before .before .before .before .before .before), f .variables-fit)
 
-slice-aggregate-append-row : tie.Need-slice-aggregate-append-row
-slice-aggregate-append-row c = sym (filled-prefix (c .before .before .before .before .before .before .before .before .before .before))
+slice-aggregate-append : tie.Need-slice-aggregate-append
+slice-aggregate-append c = sym (filled-prefix (c .before .before .before .before .before .before .before .before .before .before))
 
-append-row-requires : tie.Need-append-row-requires
-append-row-requires c κs = let s = c .before .before .before .before .before .before .before .before .before .before .before .before .before .before .before .before .before .before .before .before in let f = facts s in (f .variables-fit, s .pre .1, filled-prefix (c .before .before .before .before .before .before .before .before .before .before), omega (arith, c .before .before .if2 .left))
+append-requires : tie.Need-append-requires
+append-requires c κs = let s = c .before .before .before .before .before .before .before .before .before .before .before .before .before .before .before .before .before .before .before .before in let f = facts s in (filled-prefix (c .before .before .before .before .before .before .before .before .before .before), omega (arith, c .before .before .if2 .left))
 
 same-length : tie.Need-same-length
 same-length c = search needs
@@ -123,7 +123,7 @@ returns-4 c =
     let n = s .args .counts .variables in
     let k = s .args .counts .rows in (
       sym (held (S s) _ _ (stated (c .before .before .before .before .before .before .before .before .before .before .before .before .before .before .before)) _ (missing-is (c .before .before .before .before .before .before .before)) (c .before .before .before .before .before .before .if1 .left) (c .before .before .before .before .before .if2 .left)),
-      c .before .before .append-row .ensures
+      c .before .before .append .ensures
           ∙ ap (λ (row : List ℕ). take (k * n) (s .args .images .now) ++ row ++ drop ((k + 1) * n) (s .args .images .now)) (filled-is (c .before .before .before .before .before .before .before .before .before .before .before .before .before)),
     )
 
@@ -148,7 +148,7 @@ offer-spec =
     mul-needed
     returns-3
     array-share-prefix-row-2
-    slice-aggregate-append-row
-    append-row-requires
+    slice-aggregate-append
+    append-requires
     same-length
     returns-4)

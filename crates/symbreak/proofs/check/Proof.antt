@@ -7,7 +7,7 @@ use Rattle.store.proofs.StandingLaws.{ready}
 use mathlib.Core.Bool.{true}
 use Prim.Native.Nat.{ℕ}
 use Rattle.packed.specs.Words.{isAssignment}
-use Rattle.emit.specs.Emit.{variablesOf}
+use Rattle.lexleader.specs.Store.{variablesOf}
 use Rattle.symbreak.proofs.ModelLaws.{check-unready, check-misformed, check-done}
 use borrow.Author.Needs.{needs}
 use Rattle.symbreak.proofs.check.Statement.{statement}

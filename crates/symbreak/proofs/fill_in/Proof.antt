@@ -8,7 +8,7 @@ use Rattle.store.proofs.StandingLaws.{ready}
 use mathlib.Core.Bool.{true}
 use Prim.Native.Nat.{ℕ, _+_, _/_}
 use Rattle.packed.specs.Words.{wordCount, isAssignment}
-use Rattle.emit.specs.Emit.{variablesOf}
+use Rattle.lexleader.specs.Store.{variablesOf}
 use Rattle.symbreak.proofs.ModelLaws.{works, fill-unready, fill-misformed, fill-short, fill-done}
 use borrow.Author.Needs.{needs}
 use Rattle.symbreak.proofs.fill_in.Statement.{statement}

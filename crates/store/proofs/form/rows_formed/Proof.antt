@@ -29,7 +29,7 @@ loop-holds : tie.Need-loop-holds Inv-loop μ-loop
 loop-holds c = let a = c .before .args in (omega arith, ap (allOf (isRow (a .n))) (sym (from-first (a .n) (a .k) (a .images .now))))
 
 row-requires : tie.Need-row-requires Inv-loop μ-loop
-row-requires c κs = let l = c .before in let s = l .before .before in let a = s .args in row-room (a .n) (a .k) (a .images .now) (l .loop .r) (s .pre .1) (omega arith)
+row-requires c κs = let l = c .before in let s = l .before .before in let a = s .args in row-room (a .n) (a .k) (a .images .now) (s .pre .1) (l .loop .r) (omega arith)
 
 is-row-requires : tie.Need-is-row-requires Inv-loop μ-loop
 is-row-requires c κs = search needs

@@ -27,7 +27,7 @@ module _ (s : Store) (well : wellFormed s ≡ true) where
     -- a literal has at most a sign, five digits and the space after it; the other two bytes are the closing 0 and the line feed
     pub line-most : length (clauseLine clause) ≤ 7 * length clause + 2
     line-most =
-        let literals : allOf (isLiteral (variablesOf s)) clause ≡ true = all-mem (allOf (isLiteral (variablesOf s))) m store-within s well in
+        let literals : allOf (isLiteral (variablesOf s)) clause ≡ true = all-mem (allOf (isLiteral (variablesOf s))) m (store-within s well) in
         line-within clause (λ i h. omega (arith, literal-high (variablesOf s) (getD clause i 0) (all-at (isLiteral (variablesOf s)) clause 0 literals i h), variables-most s well))
 
     -- so a buffer of SYMBREAK_MAX_LINE bytes has room for every line

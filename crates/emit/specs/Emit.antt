@@ -2,13 +2,12 @@
 use Prim.Native.Nat.{ℕ, _+_, _-_, _*_}
 use mathlib.Core.Bool.{cond}
 use mathlib.Core.List.{List, [], _∷_, _++_}
-use lib.ListN.{length, getD, drop}
+use lib.ListN.{length, getD}
 use lib.Dec.{eqb, leb, ltb}
+use Rattle.store.specs.Refusals.{Said, done, refused}
 use Rattle.store.specs.Stores.{Store, maxLiterals}
-use Rattle.store.specs.declared.refusal.Refusal.{Refusal}
 use Rattle.lexleader.specs.Store.{madeOf, variablesOf, clausesOf}
 use Rattle.render.specs.Text.{clauseLine, headerLine}
-use Rattle.emit.specs.declared.Written.{Written}
 
 -- the header line, and the line of clause q, from 1
 unfoldable pub headerOf : Store → List ℕ
@@ -33,21 +32,13 @@ maxHeader = 19
 abbrev pub maxLine : ℕ
 maxLine = 7 * maxLiterals + 2
 
--- 23: "an output slice too short (place: the length needed)"
-unfoldable pub writtenIf : List ℕ → ℕ → Written
-writtenIf line room = cond (leb (length line) room) (Written.Bytes (length line)) (Written.Refused (Refusal.TooShort (length line)))
+-- 23: "an output slice too short (place: the length needed)"; a line that fits is written, "returning its byte length"
+unfoldable pub writtenIf : List ℕ → ℕ → Said ℕ
+writtenIf line room = cond (leb (length line) room) (done (length line)) (refused 23 (length line))
 
 -- the header, and clause q: 13, "clause number 0 or above M", before 23
-unfoldable pub headerBy : Store → ℕ → Written
+unfoldable pub headerBy : Store → ℕ → Said ℕ
 headerBy s room = writtenIf (headerOf s) room
 
-unfoldable pub clauseBy : Store → ℕ → ℕ → Written
-clauseBy s q room =
-    cond (eqb q 0) (Written.Refused Refusal.NoSuchClause)
-    (cond (ltb (clausesOf s) q) (Written.Refused Refusal.NoSuchClause)
-    (writtenIf (lineOf s q) room))
-
--- the buffer afterwards: the line in front, and the bytes past it as they were
-abbrev pub bufferAfter : Written → List ℕ → List ℕ → List ℕ
-bufferAfter (Written.Bytes k) line out = line ++ drop (length line) out
-bufferAfter (Written.Refused r) line out = out
+unfoldable pub clauseBy : Store → ℕ → ℕ → Said ℕ
+clauseBy s q room = cond (eqb q 0) (refused 13 0) (cond (ltb (clausesOf s) q) (refused 13 0) (writtenIf (lineOf s q) room))

@@ -1,42 +1,33 @@
-// The made formula as text (document 01, "Made formula"): the header and clause q, each into a lent buffer of a well-formed store's host.
+// The made formula as text (document 01, "Made formula"): the header, and clause q of a well-formed store, each as one line at the start of a lent buffer. A line is
+// measured before it is written, so that a refusal has written nothing.
+use lexleader::Totals;
+use store::answer::Answer;
 use store::record::Record;
 use store::refusal::Refusal;
 ghost use mathlib.Core.Path.{_≡_};
 ghost use mathlib.Core.Bool.{true};
-ghost use Prim.Native.Nat.{_≤_, _<_};
-ghost use lib.ListN.{length};
-ghost use Rattle.store.specs.Stores.{lent, wellFormed, maxLiterals};
-ghost use Rattle.render.specs.Text.{clauseLine};
-ghost use Rattle.lexleader.specs.Store.{variablesOf, clausesOf};
-ghost use Rattle.emit.specs.Emit.{headerOf, lineOf, headerBy, clauseBy, writtenIf, bufferAfter};
+ghost use Prim.Native.Nat.{_+_, _-_, _≤_, _<_};
+ghost use mathlib.Core.List.{[]};
+ghost use lib.ListN.{length, getD};
+ghost use Rattle.store.specs.Refusals.{said, bufferLeft};
+ghost use Rattle.store.specs.Stores.{stored, rowsOf, wellFormed, FormedRows, maxLiterals};
+ghost use Rattle.lexleader.specs.Made.{rowsClauses};
+ghost use Rattle.render.specs.Text.{clauseLine, headerLine};
+ghost use Rattle.emit.specs.Emit.{lineOf, clauseBy, writtenIf};
 
-// How many bytes were written, or a refusal.
-pub enum Written {
-    Bytes(usize),
-    Refused(Refusal),
-}
-
-// Writes the header line.
-pub fn header(
-    counts: Record,
-    literals: &[u16],
-    ends: &[u16],
-    images: &[u16],
-    out: &mut [u8],
-) -> Written
-    requires { ⌜ wellFormed (lent counts (now literals) (now ends) (now images)) ≡ true ⌝ }
-    ensures answer { λ r. ⌜ r ≡ headerBy (lent counts (now (literals .entry)) (now (ends .entry)) (now (images .entry))) (length (now (out .entry))) ⌝ }
-    ensures buffer { λ r. ⌜ now (out .exit) ≡ bufferAfter r (headerOf (lent counts (now (literals .entry)) (now (ends .entry)) (now (images .entry)))) (now (out .entry)) ⌝ }
+// Writes the header line of N variables and M clauses.
+pub fn header(total: Totals, out: &mut [u8]) -> Answer
+    ensures answer { λ r. ⌜ said r ≡ writtenIf (headerLine (total .variables) (total .clauses)) (length (now (out .entry))) ⌝ }
+    ensures buffer { λ r. ⌜ now (out .exit) ≡ bufferLeft (said r) (headerLine (total .variables) (total .clauses)) (now (out .entry)) ⌝ }
 {
-    let total = lexleader::totals_of(counts, images);
     let variables = total.variables as u64;
     let clauses = total.clauses as u64;
     let needed = render::header_length(variables, clauses);
     if out.len() < needed {
-        return Written::Refused(Refusal::TooShort(needed));
+        return Answer::Refused(Refusal::TooShort(needed));
     }
     render::put_header(out, 0, variables, clauses);
-    Written::Bytes(needed)
+    Answer::Value(needed as u64)
 }
 
 // Writes the line of clause q, from 1.
@@ -47,88 +38,69 @@ pub fn clause(
     images: &[u16],
     q: usize,
     out: &mut [u8],
-) -> Written
-    requires { ⌜ wellFormed (lent counts (now literals) (now ends) (now images)) ≡ true ⌝ }
-    ensures answer { λ r. ⌜ r ≡ clauseBy (lent counts (now (literals .entry)) (now (ends .entry)) (now (images .entry))) q (length (now (out .entry))) ⌝ }
-    ensures buffer { λ r. ⌜ now (out .exit) ≡ bufferAfter r (lineOf (lent counts (now (literals .entry)) (now (ends .entry)) (now (images .entry))) q) (now (out .entry)) ⌝ }
+) -> Answer
+    requires { ⌜ wellFormed (stored counts literals ends images) ≡ true ⌝ }
+    ensures answer { λ r. let s = stored counts (literals .entry) (ends .entry) (images .entry) in
+        ⌜ said r ≡ clauseBy s q (length (now (out .entry))) ⌝ }
+    ensures buffer { λ r. let s = stored counts (literals .entry) (ends .entry) (images .entry) in
+        ⌜ now (out .exit) ≡ bufferLeft (said r) (lineOf s q) (now (out .entry)) ⌝ }
 {
     if q == 0 {
-        return Written::Refused(Refusal::NoSuchClause);
+        return Answer::Refused(Refusal::NoSuchClause);
     }
     let total = lexleader::totals_of(counts, images);
     if total.clauses < q {
-        return Written::Refused(Refusal::NoSuchClause);
+        return Answer::Refused(Refusal::NoSuchClause);
     }
-    if q <= counts.clauses {
-        return plain(counts, literals, ends, images, q, out);
+    let c = q - 1;
+    if c < counts.clauses {
+        return write_stored(
+            store::clauses::clause(literals, ends, counts.clauses, c),
+            out,
+        );
     }
-    added(counts, literals, ends, images, q, out)
+    added(counts, images, c - counts.clauses, out)
 }
 
-// A clause of the plain formula, 1 to m.
-fn plain(
-    counts: Record,
-    literals: &[u16],
-    ends: &[u16],
-    images: &[u16],
-    q: usize,
-    out: &mut [u8],
-) -> Written
-    requires { ⌜ (wellFormed (lent counts (now literals) (now ends) (now images)) ≡ true) × (1 ≤ q) × (q ≤ counts .clauses) ⌝ }
-    ensures answer { λ r. ⌜ r ≡ writtenIf (lineOf (lent counts (now (literals .entry)) (now (ends .entry)) (now (images .entry))) q) (length (now (out .entry))) ⌝ }
-    ensures buffer { λ r. ⌜ now (out .exit) ≡ bufferAfter r (lineOf (lent counts (now (literals .entry)) (now (ends .entry)) (now (images .entry))) q) (now (out .entry)) ⌝ }
+// A clause that the rows add, by its number among those, from 0.
+fn added(counts: Record, images: &[u16], c: usize, out: &mut [u8]) -> Answer
+    requires { let rows = rowsOf (counts .variables) (counts .rows) (now images) in
+        ⌜ FormedRows (counts .variables) (counts .rows) (now images) × (c < length (rowsClauses (counts .variables + 1) rows)) ⌝ }
+    ensures answer { λ r. let rows = rowsOf (counts .variables) (counts .rows) (now (images .entry)) in
+        ⌜ said r ≡ writtenIf (clauseLine (getD (rowsClauses (counts .variables + 1) rows) c [])) (length (now (out .entry))) ⌝ }
+    ensures buffer { λ r. let rows = rowsOf (counts .variables) (counts .rows) (now (images .entry)) in
+        ⌜ now (out .exit) ≡ bufferLeft (said r) (clauseLine (getD (rowsClauses (counts .variables + 1) rows) c [])) (now (out .entry)) ⌝ }
 {
-    let start = store::clauses::literal_count(ends, q - 1);
-    let end = store::clauses::literal_count(ends, q);
-    write_stored(&literals[start..end], out)
-}
-
-// A clause that the rows add, m + 1 to M.
-fn added(
-    counts: Record,
-    literals: &[u16],
-    ends: &[u16],
-    images: &[u16],
-    q: usize,
-    out: &mut [u8],
-) -> Written
-    requires { ⌜ (wellFormed (lent counts (now literals) (now ends) (now images)) ≡ true) × (counts .clauses < q) × (q ≤ clausesOf (lent counts (now literals) (now ends) (now images))) ⌝ }
-    ensures answer { λ r. ⌜ r ≡ writtenIf (lineOf (lent counts (now (literals .entry)) (now (ends .entry)) (now (images .entry))) q) (length (now (out .entry))) ⌝ }
-    ensures buffer { λ r. ⌜ now (out .exit) ≡ bufferAfter r (lineOf (lent counts (now (literals .entry)) (now (ends .entry)) (now (images .entry))) q) (now (out .entry)) ⌝ }
-{
-    let clause = lexleader::added_clause(
-        images,
-        counts.rows,
-        counts.variables,
-        q - counts.clauses - 1,
-    );
+    let clause = lexleader::added_clause(images, counts.rows, counts.variables, c);
     let codes = clause.literals;
     let count = clause.count;
     write_codes(&codes[..count], out)
 }
 
-fn write_stored(clause: &[u16], out: &mut [u8]) -> Written
+// A clause of stored codes.
+fn write_stored(clause: &[u16], out: &mut [u8]) -> Answer
     requires { ⌜ length (now clause) ≤ maxLiterals ⌝ }
-    ensures answer { λ r. ⌜ r ≡ writtenIf (clauseLine (now (clause .entry))) (length (now (out .entry))) ⌝ }
-    ensures buffer { λ r. ⌜ now (out .exit) ≡ bufferAfter r (clauseLine (now (clause .entry))) (now (out .entry)) ⌝ }
+    ensures answer { λ r. ⌜ said r ≡ writtenIf (clauseLine (now (clause .entry))) (length (now (out .entry))) ⌝ }
+    ensures buffer { λ r. ⌜ now (out .exit) ≡ bufferLeft (said r) (clauseLine (now (clause .entry))) (now (out .entry)) ⌝ }
 {
     let needed = render::stored_length(clause);
     if out.len() < needed {
-        return Written::Refused(Refusal::TooShort(needed));
+        return Answer::Refused(Refusal::TooShort(needed));
     }
     render::put_stored(out, 0, clause);
-    Written::Bytes(needed)
+    Answer::Value(needed as u64)
 }
 
-fn write_codes(clause: &[u32], out: &mut [u8]) -> Written
+// A clause of any codes.
+fn write_codes(clause: &[u32], out: &mut [u8]) -> Answer
     requires { ⌜ length (now clause) ≤ maxLiterals ⌝ }
-    ensures answer { λ r. ⌜ r ≡ writtenIf (clauseLine (now (clause .entry))) (length (now (out .entry))) ⌝ }
-    ensures buffer { λ r. ⌜ now (out .exit) ≡ bufferAfter r (clauseLine (now (clause .entry))) (now (out .entry)) ⌝ }
+    ensures answer { λ r. ⌜ said r ≡ writtenIf (clauseLine (now (clause .entry))) (length (now (out .entry))) ⌝ }
+    ensures buffer { λ r. ⌜ now (out .exit) ≡ bufferLeft (said r) (clauseLine (now (clause .entry))) (now (out .entry)) ⌝ }
 {
     let needed = render::clause_length(clause);
     if out.len() < needed {
-        return Written::Refused(Refusal::TooShort(needed));
+        return Answer::Refused(Refusal::TooShort(needed));
     }
     render::put_clause(out, 0, clause);
-    Written::Bytes(needed)
+    Answer::Value(needed as u64)
 }

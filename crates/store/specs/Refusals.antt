@@ -1,5 +1,8 @@
 -- Refusals by document 01's numbers and places ("Turned back by what was lent", "Turned back by the store"). Assumes nothing.
 use Prim.Native.Nat.{ℕ}
+use mathlib.Core.List.{List, _++_}
+use lib.ListN.{length, drop}
+use Rattle.store.specs.declared.answer.Answer.{Answer}
 use Rattle.store.specs.declared.refusal.Refusal.{Refusal}
 
 -- What a call says in document 01's terms: its values, or the number and the place of a refusal.
@@ -53,3 +56,13 @@ placeOf (Refusal.TooShort needed) = needed
 -- what a refusal says
 abbrev pub saidRefused : {Values : Type 0} → Refusal → Said Values
 saidRefused r = refused (numberOf r) (placeOf r)
+
+-- what an answer with one value says
+abbrev pub said : Answer → Said ℕ
+said (Answer.Value value) = done value
+said (Answer.Refused r) = saidRefused r
+
+-- a lent buffer after a call that writes: what it wrote in front of what was past that, or all as it was where it refuses
+abbrev pub bufferLeft : Said ℕ → List ℕ → List ℕ → List ℕ
+bufferLeft (done value) front out = front ++ drop (length front) out
+bufferLeft (refused number place) front out = out

@@ -2,13 +2,13 @@
 -- the numbers and the values of its cases. Assumes nothing.
 use Prim.Native.Nat.{ℕ}
 use mathlib.Core.Bool.{true, cond, _&&_}
-use mathlib.Core.List.{List, _++_}
-use lib.ListN.{length, drop}
+use mathlib.Core.List.{List}
+use lib.ListN.{length}
 use lib.Dec.{eqb, leb}
 use Rattle.packed.specs.Words.{maxWords, bitsOf, wordCount, isAssignment}
 use Rattle.packed.specs.Order.{allBits, firstDifference}
 use Rattle.quality.specs.Efficiency.{hasEfficiency, efficiencyOf}
-use Rattle.store.specs.Refusals.{Said, done, refused, saidRefused}
+use Rattle.store.specs.Refusals.{Said, done, refused, saidRefused, bufferLeft}
 use Rattle.store.specs.Stores.{Store, lent, withRow, heldRows, standingOf, maxRows}
 use Rattle.store.specs.declared.form.Standing.{Standing}
 use Rattle.store.specs.declared.record.Record.{Record}
@@ -20,14 +20,10 @@ use Rattle.offering.specs.declared.Offered.{Offered}
 use Rattle.lexleader.specs.Descent.{descend}
 use Rattle.lexleader.specs.Store.{variablesOf}
 use Rattle.emit.specs.Emit.{headerOf, lineOf, headerBy, clauseBy}
-use Rattle.emit.specs.declared.Written.{Written}
 use Rattle.filling.specs.Written.{filledWords}
 use Rattle.checking.specs.Checking.{Verdict, verdictOf, firstFalse}
 use Rattle.descent.specs.Words.{Outcome, answerOf, outcomeOf, descended}
-use Rattle.symbreak.specs.declared.Compared.{Compared}
 use Rattle.symbreak.specs.declared.Descent.{Descent}
-use Rattle.symbreak.specs.declared.Figure.{Figure}
-use Rattle.symbreak.specs.declared.Filled.{Filled}
 use Rattle.symbreak.specs.declared.Finding.{Finding}
 
 -- a call that answers without a value
@@ -81,42 +77,25 @@ offerStore s names values = storeOffered (offerSays s names values) s (rowFor s 
 
 -- ---- header and clause q: "each returning its byte length; bytes past it stay". 20, 21, then 13 for a clause, then 23
 
-abbrev pub saidWritten : Written → Said ℕ
-saidWritten (Written.Bytes bytes) = done bytes
-saidWritten (Written.Refused r) = saidRefused r
-
--- the buffer afterwards: the line in front of what was past it, or as it was where the call refuses
-abbrev pub bufferLeft : Said ℕ → List ℕ → List ℕ → List ℕ
-bufferLeft (done k) line out = line ++ drop (length line) out
-bufferLeft (refused number place) line out = out
-
 unfoldable pub headerSays : Store → ℕ → Said ℕ
-headerSays s room = onStore (standingOf s) (saidWritten (headerBy s room))
+headerSays s room = onStore (standingOf s) (headerBy s room)
 
 unfoldable pub headerLeaves : Store → List ℕ → List ℕ
 headerLeaves s out = bufferLeft (headerSays s (length out)) (headerOf s) out
 
 unfoldable pub clauseSays : Store → ℕ → ℕ → Said ℕ
-clauseSays s q room = onStore (standingOf s) (saidWritten (clauseBy s q room))
+clauseSays s q room = onStore (standingOf s) (clauseBy s q room)
 
 unfoldable pub clauseLeaves : Store → ℕ → List ℕ → List ℕ
 clauseLeaves s q out = bufferLeft (clauseSays s q (length out)) (lineOf s q) out
 
 -- ---- compare: "one call gives that variable, or 0 when equal, and refuses unequal lengths or more than 519 words .. with 12", place 0
 
-abbrev pub saidCompared : Compared → Said ℕ
-saidCompared (Compared.First variable) = done variable
-saidCompared (Compared.Refused r) = saidRefused r
-
 unfoldable pub compareSays : List ℕ → List ℕ → Said ℕ
 compareSays a b =
     cond (eqb (length a) (length b) && leb (length a) maxWords) (done (firstDifference (allBits a) (allBits b))) (refused 12 0)
 
 -- ---- fill in: 20, 21, 12, 23. It answers how many words it wrote; "Words after it stay."
-
-abbrev pub saidFilled : Filled → Said ℕ
-saidFilled (Filled.Words words) = done words
-saidFilled (Filled.Refused r) = saidRefused r
 
 unfoldable pub fillSays : Store → List ℕ → ℕ → Said ℕ
 fillSays s a room =
@@ -154,10 +133,6 @@ unfoldable pub descendLeaves : Store → List ℕ → ℕ → List ℕ
 descendLeaves s a limit = wordsLeft (descendSays s a limit) (descended (s .counts .variables) limit (heldRows s) a) a
 
 -- ---- efficiency: 14, place 0
-
-abbrev pub saidFigure : Figure → Said ℕ
-saidFigure (Figure.Hundredths figure) = done figure
-saidFigure (Figure.Refused r) = saidRefused r
 
 unfoldable pub efficiencySays : ℕ → ℕ → ℕ → Said ℕ
 efficiencySays labelled unlabelled allowed =

@@ -1,25 +1,23 @@
 // The calls for C (include/symbreak.h): numbers and slices in, structs of numbers out. A slice passes as a pointer and a length.
-use crate::Compared;
 use crate::Descent;
-use crate::Figure;
-use crate::Filled;
 use crate::Finding;
 use checking::Checked;
 use descent::Descended;
-use emit::Written;
 use offering::Offered;
 use opening::Opened;
+use store::answer::Answer;
 use store::record::Record;
 use store::refusal::Refusal;
 ghost use mathlib.Core.Path.{_≡_};
 ghost use mathlib.Core.Bool.{cond};
 ghost use mathlib.Core.List.{[]};
 ghost use lib.ListN.{length};
-ghost use Rattle.store.specs.Stores.{lent, closedRecord};
-ghost use Rattle.store.specs.Refusals.{done, saidRefused};
+ghost use Rattle.store.specs.Refusals.{done, said};
+ghost use Rattle.store.specs.Stores.{lent, stored, closedRecord};
 ghost use Rattle.checking.specs.Checking.{verdictOf};
 ghost use Rattle.descent.specs.Words.{outcomeOf};
-ghost use Rattle.symbreak.specs.Calls.{openSays, openStore, offerSays, offerStore, headerSays, headerLeaves, clauseSays, clauseLeaves, fillSays, fillLeaves, checkSays, descendSays, descendLeaves, compareSays, efficiencySays};
+ghost use Rattle.symbreak.specs.Calls.{openSays, openStore, offerSays, offerStore, headerSays, headerLeaves, clauseSays, clauseLeaves};
+ghost use Rattle.symbreak.specs.Calls.{fillSays, fillLeaves, checkSays, descendSays, descendLeaves, compareSays, efficiencySays};
 ghost use Rattle.symbreak.specs.Exports.{recordOf, cRecord, cAnswer, cChecked, cDescent, cStored, cStoredAt};
 
 #[repr(C)]
@@ -72,17 +70,20 @@ pub extern "C" fn symbreak_open(
     literals: &mut [u16],
     ends: &mut [u16],
 ) -> CStored
-    ensures says { λ r. ⌜ r ≡ cStored (openSays (lent (recordOf variables clauses rows flag) (now (literals .entry)) (now (ends .entry)) []) (now (text .entry))) (openStore (lent (recordOf variables clauses rows flag) (now (literals .entry)) (now (ends .entry)) []) (now (text .entry)) .counts) ⌝ }
-    ensures literals { λ _. ⌜ now (literals .exit) ≡ openStore (lent (recordOf variables clauses rows flag) (now (literals .entry)) (now (ends .entry)) []) (now (text .entry)) .literals ⌝ }
-    ensures ends { λ _. ⌜ now (ends .exit) ≡ openStore (lent (recordOf variables clauses rows flag) (now (literals .entry)) (now (ends .entry)) []) (now (text .entry)) .ends ⌝ }
+    ensures says { λ r. let s = lent (recordOf variables clauses rows flag) (now (literals .entry)) (now (ends .entry)) [] in
+        ⌜ r ≡ cStored (openSays s (now (text .entry))) (openStore s (now (text .entry)) .counts) ⌝ }
+    ensures literals { λ _. let s = lent (recordOf variables clauses rows flag) (now (literals .entry)) (now (ends .entry)) [] in
+        ⌜ now (literals .exit) ≡ openStore s (now (text .entry)) .literals ⌝ }
+    ensures ends { λ _. let s = lent (recordOf variables clauses rows flag) (now (literals .entry)) (now (ends .entry)) [] in
+        ⌜ now (ends .exit) ≡ openStore s (now (text .entry)) .ends ⌝ }
 {
     let counts = record_of(variables, clauses, rows, flag);
     let r = crate::open(counts, text, literals, ends);
     let answer = r.answer;
     let after = r.counts;
     match answer {
-        Opened::Open(_, _) => stored(0, 0, after),
-        Opened::Refused(refusal) => stored(refusal.number(), refusal.place() as u64, after),
+        Opened::Open(_, _) => stored_at(0, 0, after),
+        Opened::Refused(refusal) => stored_at(refusal.number(), refusal.place() as u64, after),
     }
 }
 
@@ -98,16 +99,18 @@ pub extern "C" fn symbreak_offer(
     names: &[u8],
     values: &[u8],
 ) -> CStored
-    ensures says { λ r. ⌜ r ≡ cStored (offerSays (lent (recordOf variables clauses rows flag) (now (literals .entry)) (now (ends .entry)) (now (images .entry))) (now (names .entry)) (now (values .entry))) (offerStore (lent (recordOf variables clauses rows flag) (now (literals .entry)) (now (ends .entry)) (now (images .entry))) (now (names .entry)) (now (values .entry)) .counts) ⌝ }
-    ensures images { λ _. ⌜ now (images .exit) ≡ offerStore (lent (recordOf variables clauses rows flag) (now (literals .entry)) (now (ends .entry)) (now (images .entry))) (now (names .entry)) (now (values .entry)) .images ⌝ }
+    ensures says { λ r. let s = stored (recordOf variables clauses rows flag) (literals .entry) (ends .entry) (images .entry) in
+        ⌜ r ≡ cStored (offerSays s (now (names .entry)) (now (values .entry))) (offerStore s (now (names .entry)) (now (values .entry)) .counts) ⌝ }
+    ensures images { λ _. let s = stored (recordOf variables clauses rows flag) (literals .entry) (ends .entry) (images .entry) in
+        ⌜ now (images .exit) ≡ offerStore s (now (names .entry)) (now (values .entry)) .images ⌝ }
 {
     let counts = record_of(variables, clauses, rows, flag);
     let r = crate::offer(counts, literals, ends, images, names, values);
     let answer = r.answer;
     let after = r.counts;
     match answer {
-        Offered::Accepted => stored(0, 0, after),
-        Offered::Refused(refusal) => stored(refusal.number(), refusal.place() as u64, after),
+        Offered::Accepted => stored_at(0, 0, after),
+        Offered::Refused(refusal) => stored_at(refusal.number(), refusal.place() as u64, after),
     }
 }
 
@@ -122,14 +125,13 @@ pub extern "C" fn symbreak_header(
     images: &[u16],
     out: &mut [u8],
 ) -> CAnswer
-    ensures says { λ r. ⌜ r ≡ cAnswer (headerSays (lent (recordOf variables clauses rows flag) (now (literals .entry)) (now (ends .entry)) (now (images .entry))) (length (now (out .entry)))) ⌝ }
-    ensures leaves { λ _. ⌜ now (out .exit) ≡ headerLeaves (lent (recordOf variables clauses rows flag) (now (literals .entry)) (now (ends .entry)) (now (images .entry))) (now (out .entry)) ⌝ }
+    ensures says { λ r. let s = stored (recordOf variables clauses rows flag) (literals .entry) (ends .entry) (images .entry) in
+        ⌜ r ≡ cAnswer (headerSays s (length (now (out .entry)))) ⌝ }
+    ensures leaves { λ _. let s = stored (recordOf variables clauses rows flag) (literals .entry) (ends .entry) (images .entry) in
+        ⌜ now (out .exit) ≡ headerLeaves s (now (out .entry)) ⌝ }
 {
     let counts = record_of(variables, clauses, rows, flag);
-    match crate::header(counts, literals, ends, images, out) {
-        Written::Bytes(length) => answer(length as u64),
-        Written::Refused(r) => refusal(r),
-    }
+    c_answer(crate::header(counts, literals, ends, images, out))
 }
 
 #[no_mangle]
@@ -144,14 +146,13 @@ pub extern "C" fn symbreak_clause(
     q: u64,
     out: &mut [u8],
 ) -> CAnswer
-    ensures says { λ r. ⌜ r ≡ cAnswer (clauseSays (lent (recordOf variables clauses rows flag) (now (literals .entry)) (now (ends .entry)) (now (images .entry))) q (length (now (out .entry)))) ⌝ }
-    ensures leaves { λ _. ⌜ now (out .exit) ≡ clauseLeaves (lent (recordOf variables clauses rows flag) (now (literals .entry)) (now (ends .entry)) (now (images .entry))) q (now (out .entry)) ⌝ }
+    ensures says { λ r. let s = stored (recordOf variables clauses rows flag) (literals .entry) (ends .entry) (images .entry) in
+        ⌜ r ≡ cAnswer (clauseSays s q (length (now (out .entry)))) ⌝ }
+    ensures leaves { λ _. let s = stored (recordOf variables clauses rows flag) (literals .entry) (ends .entry) (images .entry) in
+        ⌜ now (out .exit) ≡ clauseLeaves s q (now (out .entry)) ⌝ }
 {
     let counts = record_of(variables, clauses, rows, flag);
-    match crate::clause(counts, literals, ends, images, q as usize, out) {
-        Written::Bytes(length) => answer(length as u64),
-        Written::Refused(r) => refusal(r),
-    }
+    c_answer(crate::clause(counts, literals, ends, images, q as usize, out))
 }
 
 #[no_mangle]
@@ -166,14 +167,13 @@ pub extern "C" fn symbreak_fill_in(
     a: &[u64],
     out: &mut [u64],
 ) -> CAnswer
-    ensures says { λ r. ⌜ r ≡ cAnswer (fillSays (lent (recordOf variables clauses rows flag) (now (literals .entry)) (now (ends .entry)) (now (images .entry))) (now (a .entry)) (length (now (out .entry)))) ⌝ }
-    ensures leaves { λ _. ⌜ now (out .exit) ≡ fillLeaves (lent (recordOf variables clauses rows flag) (now (literals .entry)) (now (ends .entry)) (now (images .entry))) (now (a .entry)) (now (out .entry)) ⌝ }
+    ensures says { λ r. let s = stored (recordOf variables clauses rows flag) (literals .entry) (ends .entry) (images .entry) in
+        ⌜ r ≡ cAnswer (fillSays s (now (a .entry)) (length (now (out .entry)))) ⌝ }
+    ensures leaves { λ _. let s = stored (recordOf variables clauses rows flag) (literals .entry) (ends .entry) (images .entry) in
+        ⌜ now (out .exit) ≡ fillLeaves s (now (a .entry)) (now (out .entry)) ⌝ }
 {
     let counts = record_of(variables, clauses, rows, flag);
-    match crate::fill_in(counts, literals, ends, images, a, out) {
-        Filled::Words(words) => answer(words as u64),
-        Filled::Refused(r) => refusal(r),
-    }
+    c_answer(crate::fill_in(counts, literals, ends, images, a, out))
 }
 
 #[no_mangle]
@@ -187,12 +187,13 @@ pub extern "C" fn symbreak_check(
     images: &[u16],
     a: &[u64],
 ) -> CAnswer
-    ensures { λ r. ⌜ r ≡ cChecked (checkSays (lent (recordOf variables clauses rows flag) (now (literals .entry)) (now (ends .entry)) (now (images .entry))) (now (a .entry))) ⌝ }
+    ensures { λ r. let s = stored (recordOf variables clauses rows flag) (literals .entry) (ends .entry) (images .entry) in
+        ⌜ r ≡ cChecked (checkSays s (now (a .entry))) ⌝ }
 {
     let counts = record_of(variables, clauses, rows, flag);
     match crate::check(counts, literals, ends, images, a) {
         Finding::Found(found) => c_checked(found),
-        Finding::Refused(r) => refusal(r),
+        Finding::Refused(r) => c_answer(Answer::Refused(r)),
     }
 }
 
@@ -208,8 +209,10 @@ pub extern "C" fn symbreak_descend(
     a: &mut [u64],
     limit: u64,
 ) -> CDescent
-    ensures says { λ r. ⌜ r ≡ cDescent (descendSays (lent (recordOf variables clauses rows flag) (now (literals .entry)) (now (ends .entry)) (now (images .entry))) (now (a .entry)) limit) ⌝ }
-    ensures leaves { λ _. ⌜ now (a .exit) ≡ descendLeaves (lent (recordOf variables clauses rows flag) (now (literals .entry)) (now (ends .entry)) (now (images .entry))) (now (a .entry)) limit ⌝ }
+    ensures says { λ r. let s = stored (recordOf variables clauses rows flag) (literals .entry) (ends .entry) (images .entry) in
+        ⌜ r ≡ cDescent (descendSays s (now (a .entry)) limit) ⌝ }
+    ensures leaves { λ _. let s = stored (recordOf variables clauses rows flag) (literals .entry) (ends .entry) (images .entry) in
+        ⌜ now (a .exit) ≡ descendLeaves s (now (a .entry)) limit ⌝ }
 {
     let counts = record_of(variables, clauses, rows, flag);
     match crate::descend(counts, literals, ends, images, a, limit) {
@@ -227,39 +230,31 @@ pub extern "C" fn symbreak_descend(
 pub extern "C" fn symbreak_compare(a: &[u64], b: &[u64]) -> CAnswer
     ensures { λ r. ⌜ r ≡ cAnswer (compareSays (now (a .entry)) (now (b .entry))) ⌝ }
 {
-    match crate::compare(a, b) {
-        Compared::First(variable) => answer(variable as u64),
-        Compared::Refused(r) => refusal(r),
-    }
+    c_answer(crate::compare(a, b))
 }
 
 #[no_mangle]
 pub extern "C" fn symbreak_efficiency(labelled: u64, unlabelled: u64, allowed: u64) -> CAnswer
     ensures { λ r. ⌜ r ≡ cAnswer (efficiencySays labelled unlabelled allowed) ⌝ }
 {
-    match crate::efficiency(labelled, unlabelled, allowed) {
-        Figure::Hundredths(figure) => answer(figure),
-        Figure::Refused(r) => refusal(r),
-    }
+    c_answer(crate::efficiency(labelled, unlabelled, allowed))
 }
 
-fn answer(value: u64) -> CAnswer
-    ensures { λ r. ⌜ r ≡ cAnswer (done value) ⌝ }
+// An answer with one value, as numbers.
+fn c_answer(answer: Answer) -> CAnswer
+    ensures { λ r. ⌜ r ≡ cAnswer (said answer) ⌝ }
 {
-    CAnswer {
-        refusal: 0,
-        place: 0,
-        value: value,
-    }
-}
-
-fn refusal(r: Refusal) -> CAnswer
-    ensures { λ a. ⌜ a ≡ cAnswer (saidRefused r) ⌝ }
-{
-    CAnswer {
-        refusal: r.number(),
-        place: r.place() as u64,
-        value: 0,
+    match answer {
+        Answer::Value(value) => CAnswer {
+            refusal: 0,
+            place: 0,
+            value: value,
+        },
+        Answer::Refused(r) => CAnswer {
+            refusal: r.number(),
+            place: r.place() as u64,
+            value: 0,
+        },
     }
 }
 
@@ -278,8 +273,8 @@ fn c_checked(found: Checked) -> CAnswer
     ensures { λ r. ⌜ r ≡ cChecked (done (verdictOf found)) ⌝ }
 {
     match found {
-        Checked::Satisfied => answer(0),
-        Checked::Falsified(clause) => answer(clause as u64),
+        Checked::Satisfied => c_answer(Answer::Value(0)),
+        Checked::Falsified(clause) => c_answer(Answer::Value(clause as u64)),
     }
 }
 
@@ -313,7 +308,7 @@ fn record_of(variables: u64, clauses: u64, rows: u64, flag: u64) -> Record
     }
 }
 
-fn stored(refusal: u32, place: u64, r: Record) -> CStored
+fn stored_at(refusal: u32, place: u64, r: Record) -> CStored
     ensures { λ c. ⌜ c ≡ cStoredAt refusal place r ⌝ }
 {
     CStored {

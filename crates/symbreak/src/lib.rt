@@ -2,18 +2,21 @@
 // anything of its caller. `exports` has them for C.
 use checking::Checked;
 use descent::Descended;
-use emit::Written;
 use offering::Offered;
 use opening::Opened;
+use store::answer::Answer;
 use store::form::Standing;
 use store::record::Record;
 use store::refusal::Refusal;
 ghost use mathlib.Core.Path.{_≡_};
 ghost use mathlib.Core.List.{[]};
 ghost use lib.ListN.{length};
-ghost use Rattle.store.specs.Stores.{lent, closedRecord};
+ghost use Rattle.store.specs.Refusals.{said};
+ghost use Rattle.store.specs.Stores.{lent, stored, closedRecord};
 ghost use Rattle.packed.specs.Order.{part, lesserOf};
-ghost use Rattle.symbreak.specs.Calls.{saidOpened, openSays, openStore, saidOffered, offerSays, offerStore, saidWritten, headerSays, headerLeaves, clauseSays, clauseLeaves, saidFilled, fillSays, fillLeaves, saidFinding, checkSays, saidDescent, descendSays, descendLeaves, saidCompared, compareSays, saidFigure, efficiencySays};
+ghost use Rattle.symbreak.specs.Calls.{saidOpened, openSays, openStore, saidOffered, offerSays, offerStore};
+ghost use Rattle.symbreak.specs.Calls.{headerSays, headerLeaves, clauseSays, clauseLeaves, fillSays, fillLeaves, saidFinding, checkSays};
+ghost use Rattle.symbreak.specs.Calls.{saidDescent, descendSays, descendLeaves, compareSays, efficiencySays};
 
 pub mod exports;
 
@@ -29,12 +32,6 @@ pub struct Offering {
     pub counts: Record,
 }
 
-// How many words were written, or a refusal.
-pub enum Filled {
-    Words(usize),
-    Refused(Refusal),
-}
-
 // What checking an assignment found.
 pub enum Finding {
     Found(Checked),
@@ -44,18 +41,6 @@ pub enum Finding {
 // How a descent ends.
 pub enum Descent {
     Ended(Descended),
-    Refused(Refusal),
-}
-
-// The variable at which two assignments first differ, 0 where they are equal.
-pub enum Compared {
-    First(usize),
-    Refused(Refusal),
-}
-
-// Hundredths of a percent.
-pub enum Figure {
-    Hundredths(u64),
     Refused(Refusal),
 }
 
@@ -70,8 +55,10 @@ pub fn new_record() -> Record
 
 // Opens a formula: the text replaces what the store held, and its rows are dropped.
 pub fn open(counts: Record, text: &[u8], literals: &mut [u16], ends: &mut [u16]) -> Opening
-    ensures says { λ r. ⌜ saidOpened (r .answer) ≡ openSays (lent counts (now (literals .entry)) (now (ends .entry)) []) (now (text .entry)) ⌝ }
-    ensures leaves { λ r. ⌜ lent (r .counts) (now (literals .exit)) (now (ends .exit)) [] ≡ openStore (lent counts (now (literals .entry)) (now (ends .entry)) []) (now (text .entry)) ⌝ }
+    ensures says { λ r. let s = lent counts (now (literals .entry)) (now (ends .entry)) [] in
+        ⌜ saidOpened (r .answer) ≡ openSays s (now (text .entry)) ⌝ }
+    ensures leaves { λ r. let s = lent counts (now (literals .entry)) (now (ends .entry)) [] in
+        ⌜ lent (r .counts) (now (literals .exit)) (now (ends .exit)) [] ≡ openStore s (now (text .entry)) ⌝ }
 {
     let answer = opening::open(text, literals, ends);
     let Opened::Open(n, m) = answer else {
@@ -100,8 +87,10 @@ pub fn offer(
     names: &[u8],
     values: &[u8],
 ) -> Offering
-    ensures says { λ r. ⌜ saidOffered (r .answer) ≡ offerSays (lent counts (now (literals .entry)) (now (ends .entry)) (now (images .entry))) (now (names .entry)) (now (values .entry)) ⌝ }
-    ensures leaves { λ r. ⌜ lent (r .counts) (now (literals .entry)) (now (ends .entry)) (now (images .exit)) ≡ offerStore (lent counts (now (literals .entry)) (now (ends .entry)) (now (images .entry))) (now (names .entry)) (now (values .entry)) ⌝ }
+    ensures says { λ r. let s = stored counts (literals .entry) (ends .entry) (images .entry) in
+        ⌜ saidOffered (r .answer) ≡ offerSays s (now (names .entry)) (now (values .entry)) ⌝ }
+    ensures leaves { λ r. let s = stored counts (literals .entry) (ends .entry) (images .entry) in
+        ⌜ stored (r .counts) (literals .entry) (ends .entry) (images .exit) ≡ offerStore s (now (names .entry)) (now (values .entry)) ⌝ }
 {
     if let Standing::Refused(refusal) = store::form::admit(counts, literals, ends, images) {
         return turned_back(refusal, counts);
@@ -145,14 +134,16 @@ pub fn header(
     ends: &[u16],
     images: &[u16],
     out: &mut [u8],
-) -> Written
-    ensures says { λ r. ⌜ saidWritten r ≡ headerSays (lent counts (now (literals .entry)) (now (ends .entry)) (now (images .entry))) (length (now (out .entry))) ⌝ }
-    ensures leaves { λ _. ⌜ now (out .exit) ≡ headerLeaves (lent counts (now (literals .entry)) (now (ends .entry)) (now (images .entry))) (now (out .entry)) ⌝ }
+) -> Answer
+    ensures says { λ r. let s = stored counts (literals .entry) (ends .entry) (images .entry) in
+        ⌜ said r ≡ headerSays s (length (now (out .entry))) ⌝ }
+    ensures leaves { λ _. let s = stored counts (literals .entry) (ends .entry) (images .entry) in
+        ⌜ now (out .exit) ≡ headerLeaves s (now (out .entry)) ⌝ }
 {
     if let Standing::Refused(refusal) = store::form::admit(counts, literals, ends, images) {
-        return Written::Refused(refusal);
+        return Answer::Refused(refusal);
     }
-    emit::header(counts, literals, ends, images, out)
+    emit::header(lexleader::totals_of(counts, images), out)
 }
 
 // Writes the line of the made formula's clause q, from 1.
@@ -163,12 +154,14 @@ pub fn clause(
     images: &[u16],
     q: usize,
     out: &mut [u8],
-) -> Written
-    ensures says { λ r. ⌜ saidWritten r ≡ clauseSays (lent counts (now (literals .entry)) (now (ends .entry)) (now (images .entry))) q (length (now (out .entry))) ⌝ }
-    ensures leaves { λ _. ⌜ now (out .exit) ≡ clauseLeaves (lent counts (now (literals .entry)) (now (ends .entry)) (now (images .entry))) q (now (out .entry)) ⌝ }
+) -> Answer
+    ensures says { λ r. let s = stored counts (literals .entry) (ends .entry) (images .entry) in
+        ⌜ said r ≡ clauseSays s q (length (now (out .entry))) ⌝ }
+    ensures leaves { λ _. let s = stored counts (literals .entry) (ends .entry) (images .entry) in
+        ⌜ now (out .exit) ≡ clauseLeaves s q (now (out .entry)) ⌝ }
 {
     if let Standing::Refused(refusal) = store::form::admit(counts, literals, ends, images) {
-        return Written::Refused(refusal);
+        return Answer::Refused(refusal);
     }
     emit::clause(counts, literals, ends, images, q, out)
 }
@@ -183,32 +176,35 @@ pub fn fill_in(
     images: &[u16],
     a: &[u64],
     out: &mut [u64],
-) -> Filled
-    ensures says { λ r. ⌜ saidFilled r ≡ fillSays (lent counts (now (literals .entry)) (now (ends .entry)) (now (images .entry))) (now (a .entry)) (length (now (out .entry))) ⌝ }
-    ensures leaves { λ _. ⌜ now (out .exit) ≡ fillLeaves (lent counts (now (literals .entry)) (now (ends .entry)) (now (images .entry))) (now (a .entry)) (now (out .entry)) ⌝ }
+) -> Answer
+    ensures says { λ r. let s = stored counts (literals .entry) (ends .entry) (images .entry) in
+        ⌜ said r ≡ fillSays s (now (a .entry)) (length (now (out .entry))) ⌝ }
+    ensures leaves { λ _. let s = stored counts (literals .entry) (ends .entry) (images .entry) in
+        ⌜ now (out .exit) ≡ fillLeaves s (now (a .entry)) (now (out .entry)) ⌝ }
 {
     if let Standing::Refused(refusal) = store::form::admit(counts, literals, ends, images) {
-        return Filled::Refused(refusal);
+        return Answer::Refused(refusal);
     }
     if !packed::is_assignment(a, counts.variables) {
-        return Filled::Refused(Refusal::BadAssignment);
+        return Answer::Refused(Refusal::BadAssignment);
     }
-    let total = emit::totals_of(counts, literals, ends, images);
+    let total = lexleader::totals_of(counts, images);
     let needed = (total.variables + 63) / 64;
     if out.len() < needed {
-        return Filled::Refused(Refusal::TooShort(needed));
+        return Answer::Refused(Refusal::TooShort(needed));
     }
-    Filled::Words(filling::fill(images, counts.rows, counts.variables, a, out))
+    Answer::Value(filling::fill(images, counts.rows, counts.variables, a, out) as u64)
 }
 
 // Whether an assignment of 1..N satisfies the made formula, or its first clause that is false.
 pub fn check(counts: Record, literals: &[u16], ends: &[u16], images: &[u16], a: &[u64]) -> Finding
-    ensures { λ r. ⌜ saidFinding r ≡ checkSays (lent counts (now (literals .entry)) (now (ends .entry)) (now (images .entry))) (now (a .entry)) ⌝ }
+    ensures { λ r. let s = stored counts (literals .entry) (ends .entry) (images .entry) in
+        ⌜ saidFinding r ≡ checkSays s (now (a .entry)) ⌝ }
 {
     if let Standing::Refused(refusal) = store::form::admit(counts, literals, ends, images) {
         return Finding::Refused(refusal);
     }
-    let total = emit::totals_of(counts, literals, ends, images);
+    let total = lexleader::totals_of(counts, images);
     if !packed::is_assignment(a, total.variables) {
         return Finding::Refused(Refusal::BadAssignment);
     }
@@ -224,8 +220,10 @@ pub fn descend(
     a: &mut [u64],
     limit: u64,
 ) -> Descent
-    ensures says { λ r. ⌜ saidDescent r ≡ descendSays (lent counts (now (literals .entry)) (now (ends .entry)) (now (images .entry))) (now (a .entry)) limit ⌝ }
-    ensures leaves { λ _. ⌜ now (a .exit) ≡ descendLeaves (lent counts (now (literals .entry)) (now (ends .entry)) (now (images .entry))) (now (a .entry)) limit ⌝ }
+    ensures says { λ r. let s = stored counts (literals .entry) (ends .entry) (images .entry) in
+        ⌜ saidDescent r ≡ descendSays s (now (a .entry)) limit ⌝ }
+    ensures leaves { λ _. let s = stored counts (literals .entry) (ends .entry) (images .entry) in
+        ⌜ now (a .exit) ≡ descendLeaves s (now (a .entry)) limit ⌝ }
 {
     if let Standing::Refused(refusal) = store::form::admit(counts, literals, ends, images) {
         return Descent::Refused(refusal);
@@ -239,16 +237,16 @@ pub fn descend(
 // ---- assignments
 
 // Where two assignments first differ; words of any value.
-pub fn compare(a: &[u64], b: &[u64]) -> Compared
-    ensures { λ r. ⌜ saidCompared r ≡ compareSays (now (a .entry)) (now (b .entry)) ⌝ }
+pub fn compare(a: &[u64], b: &[u64]) -> Answer
+    ensures { λ r. ⌜ said r ≡ compareSays (now (a .entry)) (now (b .entry)) ⌝ }
 {
     if a.len() != b.len() {
-        return Compared::Refused(Refusal::BadAssignment);
+        return Answer::Refused(Refusal::BadAssignment);
     }
     if packed::MAX_WORDS < a.len() {
-        return Compared::Refused(Refusal::BadAssignment);
+        return Answer::Refused(Refusal::BadAssignment);
     }
-    Compared::First(packed::first_difference(a, b))
+    Answer::Value(packed::first_difference(a, b) as u64)
 }
 
 // The lesser of two assignments, itself: one of the two slices lent, or the empty beginning of the first where their lengths differ.
@@ -260,11 +258,12 @@ pub fn lesser<'a>(a: &'a [u64], b: &'a [u64]) -> &'a [u64]
 
 // ---- the quality figure
 
-pub fn efficiency(labelled: u64, unlabelled: u64, allowed: u64) -> Figure
-    ensures { λ r. ⌜ saidFigure r ≡ efficiencySays labelled unlabelled allowed ⌝ }
+// Hundredths of a percent.
+pub fn efficiency(labelled: u64, unlabelled: u64, allowed: u64) -> Answer
+    ensures { λ r. ⌜ said r ≡ efficiencySays labelled unlabelled allowed ⌝ }
 {
     if !quality::has_efficiency(labelled, unlabelled, allowed) {
-        return Figure::Refused(Refusal::NoFigure);
+        return Answer::Refused(Refusal::NoFigure);
     }
-    Figure::Hundredths(quality::efficiency(labelled, unlabelled, allowed))
+    Answer::Value(quality::efficiency(labelled, unlabelled, allowed))
 }

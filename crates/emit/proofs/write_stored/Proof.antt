@@ -1,4 +1,5 @@
 -- `emit::write_stored` meets its contract. Assumes nothing.
+use Rattle.render.specs.Text.{clauseLine}
 use Rattle.emit.proofs.WrittenLaws.{left-alone, put-there}
 use borrow.Author.Needs.{needs}
 use Rattle.emit.proofs.write_stored.Statement.{statement}
@@ -8,7 +9,9 @@ stored-length-requires : tie.Need-stored-length-requires
 stored-length-requires c κs = search needs
 
 returns : tie.Need-returns
-returns c = left-alone _ _ _ (c .before .stored-length .ensures) (c .if1 .taken)
+returns c =
+    let a = c .before .before .before .before .args in
+    left-alone (clauseLine (a .clause .now)) (a .out .now) _ (c .before .stored-length .ensures) (c .if1 .taken)
 
 put-stored-requires : tie.Need-put-stored-requires
 put-stored-requires c κs = search needs
@@ -17,8 +20,10 @@ same-length : tie.Need-same-length
 same-length c = search needs
 
 returns-2 : tie.Need-returns-2
-returns-2 c = put-there _ _ _ _ (c .before .before .before .before .before .stored-length .ensures) (c .before .before .before .before .if1 .left) (c .before .before .put-stored .ensures .1)
+returns-2 c =
+    let i = c .before .before .before .before in
+    let a = i .before .before .before .before .args in
+    put-there (clauseLine (a .clause .now)) (a .out .now) _ _ (i .before .stored-length .ensures) (i .if1 .left) (c .before .before .put-stored .ensures .1)
 
 pub write-stored-spec : {M : Type 1} → statement M
-write-stored-spec =
-    tie.close (tie.spec stored-length-requires returns put-stored-requires same-length returns-2)
+write-stored-spec = tie.close (tie.spec stored-length-requires returns put-stored-requires same-length returns-2)

@@ -6,7 +6,7 @@ ghost use Prim.Native.Nat.{_≤_};
 ghost use lib.ListN.{length};
 ghost use Rattle.store.specs.Stores.{lent};
 ghost use Rattle.pages.specs.Pages.{longest};
-ghost use Rattle.program.specs.Program.{Stands};
+ghost use Rattle.program.specs.Program.{StageStands};
 
 // Writes what the program prints for an input.
 pub fn print(input: &[u8]) {
@@ -29,7 +29,7 @@ fn print_from(
     images: &[u16],
     out: &mut [u8],
 )
-    requires { ⌜ Stands first (lent counts (now literals) (now ends) (now images)) × (longest ≤ length (now out)) ⌝ }
+    requires { ⌜ StageStands first (lent counts (now literals) (now ends) (now images)) × (longest ≤ length (now out)) ⌝ }
 {
     let mut stage = first;
     loop {

@@ -1,1 +1,3 @@
 pub mod ProgramLaws
+pub mod Together
+pub mod OutputLength

@@ -4,17 +4,17 @@ use native.Mathlib.Omega.{arith}
 use lib.ListN.{length}
 use lib.Seq.{length-take-le}
 use Rattle.store.specs.Stores.{lent}
-use Rattle.program.specs.Program.{left, Stands}
-use Rattle.program.proofs.ProgramLaws.{goes-less}
+use Rattle.program.specs.Program.{leftToPrint, StageStands}
+use Rattle.program.proofs.ProgramLaws.{step-less}
 use borrow.Author.Needs.{needs}
 use Rattle.printing.proofs.print_from.Statement.{statement}
 use Rattle.printing.proofs.print_from.Tie as tie
 
 abbrev Inv-loop : tie.InvT-loop
-Inv-loop counts literals ends images out₀ stage₀ out stage = Stands stage (lent counts literals ends images) × (length out ≡ length out₀)
+Inv-loop counts literals ends images out₀ stage₀ out stage = StageStands stage (lent counts literals ends images) × (length out ≡ length out₀)
 
 abbrev μ-loop : tie.MeasureT-loop
-μ-loop counts literals ends images out₀ stage₀ out stage = length (left stage (lent counts literals ends images))
+μ-loop counts literals ends images out₀ stage₀ out stage = length (leftToPrint stage (lent counts literals ends images))
 
 loop-holds : tie.Need-loop-holds Inv-loop μ-loop
 loop-holds c = (c .before .before .before .before .pre .0, refl)
@@ -41,7 +41,7 @@ write-all-requires : tie.Need-write-all-requires Inv-loop μ-loop
 write-all-requires c κs = search needs
 
 loop-less : tie.Need-loop-less Inv-loop μ-loop
-loop-less c = goes-less (c .before .before .before .before .before .page .ensures) (c .before .before .if1 .left)
+loop-less c = step-less (c .before .before .before .before .before .page .ensures) (c .before .before .if1 .left)
 
 loop-again : tie.Need-loop-again Inv-loop μ-loop
 loop-again c =

@@ -53,6 +53,7 @@ fn print_from(
     loop {
         let printed = program::page(stage, counts, literals, ends, images, out);
         let bytes = printed.bytes;
+        let next = printed.stage;
         if bytes == 0 {
             return Handed::Bytes(handed);
         }
@@ -60,7 +61,7 @@ fn print_from(
             return Handed::Failed;
         };
         handed = count;
-        stage = printed.stage;
+        stage = next;
     }
 }
 

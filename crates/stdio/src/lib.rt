@@ -2,9 +2,10 @@
 // all: an answer here is a failure or a count, and a failure has no count. What the system's read and write do is trusted.
 ghost use mathlib.Core.Path.{_≡_};
 ghost use mathlib.Core.Bool.{cond};
-ghost use Prim.Native.Nat.{ℕ, _≤_};
+ghost use Prim.Native.Nat.{ℕ, _+_, _^_, _≤_, _<_};
+ghost use lib.IntN.{natAbs};
 ghost use lib.ListN.{length};
-ghost use Rattle.stdio.specs.Answers.{tookBy};
+ghost use Rattle.stdio.specs.Answers.{readOn};
 
 // What the whole input came to: so many bytes at the start of a buffer, or a read that failed.
 pub enum Input {
@@ -18,11 +19,10 @@ pub enum Output {
     Failed,
 }
 
-// What one read of the system came to.
-pub enum Took {
-    Bytes(usize),
-    End,
-    Failed,
+// How reading goes on after one read of the system: with so many bytes in all, or it is over.
+pub enum Reading {
+    More(usize),
+    Over(Input),
 }
 
 // Reads standard input into a buffer, to the end of the input or until the buffer is full.
@@ -31,14 +31,11 @@ pub fn read(buffer: &mut [u8]) -> Input
 {
     let mut done = 0;
     while done < buffer.len() {
-        let answer = read_answer(libc::read(libc::STDIN_FILENO, &mut buffer[done..]));
-        if let Took::Failed = answer {
-            return Input::Failed;
+        let got = libc::read(libc::STDIN_FILENO, &mut buffer[done..]);
+        match read_on(done, got) {
+            Reading::More(count) => done = count,
+            Reading::Over(input) => return input,
         }
-        let Took::Bytes(count) = answer else {
-            return Input::Bytes(done);
-        };
-        done += count;
     }
     Input::Bytes(done)
 }
@@ -55,17 +52,18 @@ pub fn complain(line: &[u8]) {
     io::write_all(libc::STDERR_FILENO, line);
 }
 
-// -1 is a failure, 0 the end of the input.
-fn read_answer(got: isize) -> Took
-    ensures { λ r. ⌜ r ≡ tookBy got ⌝ }
+// The answer of a read is -1 where it failed, and 0 at the end of the input.
+fn read_on(done: usize, got: isize) -> Reading
+    requires { ⌜ done + natAbs got < 2 ^ 64 ⌝ }
+    ensures { λ r. ⌜ r ≡ readOn done got ⌝ }
 {
     if got < 0 {
-        return Took::Failed;
+        return Reading::Over(Input::Failed);
     }
     if got > 0 {
-        return Took::Bytes(got as usize);
+        return Reading::More(done + got as usize);
     }
-    Took::End
+    Reading::Over(Input::Bytes(done))
 }
 
 fn write_answer(count: usize, all: bool) -> Output

@@ -1,16 +1,20 @@
 -- `stdio::read` meets its contract. The invariant: what is read so far lies within the buffer, whose length stays. Assumes nothing.
-use mathlib.Core.Path.{_≡_, refl, sym, ap, _∙_}
+use mathlib.Core.Path.{_≡_, refl, sym, ap, subst, _∙_}
 use mathlib.Core.List.{List}
-use Prim.Native.Nat.{ℕ, _-_, _≤_}
+use Prim.Native.Nat.{ℕ, _+_, _-_, _^_, _≤_, _<_}
 use native.Mathlib.Omega.{arith}
 use borrow.Author.Needs.{needs}
 use borrow.Rule.Slice.PartMut.{putMid}
-use lib.ListN.{length, length-take}
+use lib.IntN.{ℤ, natAbs}
+use lib.ListN.{length, take, drop, length-take, length-drop}
 use mir.Syntax.{w64}
+use mir.Val.{toZ, ofZ}
 use mir.ValLaws.{toZ-ofZ}
-use Rattle.stdio.specs.Answers.{tookBy}
-use Rattle.stdio.specs.declared.Took.{Took}
-use Rattle.stdio.proofs.Signs.{took-some}
+use Rattle.libc.specs.Io.{Moved}
+use Rattle.stdio.specs.Answers.{readOn}
+use Rattle.stdio.specs.declared.Input.{Input}
+use Rattle.stdio.specs.declared.Reading.{Reading}
+use Rattle.stdio.proofs.Signs.{small, on, over}
 use Rattle.stdio.proofs.read.Statement.{statement}
 use Rattle.stdio.proofs.read.Tie as tie
 
@@ -20,26 +24,32 @@ Inv-loop buffer₀ done₀ buffer done = (done ≤ length buffer) × (length buf
 abbrev μ-loop : tie.MeasureT-loop
 μ-loop buffer₀ done₀ buffer done = length buffer - done
 
--- the loop's head at a read, and the buffer after it
-abbrev head : tie.After-read-answer Inv-loop μ-loop → tie.At-loop Inv-loop μ-loop
-head c = c .before .before .before .before .before .before
+-- the loop's head at a read
+abbrev head : tie.After-slice-known2 Inv-loop μ-loop → tie.At-loop Inv-loop μ-loop
+head c = c .before .before .before .before .before
 
-abbrev filled : tie.After-read-answer Inv-loop μ-loop → List ℕ
-filled c =
-    let l = head c in
-    putMid (l .loop .done) (length (l .loop .buffer) - l .loop .done) (l .loop .buffer) (c .before .before .before .read .last .1 .0)
+-- the room that is left, the buffer after the read, and what the read answers
+abbrev room : tie.After-slice-known2 Inv-loop μ-loop → ℕ
+room c = length (head c .loop .buffer) - head c .loop .done
 
-kept : (c : tie.After-read-answer Inv-loop μ-loop) → length (filled c) ≡ length (head c .loop .buffer)
+abbrev filled : tie.After-slice-known2 Inv-loop μ-loop → List ℕ
+filled c = putMid (head c .loop .done) (room c) (head c .loop .buffer) (c .before .before .read .last .1 .0)
+
+abbrev got : tie.After-slice-known2 Inv-loop μ-loop → ℤ
+got c = c .before .before .read .result
+
+kept : (c : tie.After-slice-known2 Inv-loop μ-loop) → length (filled c) ≡ length (head c .loop .buffer)
 kept c = search needs
 
--- bytes that a read took are some, and fit
-took : (c : tie.After-read-answer Inv-loop μ-loop) (count : ℕ) → c .read-answer .result ≡ Took.Bytes count
-    → (1 ≤ count) × (count ≤ length (head c .loop .buffer) - head c .loop .done)
-took c count e =
+same : (c : tie.After-slice-known2 Inv-loop μ-loop) → toZ w64 (ofZ w64 (got c)) ≡ got c
+same c = toZ-ofZ w64 (got c) (record { sfits = c .before .before .read .ok })
+
+moved : (c : tie.After-slice-known2 Inv-loop μ-loop) → Moved (room c) (got c)
+moved c =
     let l = head c in
-    let r = c .before .before .before in
-    let t = took-some (r .read .result) _ count (r .read .ensures) (ap tookBy (sym (toZ-ofZ w64 (r .read .result) (record { sfits = r .read .ok }))) ∙ sym (c .read-answer .ensures) ∙ e) in
-    (t .0, omega (arith, t .1, length-take (length (l .loop .buffer) - l .loop .done) (l .loop .buffer)))
+    let size : length (take (room c) (drop (l .loop .done) (l .loop .buffer))) ≡ room c =
+    omega (arith, length-take (room c) (drop (l .loop .done) (l .loop .buffer)), length-drop (l .loop .done) (l .loop .buffer)) in
+    subst (λ (n : ℕ). Moved n (got c)) size (c .before .before .read .ensures)
 
 loop-holds : tie.Need-loop-holds Inv-loop μ-loop
 loop-holds c = (omega arith, refl)
@@ -56,51 +66,51 @@ part-read-end c = omega arith
 read-requires : tie.Need-read-requires Inv-loop μ-loop
 read-requires c κs = search needs
 
-read-answer-requires : tie.Need-read-answer-requires Inv-loop μ-loop
-read-answer-requires c κs = search needs
+read-on-requires : tie.Need-read-on-requires Inv-loop μ-loop
+read-on-requires c κs =
+    let l = head c in
+    subst (λ (z : ℤ). l .loop .done + natAbs z < 2 ^ 64) (sym (same c)) (omega (arith, small (got c) (room c) (moved c) (omega arith)))
 
-enum-told : tie.Need-enum-told Inv-loop μ-loop
-enum-told c = search needs
+enum-known-count : tie.Need-enum-known-count Inv-loop μ-loop
+enum-known-count c = search needs
+
+-- reading that goes on has read more, within the buffer
+more : (c : tie.After-read-on Inv-loop μ-loop) (count : ℕ) → c .read-on .result ≡ Reading.More count
+    → let l = head (c .before) in (l .loop .done < count) × (count ≤ length (l .loop .buffer))
+more c count e =
+    let k = c .before in
+    let t = on (head k .loop .done) (room k) (got k) (moved k) count (ap (readOn (head k .loop .done)) (sym (same k)) ∙ sym (c .read-on .ensures) ∙ e) in
+    (t .0, omega (arith, t .1, head k .loop .inv .0))
+
+loop-less : tie.Need-loop-less Inv-loop μ-loop
+loop-less c =
+    let r = c .before .before .before in
+    omega (arith, more r _ (c .before .count .given .1), kept (r .before))
+
+loop-again : tie.Need-loop-again Inv-loop μ-loop
+loop-again c =
+    let r = c .before .before .before in
+    (omega (arith, more r _ (c .before .count .given .1), kept (r .before)), kept (r .before) ∙ head (r .before) .loop .inv .1)
+
+enum-known-input : tie.Need-enum-known-input Inv-loop μ-loop
+enum-known-input c = search needs
 
 same-length : tie.Need-same-length Inv-loop μ-loop
 same-length c = search needs
 
 returns : tie.Need-returns Inv-loop μ-loop
-returns c = λ bytes e. let z : _≡_ {A = ℕ} 0 1 = cc in absurd (omega arith)
-
-enum-known-answer : tie.Need-enum-known-answer Inv-loop μ-loop
-enum-known-answer c = search needs
+returns c = λ bytes e.
+    let r = c .before .before .before in
+    let k = r .before in
+    let told = ap (readOn (head k .loop .done)) (sym (same k)) ∙ sym (r .read-on .ensures) ∙ c .before .input .given .1 ∙ ap (λ (i : Input). Reading.Over i) e in
+    omega (arith, over (head k .loop .done) (got k) bytes told, kept k, head k .loop .inv .0)
 
 same-length-2 : tie.Need-same-length-2 Inv-loop μ-loop
 same-length-2 c = search needs
 
 returns-2 : tie.Need-returns-2 Inv-loop μ-loop
 returns-2 c = λ bytes e.
-    let r = c .before .before in
-    let z : head r .loop .done ≡ bytes = cc in
-    omega (arith, kept r, head r .loop .inv .0)
-
-add-done : tie.Need-add-done Inv-loop μ-loop
-add-done c =
-    let r = c .before .before .before .before in
-    omega (arith, took r (c .before .answer .given .0 .0) (c .before .answer .given .1), kept r)
-
-loop-less : tie.Need-loop-less Inv-loop μ-loop
-loop-less c =
-    let r = c .before .before .before .before in
-    omega (arith, took r (c .before .answer .given .0 .0) (c .before .answer .given .1), kept r)
-
-loop-again : tie.Need-loop-again Inv-loop μ-loop
-loop-again c =
-    let r = c .before .before .before .before in
-    (omega (arith, took r (c .before .answer .given .0 .0) (c .before .answer .given .1), kept r), kept r ∙ head r .loop .inv .1)
-
-same-length-3 : tie.Need-same-length-3 Inv-loop μ-loop
-same-length-3 c = search needs
-
-returns-3 : tie.Need-returns-3 Inv-loop μ-loop
-returns-3 c = λ bytes e.
-    let z : c .before .loop .done ≡ bytes = cc in
+    let told : c .before .loop .done ≡ bytes = cc in
     omega (arith, c .before .loop .inv .0)
 
 pub read-spec : {M : Type 1} → statement M
@@ -114,15 +124,12 @@ read-spec =
     part-read-start
     part-read-end
     read-requires
-    read-answer-requires
-    enum-told
-    same-length
-    returns
-    enum-known-answer
-    same-length-2
-    returns-2
-    add-done
+    read-on-requires
+    enum-known-count
     loop-less
     loop-again
-    same-length-3
-    returns-3)
+    enum-known-input
+    same-length
+    returns
+    same-length-2
+    returns-2)

@@ -97,9 +97,6 @@ step-less {s} {stage} {next} {out} {after} {bytes} g some =
 
 -- ---- the first stage
 
-pub store-of : {a b : Ended} → a ≡ b → a .store ≡ b .store
-store-of e = ap (λ (end : Ended). end .store) e
-
 module _ (s t : Store) (input : List ℕ) (answer : Answer) (is : ended (saidAnswer answer) t ≡ sessionOf s input) where
   printed : printedBy (saidAnswer answer) t ≡ outputOf s input
   unfolding outputOf

@@ -51,6 +51,7 @@ use Rattle.session.specs.Input.{maxInput, fromDivider}
 use Rattle.session.specs.Session.{Ended, ended, offerAll, offerLines, ifOpened, divided, sessionOf}
 use Rattle.session.specs.Numbers.{Ample, FromInput, BadInput}
 use Rattle.session.proofs.SessionLaws.{offer-refused, offer-accepted, too-long, within}
+use Rattle.session.proofs.Theorem.{said-of}
 
 -- ---- the number of an answer, 0 where it is no refusal
 
@@ -225,7 +226,7 @@ module _ (s : Store) (names values : List ℕ) where
 -- ---- the value lines
 
 ended-number : {a b : Ended} → a ≡ b → saidNumber (a .said) ≡ saidNumber (b .said)
-ended-number e = ap (λ (end : Ended). saidNumber (end .said)) e
+ended-number e = ap saidNumber (said-of e)
 
 -- what the number of every offer meets, the number of the whole does
 offers-number : (P : ℕ → Type 0) → P 0 → (Q : Store → Type 0)
@@ -333,9 +334,9 @@ fifteen s input place = (there, back)
     reason = by-input (λ (number : ℕ). number ≡ 15 → BadInput input) s input (λ bad _. bad) (λ divider lines e. ⊎-elim (λ h. absurd (omega arith)) (λ h. absurd (omega arith)) (inner divider lines))
 
     back : (place ≡ 0) × BadInput input → sessionOf s input .said ≡ refused 15 place
-    back h = rw (h .0) (ap (λ (end : Ended). end .said) (bad-input s input (h .1)))
+    back h = rw (h .0) (said-of (bad-input s input (h .1)))
 
     there : sessionOf s input .said ≡ refused 15 place → (place ≡ 0) × BadInput input
     there e =
         let bad = reason (ap saidNumber e) in
-        (sym (ap saidPlace e) ∙ ap (λ (end : Ended). saidPlace (end .said)) (bad-input s input bad), bad)
+        (sym (ap saidPlace e) ∙ ap saidPlace (said-of (bad-input s input bad)), bad)

@@ -1,6 +1,6 @@
 -- The sign of what a read answers decides what it means, and bytes that it took are some and within the buffer. Assumes nothing.
-use mathlib.Core.Path.{_≡_, refl, sym, subst}
-use mathlib.Core.Bool.{Bool, true, false}
+use mathlib.Core.Path.{_≡_, refl}
+use mathlib.Core.Bool.{true, false}
 use Prim.Native.Nat.{ℕ, zero, suc, _+_, _≤_, _<_}
 use native.Mathlib.Nat.{not-suc-le-zero}
 use native.Mathlib.Omega.{arith}
@@ -13,10 +13,6 @@ use Rattle.stdio.specs.Answers.{readOn}
 use Rattle.stdio.specs.declared.Input.{Input}
 use Rattle.stdio.specs.declared.Reading.{Reading}
 
--- false is not true
-never : {A : Type 0} → _≡_ {A = Bool} false true → A
-never e = absurd (subst T (sym e) tt)
-
 module _ (done : ℕ) where
   pub negative : (z : ℤ) → ltZ z (pos 0) ≡ true → readOn done z ≡ Reading.Over Input.Failed
   negative (pos n) e = absurd (not-suc-le-zero (ltb-true n 0 e))
@@ -25,12 +21,12 @@ module _ (done : ℕ) where
   pub positive : (z : ℤ) → ltZ (pos 0) z ≡ true → T (nonNeg z) × (readOn done z ≡ Reading.More (done + natAbs z))
   positive (pos zero) e = absurd (not-suc-le-zero (ltb-true 0 0 e))
   positive (pos (suc n)) e = (tt, refl)
-  positive (negsuc n) e = never e
+  positive (negsuc n) e = let clash : _≡_ {A = ℕ} 0 1 = cc in absurd (omega arith)
 
   pub neither : (z : ℤ) → ltZ z (pos 0) ≡ false → ltZ (pos 0) z ≡ false → readOn done z ≡ Reading.Over (Input.Bytes done)
   neither (pos zero) e f = refl
   neither (pos (suc n)) e f = absurd (not-suc-le-zero (ltb-false 0 (suc n) f))
-  neither (negsuc n) e f = never (sym e)
+  neither (negsuc n) e f = let clash : _≡_ {A = ℕ} 0 1 = cc in absurd (omega arith)
 
 -- one byte or more is asked for, so no answer is beyond the room
 pub small : (z : ℤ) (room : ℕ) → Moved room z → 0 < room → natAbs z ≤ room

@@ -1,6 +1,7 @@
 -- `program::begin` meets its contract: a session that ends ready has the whole text left, one that is refused its line. Assumes nothing.
 use Rattle.store.specs.Stores.{Store, lent, closedRecord}
-use Rattle.program.proofs.ProgramLaws.{begins-ready, begins-refused, store-of}
+use Rattle.session.proofs.Theorem.{store-of}
+use Rattle.program.proofs.ProgramLaws.{begins-ready, begins-refused}
 use borrow.Author.Needs.{needs}
 use Rattle.program.proofs.begin.Statement.{statement}
 use Rattle.program.proofs.begin.Tie as tie

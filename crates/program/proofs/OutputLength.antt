@@ -24,17 +24,20 @@ use Rattle.render.specs.Text.{clauseLine, headerLine}
 use Rattle.render.proofs.LineLaws.{line-short, length-header, length-refusal}
 use Rattle.render.proofs.DigitLaws.{digits-most}
 use Rattle.emit.specs.Emit.{madeOf, variablesOf, clausesOf, headerOf, linesOf, textOf}
-use Rattle.pages.specs.Pages.{longest}
 use Rattle.symbreak.specs.Calls.{Accepted, accepted}
 use Rattle.session.specs.Session.{sessionOf}
 use Rattle.session.proofs.Theorem.{ready-formed}
 use Rattle.program.specs.Program.{printedBy, outputOf, maxOutput}
 
--- a clause whose line is no longer than `longest`
+-- no longer line is reckoned with
+abbrev lineMost : ℕ
+lineMost = 22 * maxLiterals + 2
+
+-- a clause whose line is no longer
 abbrev isShort : List ℕ → Bool
 isShort clause = leb (length clause) maxLiterals
 
-lines-length : (clauses : List (List ℕ)) → allOf isShort clauses ≡ true → length (linesOf clauses) ≤ length clauses * longest
+lines-length : (clauses : List (List ℕ)) → allOf isShort clauses ≡ true → length (linesOf clauses) ≤ length clauses * lineMost
 unfolding linesOf allOf
 lines-length [] h = omega arith
 lines-length (clause ∷ clauses) h =
@@ -136,7 +139,7 @@ module _ (s : Store) (e : wellFormed s ≡ true) where
         digits-most v,
         digits-most m,
         lines-length (madeOf s) made-short,
-        mul-le-mul-right longest made-few,
+        mul-le-mul-right lineMost made-few,
       )
 
 -- for every input, in every store

@@ -10,7 +10,6 @@ use Rattle.store.specs.Stores.{Store, lent, closedRecord, wellFormed, maxVariab
 use Rattle.render.specs.Text.{refusalLine}
 use Rattle.emit.specs.Emit.{linesOf, textOf}
 use Rattle.cursor.specs.Cursors.{clausesLeft, Points}
-use Rattle.pages.specs.Pages.{longest}
 use Rattle.symbreak.specs.Calls.{Accepted}
 use Rattle.session.specs.Session.{sessionOf}
 use Rattle.program.specs.declared.Stage.{Stage}
@@ -27,9 +26,10 @@ outputOf s input = printedBy (sessionOf s input .said) (sessionOf s input .store
 abbrev pub freshStore : Store
 freshStore = lent closedRecord (replicate maxLiterals 0) (replicate maxClauses 0) (replicate (maxRows * maxVariables) 0)
 
--- no output is longer: a header and the lines of the plain clauses and of at most 6 clauses for each variable of each row, none longer than `longest`
+-- no output is longer: a header, and the lines of the plain clauses and of at most 6 clauses for each variable of each row, where a literal of any number
+-- and the space after it have at most 22 bytes. It is generous: that it has a bound is what matters.
 abbrev pub maxOutput : ℕ
-maxOutput = (1 + maxClauses + 6 * maxVariables * maxRows) * longest
+maxOutput = (1 + maxClauses + 6 * maxVariables * maxRows) * (22 * maxLiterals + 2)
 
 -- what is still to be printed
 unfoldable pub leftToPrint : Stage → Store → List ℕ

@@ -1,8 +1,13 @@
 """The program against the reference and against lines worked out by hand from document 01: fixed seeds. Run by tests/run. A number on the command line is how
 many random inputs are tried: `python3 tests/host/test_program.py 100000`. Input i is the same whatever that number is."""
+import fcntl
+import functools
 import os
 import random
+import resource
+import signal
 import subprocess
+import tempfile
 import time
 import unittest
 from collections import Counter
@@ -119,6 +124,20 @@ MISSING = [
     ("less than a clause", b"p cnf 2 2\n1 2 0\n1 0\n", "refused 11 2"),
     ("more than a clause", b"p cnf 2 2\n0\n1 0\n", "refused 11 2"),
 ]
+
+
+@functools.cache
+def most_rows():
+    """512 variables, clauses of those that stay, and 64 permutations that each move all names."""
+    chance = random.Random(8)
+    names = [*range(1, 100), *range(338, 513)]
+    clauses = [[chance.choice([-1, 1]) * chance.randint(100, 337) for _ in range(3)] for _ in range(20)]
+    lines = [b"p cnf 512 20", *(b"%d %d %d 0" % tuple(clause) for clause in clauses), b"%", b" ".join(b"%d" % name for name in names)]
+    for _ in range(64):
+        round = chance.sample(names, len(names))
+        values = dict(zip(round, round[1:] + round[:1]))
+        lines.append(b" ".join(b"%d" % values[name] for name in names))
+    return b"\n".join(lines)
 
 
 class Program(unittest.TestCase):
@@ -239,6 +258,13 @@ class Program(unittest.TestCase):
         self.assertLessEqual(len(data), 65536)
         self.assertTrue(self.agree(data).startswith(b"p cnf 16576 97920\n"))
 
+    def test_most_rows(self):
+        """64 accepted rows over 512 variables that move as many of them as 65,536 bytes can state, the last one too."""
+        data = most_rows()
+        self.assertLessEqual(len(data), 65536)
+        self.assertEqual(generate.moving_rows(data), 64)
+        self.assertTrue(self.agree(data).startswith(b"p cnf 17984 104852\n"))
+
     def test_many_clauses(self):
         """4,096 clauses over 512 variables with two rows that move all; only the last one's image missing; 12,288 literals."""
         chance = random.Random(7)
@@ -250,6 +276,119 @@ class Program(unittest.TestCase):
         self.assertTrue(self.agree(b"\n".join([text + b"%", names, values, values])).startswith(b"p cnf 1534 10228\n"))
         self.prints(b"p cnf 2 4096\n" + b"1 2 0\n" * 4095 + b"1 0\n%\n1 2\n2 1\n", b"refused 11 4096\n")
         self.prints(FULL + b"0\n%\n", FULL + b"0\n")
+
+
+class Failures(unittest.TestCase):
+    """Reads and writes of the system that fail: what arrived is a beginning of the output, and standard error has one line. The exit status stays 0."""
+
+    @classmethod
+    def setUpClass(cls):
+        cls.large = reference.program(most_rows())
+        cls.outputs = [(LISTING, MADE), (b"", b"refused 15 0\n"), (most_rows(), cls.large)]
+
+    def run_with(self, data, **options):
+        """The program's standard error, its input in a file."""
+        with tempfile.TemporaryFile() as source:
+            source.write(data)
+            source.seek(0)
+            ended = subprocess.run([BREAKER], stdin=source, stderr=subprocess.PIPE, **options)
+        self.assertEqual(ended.returncode, 0)
+        return ended.stderr
+
+    def cut(self, arrived, expected, complaint):
+        """What arrived is a beginning of the output, and only a beginning is complained of."""
+        self.assertEqual(arrived, expected[:len(arrived)])
+        self.assertEqual(complaint, b"" if arrived == expected else b"breaker: writing failed\n")
+
+    def slowly(self, nonblocking, pause):
+        """What arrives through a pipe that is read piece by piece, and standard error."""
+        reading, writing = os.pipe()
+        if nonblocking:
+            fcntl.fcntl(writing, fcntl.F_SETFL, fcntl.fcntl(writing, fcntl.F_GETFL) | os.O_NONBLOCK)
+        with subprocess.Popen([BREAKER], stdin=subprocess.PIPE, stdout=writing, stderr=subprocess.PIPE) as running, open(reading, "rb", 0) as source:
+            os.close(writing)
+            running.stdin.write(most_rows())
+            running.stdin.close()
+            pieces = []
+            while True:
+                time.sleep(pause)
+                piece = source.read(50000)
+                if not piece:
+                    return b"".join(pieces), running.stderr.read()
+                pieces.append(piece)
+
+    def test_slow_pipe(self):
+        """A pipe that is read slowly gets the whole output."""
+        self.assertEqual(self.slowly(False, 0.005), (self.large, b""))
+
+    def test_nonblocking_pipe(self):
+        """A write that would wait fails, and no later page follows."""
+        for pause in [0, 0.001, 0.1]:
+            arrived, complaint = self.slowly(True, pause)
+            self.cut(arrived, self.large, complaint)
+        self.assertLess(len(arrived), len(self.large))
+
+    def test_full_device(self):
+        for data, _ in self.outputs:
+            with open("/dev/full", "wb") as full:
+                self.assertEqual(self.run_with(data, stdout=full), b"breaker: writing failed\n")
+
+    def test_closed_output(self):
+        for data, _ in self.outputs:
+            self.assertEqual(self.run_with(data, preexec_fn=lambda: os.close(1)), b"breaker: writing failed\n")
+
+    def test_file_limit(self):
+        """A file that may not grow has the output's first bytes, up to its limit."""
+        def limited(limit):
+            signal.signal(signal.SIGXFSZ, signal.SIG_IGN)
+            resource.setrlimit(resource.RLIMIT_FSIZE, (limit, limit))
+
+        for data, expected in self.outputs:
+            for limit in [0, 1, 12, 13, 4096, 100001, 524288, 700001, len(expected) - 1, len(expected)]:
+                with tempfile.TemporaryFile() as target:
+                    complaint = self.run_with(data, stdout=target, restore_signals=False, preexec_fn=functools.partial(limited, limit))
+                    target.seek(0)
+                    arrived = target.read()
+                self.assertEqual(len(arrived), min(limit, len(expected)))
+                self.cut(arrived, expected, complaint)
+
+    def test_full_disk(self):
+        with tempfile.TemporaryDirectory() as place:
+            if subprocess.run(["mount", "-t", "tmpfs", "-o", "size=1m", "tmpfs", place], capture_output=True).returncode:
+                self.skipTest("no small file system can be mounted here")
+            try:
+                with open(os.path.join(place, "output"), "w+b") as target:
+                    complaint = self.run_with(most_rows(), stdout=target)
+                    target.seek(0)
+                    arrived = target.read()
+            finally:
+                subprocess.run(["umount", place], check=True)
+        self.assertLess(len(arrived), len(self.large))
+        self.cut(arrived, self.large, complaint)
+
+    def unread(self, **options):
+        """Nothing is printed where a read fails."""
+        ended = subprocess.run([BREAKER], capture_output=True, **options)
+        self.assertEqual((ended.returncode, ended.stdout, ended.stderr), (0, b"", b"breaker: reading failed\n"))
+
+    def test_unreadable_input(self):
+        """A directory, no descriptor at all, one that is only written."""
+        directory, written = os.open("/", os.O_RDONLY), os.open(os.devnull, os.O_WRONLY)
+        self.unread(stdin=directory)
+        self.unread(stdin=written)
+        self.unread(preexec_fn=lambda: os.close(0))
+        os.close(directory)
+        os.close(written)
+
+    def test_input_that_fails_later(self):
+        """A pipe without more bytes that is not at its end, whatever came before."""
+        for before in [b"", b"x", LISTING, LISTING * 900]:
+            reading, writing = os.pipe()
+            os.write(writing, before[:65536])
+            os.set_blocking(reading, False)
+            self.unread(stdin=reading)
+            os.close(reading)
+            os.close(writing)
 
 
 if __name__ == "__main__":

@@ -3,6 +3,8 @@
 use dimacs::Reading;
 use offering::Offered;
 use opening::Opened;
+use printing::Handed;
+use stdio::Input;
 use store::record::Record;
 
 fn main() {
@@ -92,7 +94,9 @@ fn show(name: &[u8], refusal: u32, place: usize) {
 // Each input of the batch follows its length, which has a line of its own.
 fn batch() {
     let mut data = [0u8; 65536];
-    let read = io::read_full(0, &mut data);
+    let Input::Bytes(read) = stdio::read(&mut data) else {
+        return;
+    };
     inputs(&data[..read]);
 }
 
@@ -110,7 +114,9 @@ fn inputs(data: &[u8]) {
         }
         count += 1;
         heading(count);
-        printing::print(&data[from..to]);
+        let Handed::Bytes(_) = printing::print(&data[from..to]) else {
+            return;
+        };
         at = to;
     }
 }

@@ -1,1 +1,4 @@
 pub mod ProgramLaws
+pub mod Together
+pub mod OutputLength
+pub mod OwnStore

@@ -23,17 +23,17 @@ use Rattle.pages.specs.Pages.{Filled, fillFrom, longest}
 use Rattle.pages.proofs.PageLaws.{Holds, holds}
 use Rattle.session.specs.Session.{Ended, ended, saidAnswer, sessionOf}
 use Rattle.session.specs.declared.Answer.{Answer}
-use Rattle.program.specs.Program.{printedBy, outputOf, left, Stands, Goes}
+use Rattle.program.specs.Program.{printedBy, outputOf, leftToPrint, StageStands, PageStep}
 use Rattle.program.specs.declared.Stage.{Stage}
 
-pub at-stage : {s : Store} {a b next : Stage} {out after : List ℕ} {bytes : ℕ} → a ≡ b → Goes s b out next bytes after → Goes s a out next bytes after
+pub at-stage : {s : Store} {a b next : Stage} {out after : List ℕ} {bytes : ℕ} → a ≡ b → PageStep s b out next bytes after → PageStep s a out next bytes after
 at-stage e g = rw e g
 
 -- ---- a page that is one line
 
-module _ (s : Store) (stage next : Stage) (line out : List ℕ) (is : left stage s ≡ line ++ left next s) (some : 0 < length line) (room : length line ≤ length out) where
-  pub line-goes : Stands next s → (bytes : ℕ) (after : List ℕ) → bytes ≡ 0 + length line → after ≡ writtenAt 0 line out → Goes s stage out next bytes after
-  line-goes stands bytes after b a =
+module _ (s : Store) (stage next : Stage) (line out : List ℕ) (is : leftToPrint stage s ≡ line ++ leftToPrint next s) (some : 0 < length line) (room : length line ≤ length out) where
+  pub line-step : StageStands next s → (bytes : ℕ) (after : List ℕ) → bytes ≡ 0 + length line → after ≡ writtenAt 0 line out → PageStep s stage out next bytes after
+  line-step stands bytes after b a =
       let size : bytes ≡ length line = omega arith in
       let there : after ≡ line ++ drop (length line) out = a ∙ at-start line out in
       record {
@@ -48,31 +48,31 @@ module _ (s : Store) (stage next : Stage) (line out : List ℕ) (is : left stage
 pub refusal-room : (number place room : ℕ) → longest ≤ room → 0 + length (refusalLine number place) ≤ room
 refusal-room number place room h = omega (arith, length-refusal number place, digits-most number, digits-most place)
 
-pub refused-goes : (s : Store) (refusal : Refusal) (out : List ℕ) → longest ≤ length out → (number place bytes : ℕ) (after : List ℕ) → number ≡ numberOf refusal
+pub refused-step : (s : Store) (refusal : Refusal) (out : List ℕ) → longest ≤ length out → (number place bytes : ℕ) (after : List ℕ) → number ≡ numberOf refusal
     → place ≡ placeOf refusal → bytes ≡ 0 + length (refusalLine number place) → after ≡ writtenAt 0 (refusalLine number place) out
-    → Goes s (Stage.Refused refusal) out Stage.Over bytes after
-unfolding left
-refused-goes s refusal out room number place bytes after n p b a =
+    → PageStep s (Stage.Refused refusal) out Stage.Over bytes after
+unfolding leftToPrint
+refused-step s refusal out room number place bytes after n p b a =
     let l = length-refusal number place in
-    line-goes s (Stage.Refused refusal) Stage.Over (refusalLine number place) out (rw (n, p) (sym (append-nil (refusalLine (numberOf refusal) (placeOf refusal)))))
+    line-step s (Stage.Refused refusal) Stage.Over (refusalLine number place) out (rw (n, p) (sym (append-nil (refusalLine (numberOf refusal) (placeOf refusal)))))
     (omega arith) (omega (arith, refusal-room number place (length out) room)) tt bytes after b a
 
-pub header-goes : (s : Store) → wellFormed s ≡ true → (out : List ℕ) → longest ≤ length out → (variables clauses bytes : ℕ) (after : List ℕ)
+pub header-step : (s : Store) → wellFormed s ≡ true → (out : List ℕ) → longest ≤ length out → (variables clauses bytes : ℕ) (after : List ℕ)
     → variables ≡ variablesOf s → clauses ≡ clausesOf s → bytes ≡ 0 + length (headerLine variables clauses) → after ≡ writtenAt 0 (headerLine variables clauses) out
-    → (c : Cursor) → Points (s .counts) (s .images) c → clausesLeft s c ≡ madeOf s → Goes s Stage.Header out (Stage.Clauses c) bytes after
-unfolding left textOf headerOf
-header-goes s formed out room variables clauses bytes after v m b a c points all =
+    → (c : Cursor) → Points (s .counts) (s .images) c → clausesLeft s c ≡ madeOf s → PageStep s Stage.Header out (Stage.Clauses c) bytes after
+unfolding leftToPrint textOf headerOf
+header-step s formed out room variables clauses bytes after v m b a c points all =
     let l = length-header variables clauses in
-    line-goes s Stage.Header (Stage.Clauses c) (headerLine variables clauses) out (rw (v, m, all))
+    line-step s Stage.Header (Stage.Clauses c) (headerLine variables clauses) out (rw (v, m, all))
     (omega arith) (omega (arith, digits-most variables, digits-most clauses)) (formed, points) bytes after b a
 
 -- ---- a page of clauses
 
-pub clauses-go : (s : Store) → wellFormed s ≡ true → (c d : Cursor) (out after : List ℕ) (bytes : ℕ)
+pub clauses-step : (s : Store) → wellFormed s ≡ true → (c d : Cursor) (out after : List ℕ) (bytes : ℕ)
     → _≡_ {A = Filled} (record { buffer = after; end = bytes; left = clausesLeft s d }) (fillFrom 0 (clausesLeft s c) out)
-    → Points (s .counts) (s .images) d → (bytes ≡ 0 → clausesLeft s c ≡ []) → Goes s (Stage.Clauses c) out (Stage.Clauses d) bytes after
-unfolding left linesOf
-clauses-go s formed c d out after bytes e points last =
+    → Points (s .counts) (s .images) d → (bytes ≡ 0 → clausesLeft s c ≡ []) → PageStep s (Stage.Clauses c) out (Stage.Clauses d) bytes after
+unfolding leftToPrint linesOf
+clauses-step s formed c d out after bytes e points last =
     let h = subst (Holds 0 (clausesLeft s c) out) (sym e) (holds 0 (clausesLeft s c) out (omega arith)) in
     record {
       prints = h .text;
@@ -85,16 +85,16 @@ clauses-go s formed c d out after bytes e points last =
 
 -- ---- nothing left
 
-pub over-goes : (s : Store) (out : List ℕ) → Goes s Stage.Over out Stage.Over 0 out
-unfolding left
-over-goes s out = record { prints = refl; stays = refl; within = omega arith; size = refl; last = λ _. refl; stands = tt }
+pub over-step : (s : Store) (out : List ℕ) → PageStep s Stage.Over out Stage.Over 0 out
+unfolding leftToPrint
+over-step s out = record { prints = refl; stays = refl; within = omega arith; size = refl; last = λ _. refl; stands = tt }
 
 -- ---- a page with bytes leaves less
 
-pub goes-less : {s : Store} {stage next : Stage} {out after : List ℕ} {bytes : ℕ} → Goes s stage out next bytes after → (bytes ≡ 0 → ⊥)
-    → length (left next s) < length (left stage s)
-goes-less {s} {stage} {next} {out} {after} {bytes} g some =
-    omega (arith, ap length (g .prints), length-append (take bytes after) (left next s), length-take-le bytes after (omega (arith, g .within, g .size)), some)
+pub step-less : {s : Store} {stage next : Stage} {out after : List ℕ} {bytes : ℕ} → PageStep s stage out next bytes after → (bytes ≡ 0 → ⊥)
+    → length (leftToPrint next s) < length (leftToPrint stage s)
+step-less {s} {stage} {next} {out} {after} {bytes} g some =
+    omega (arith, ap length (g .prints), length-append (take bytes after) (leftToPrint next s), length-take-le bytes after (omega (arith, g .within, g .size)), some)
 
 -- ---- the first stage
 
@@ -103,10 +103,10 @@ module _ (s t : Store) (input : List ℕ) (answer : Answer) (is : ended (saidAns
   unfolding outputOf
   printed = ap (λ (e : Ended). printedBy (e .said) (e .store)) is
 
-  pub begins-ready : answer ≡ Answer.Ready → left Stage.Header t ≡ outputOf s input
-  unfolding left
+  pub begins-ready : answer ≡ Answer.Ready → leftToPrint Stage.Header t ≡ outputOf s input
+  unfolding leftToPrint
   begins-ready e = sym (ap (λ (a : Answer). printedBy (saidAnswer a) t) e) ∙ printed
 
-  pub begins-refused : (refusal : Refusal) → answer ≡ Answer.Refused refusal → left (Stage.Refused refusal) t ≡ outputOf s input
-  unfolding left
+  pub begins-refused : (refusal : Refusal) → answer ≡ Answer.Refused refusal → leftToPrint (Stage.Refused refusal) t ≡ outputOf s input
+  unfolding leftToPrint
   begins-refused refusal e = sym (ap (λ (a : Answer). printedBy (saidAnswer a) t) e) ∙ printed

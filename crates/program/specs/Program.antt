@@ -1,12 +1,12 @@
 -- What the program prints (document 01, "Quality figure and program"): "the made formula, or only the line `refused NUMBER WHERE` at the first refusal,
 -- WHERE being its place". It is printed in pages, and a stage says what is still to be printed. Assumes nothing.
 use mathlib.Core.Path.{_≡_}
-use Prim.Native.Nat.{ℕ, _≤_}
+use Prim.Native.Nat.{ℕ, _+_, _*_, _≤_}
 use mathlib.Core.Bool.{true}
 use mathlib.Core.List.{List, [], _++_}
-use lib.ListN.{length, take, drop}
+use lib.ListN.{length, take, drop, replicate}
 use Rattle.store.specs.Refusals.{Said, done, refused, numberOf, placeOf}
-use Rattle.store.specs.Stores.{Store, wellFormed}
+use Rattle.store.specs.Stores.{Store, lent, closedRecord, wellFormed, maxVariables, maxClauses, maxLiterals, maxRows}
 use Rattle.render.specs.Text.{refusalLine}
 use Rattle.emit.specs.Emit.{linesOf, textOf}
 use Rattle.cursor.specs.Cursors.{clausesLeft, Points}
@@ -22,25 +22,39 @@ printedBy (refused number place) s = refusalLine number place
 unfoldable pub outputOf : Store → List ℕ → List ℕ
 outputOf s input = printedBy (sessionOf s input .said) (sessionOf s input .store)
 
+-- the store that the program works in: a new record, and slices of zeros as long as the limits
+abbrev pub freshStore : Store
+freshStore = lent closedRecord (replicate maxLiterals 0) (replicate maxClauses 0) (replicate (maxRows * maxVariables) 0)
+
+-- no output is longer: a header, and the lines of the plain clauses and of at most 6 clauses for each variable of each row, where a literal of any number
+-- and the space after it have at most 22 bytes. It is generous: that it has a bound is what matters.
+abbrev pub maxOutput : ℕ
+maxOutput = (1 + maxClauses + 6 * maxVariables * maxRows) * (22 * maxLiterals + 2)
+
 -- what is still to be printed
-unfoldable pub left : Stage → Store → List ℕ
-left (Stage.Refused r) s = refusalLine (numberOf r) (placeOf r)
-left Stage.Header s = textOf s
-left (Stage.Clauses c) s = linesOf (clausesLeft s c)
-left Stage.Over s = []
+unfoldable pub leftToPrint : Stage → Store → List ℕ
+leftToPrint (Stage.Refused r) s = refusalLine (numberOf r) (placeOf r)
+leftToPrint Stage.Header s = textOf s
+leftToPrint (Stage.Clauses c) s = linesOf (clausesLeft s c)
+leftToPrint Stage.Over s = []
 
 -- a stage in a store
-abbrev pub Stands : Stage → Store → Type 0
-Stands (Stage.Refused r) s = Unit {0}
-Stands Stage.Header s = wellFormed s ≡ true
-Stands (Stage.Clauses c) s = (wellFormed s ≡ true) × Points (s .counts) (s .images) c
-Stands Stage.Over s = Unit {0}
+abbrev pub StageStands : Stage → Store → Type 0
+StageStands (Stage.Refused r) s = Unit {0}
+StageStands Stage.Header s = wellFormed s ≡ true
+StageStands (Stage.Clauses c) s = (wellFormed s ≡ true) × Points (s .counts) (s .images) c
+StageStands Stage.Over s = Unit {0}
 
 -- One page: the bytes put at the start of the buffer are what is printed of what was left, the bytes past them stay, and a page without bytes is the last.
-pub record Goes (s : Store) (stage : Stage) (out : List ℕ) (next : Stage) (bytes : ℕ) (after : List ℕ) : Type 0 where
-  pub prints : left stage s ≡ take bytes after ++ left next s
+pub record PageStep (s : Store) (stage : Stage) (out : List ℕ) (next : Stage) (bytes : ℕ) (after : List ℕ) : Type 0 where
+  pub prints : leftToPrint stage s ≡ take bytes after ++ leftToPrint next s
   pub stays : drop bytes after ≡ drop bytes out
   pub within : bytes ≤ length out
   pub size : length after ≡ length out
-  pub last : bytes ≡ 0 → left stage s ≡ []
-  pub stands : Stands next s
+  pub last : bytes ≡ 0 → leftToPrint stage s ≡ []
+  pub stands : StageStands next s
+
+-- bytes are the part of a text that starts at a place
+pub record PartAt (text : List ℕ) (at : ℕ) (bytes : List ℕ) : Type 0 where
+  pub here : take (length bytes) (drop at text) ≡ bytes
+  pub within : at + length bytes ≤ length text

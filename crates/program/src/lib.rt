@@ -9,7 +9,8 @@ ghost use Prim.Native.Nat.{_≤_};
 ghost use lib.ListN.{length};
 ghost use Rattle.store.specs.Stores.{Store, lent, closedRecord};
 ghost use Rattle.pages.specs.Pages.{longest};
-ghost use Rattle.program.specs.Program.{outputOf, left, Stands, Goes};
+ghost use Rattle.session.specs.Session.{sessionOf};
+ghost use Rattle.program.specs.Program.{outputOf, leftToPrint, StageStands, PageStep};
 
 // What comes next: the line of a refusal, the header, the clauses from a cursor on, or nothing.
 pub enum Stage {
@@ -33,8 +34,9 @@ pub struct Printed {
 
 // Opens and offers what an input states, in lent slices of any contents.
 pub fn begin(input: &[u8], literals: &mut [u16], ends: &mut [u16], images: &mut [u16]) -> Begun
-    ensures output { λ r. ⌜ left (r .stage) (lent (r .counts) (now (literals .exit)) (now (ends .exit)) (now (images .exit))) ≡ outputOf (lent closedRecord (now (literals .entry)) (now (ends .entry)) (now (images .entry))) (now (input .entry)) ⌝ }
-    ensures stands { λ r. ⌜ Stands (r .stage) (lent (r .counts) (now (literals .exit)) (now (ends .exit)) (now (images .exit))) ⌝ }
+    ensures output { λ r. ⌜ leftToPrint (r .stage) (lent (r .counts) (now (literals .exit)) (now (ends .exit)) (now (images .exit))) ≡ outputOf (lent closedRecord (now (literals .entry)) (now (ends .entry)) (now (images .entry))) (now (input .entry)) ⌝ }
+    ensures store { λ r. ⌜ lent (r .counts) (now (literals .exit)) (now (ends .exit)) (now (images .exit)) ≡ sessionOf (lent closedRecord (now (literals .entry)) (now (ends .entry)) (now (images .entry))) (now (input .entry)) .store ⌝ }
+    ensures stands { λ r. ⌜ StageStands (r .stage) (lent (r .counts) (now (literals .exit)) (now (ends .exit)) (now (images .exit))) ⌝ }
 {
     let ended = session::run(input, literals, ends, images);
     let answer = ended.answer;
@@ -60,8 +62,8 @@ pub fn page(
     images: &[u16],
     out: &mut [u8],
 ) -> Printed
-    requires { ⌜ Stands stage (lent counts (now literals) (now ends) (now images)) × (longest ≤ length (now out)) ⌝ }
-    ensures { λ r. ⌜ Goes (lent counts (now (literals .entry)) (now (ends .entry)) (now (images .entry))) stage (now (out .entry)) (r .stage) (r .bytes) (now (out .exit)) ⌝ }
+    requires { ⌜ StageStands stage (lent counts (now literals) (now ends) (now images)) × (longest ≤ length (now out)) ⌝ }
+    ensures { λ r. ⌜ PageStep (lent counts (now (literals .entry)) (now (ends .entry)) (now (images .entry))) stage (now (out .entry)) (r .stage) (r .bytes) (now (out .exit)) ⌝ }
 {
     match stage {
         Stage::Refused(refusal) => refused(refusal, out),
@@ -77,7 +79,7 @@ pub fn page(
 // The page of a refusal.
 fn refused(refusal: Refusal, out: &mut [u8]) -> Printed
     requires { ⌜ longest ≤ length (now out) ⌝ }
-    ensures { λ r. ⌜ ((s : Store) → Goes s (Stage.Refused refusal) (now (out .entry)) (r .stage) (r .bytes) (now (out .exit))) ⌝ }
+    ensures { λ r. ⌜ ((s : Store) → PageStep s (Stage.Refused refusal) (now (out .entry)) (r .stage) (r .bytes) (now (out .exit))) ⌝ }
 {
     let number = refusal.number() as u64;
     let place = refusal.place() as u64;
@@ -89,8 +91,8 @@ fn refused(refusal: Refusal, out: &mut [u8]) -> Printed
 
 // The header's page.
 fn header(counts: Record, literals: &[u16], ends: &[u16], images: &[u16], out: &mut [u8]) -> Printed
-    requires { ⌜ Stands Stage.Header (lent counts (now literals) (now ends) (now images)) × (longest ≤ length (now out)) ⌝ }
-    ensures { λ r. ⌜ Goes (lent counts (now (literals .entry)) (now (ends .entry)) (now (images .entry))) Stage.Header (now (out .entry)) (r .stage) (r .bytes) (now (out .exit)) ⌝ }
+    requires { ⌜ StageStands Stage.Header (lent counts (now literals) (now ends) (now images)) × (longest ≤ length (now out)) ⌝ }
+    ensures { λ r. ⌜ PageStep (lent counts (now (literals .entry)) (now (ends .entry)) (now (images .entry))) Stage.Header (now (out .entry)) (r .stage) (r .bytes) (now (out .exit)) ⌝ }
 {
     let total = emit::totals_of(counts, literals, ends, images);
     let bytes = render::put_header(out, 0, total.variables as u64, total.clauses as u64);
@@ -109,8 +111,8 @@ fn clauses(
     cursor: Cursor,
     out: &mut [u8],
 ) -> Printed
-    requires { ⌜ Stands (Stage.Clauses cursor) (lent counts (now literals) (now ends) (now images)) × (longest ≤ length (now out)) ⌝ }
-    ensures { λ r. ⌜ Goes (lent counts (now (literals .entry)) (now (ends .entry)) (now (images .entry))) (Stage.Clauses cursor) (now (out .entry)) (r .stage) (r .bytes) (now (out .exit)) ⌝ }
+    requires { ⌜ StageStands (Stage.Clauses cursor) (lent counts (now literals) (now ends) (now images)) × (longest ≤ length (now out)) ⌝ }
+    ensures { λ r. ⌜ PageStep (lent counts (now (literals .entry)) (now (ends .entry)) (now (images .entry))) (Stage.Clauses cursor) (now (out .entry)) (r .stage) (r .bytes) (now (out .exit)) ⌝ }
 {
     let filled = pages::fill(counts, literals, ends, images, cursor, out);
     let next = filled.cursor;

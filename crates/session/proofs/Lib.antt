@@ -1,4 +1,5 @@
 pub mod DividerLaws
 pub mod SessionLaws
 pub mod Theorem
+pub mod Numbers
 pub mod Examples

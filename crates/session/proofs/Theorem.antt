@@ -38,10 +38,10 @@ pub record Formed (s : Store) : Type 0 where
 
 -- ---- the value lines
 
-store-of : {a b : Ended} → a ≡ b → a .store ≡ b .store
+pub store-of : {a b : Ended} → a ≡ b → a .store ≡ b .store
 store-of e = ap (λ (end : Ended). end .store) e
 
-said-of : {a b : Ended} → a ≡ b → a .said ≡ b .said
+pub said-of : {a b : Ended} → a ≡ b → a .said ≡ b .said
 said-of e = ap (λ (end : Ended). end .said) e
 
 -- what ends with a refusal does not end ready

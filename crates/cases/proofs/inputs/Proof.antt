@@ -70,11 +70,20 @@ part-print-end c = omega arith
 print-requires : tie.Need-print-requires Inv-loop μ-loop
 print-requires c κs = search needs
 
+enum-told-2 : tie.Need-enum-told-2 Inv-loop μ-loop
+enum-told-2 c = search needs
+
+enum-told-3 : tie.Need-enum-told-3 Inv-loop μ-loop
+enum-told-3 c = search needs
+
+returns-3 : tie.Need-returns-3 Inv-loop μ-loop
+returns-3 c = tt
+
 loop-less : tie.Need-loop-less Inv-loop μ-loop
-loop-less c = omega (arith, reached (c .before .before .before .before .before .before))
+loop-less c = omega (arith, reached (c .before .before .before .before .before .before .before .before))
 
 loop-again : tie.Need-loop-again Inv-loop μ-loop
-loop-again c = (omega arith, omega (arith, reached (c .before .before .before .before .before .before)))
+loop-again c = (omega arith, omega (arith, reached (c .before .before .before .before .before .before .before .before)))
 
 pub inputs-spec : {M : Type 1} → statement M
 inputs-spec =
@@ -97,5 +106,8 @@ inputs-spec =
     part-print-start
     part-print-end
     print-requires
+    enum-told-2
+    enum-told-3
+    returns-3
     loop-less
     loop-again)

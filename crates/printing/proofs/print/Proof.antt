@@ -1,15 +1,14 @@
--- `printing::print` is safe and ends: the stage stands in its store, and any line fits into the buffer. Assumes nothing.
-use mathlib.Core.Path.{sym, subst}
+-- `printing::print` meets its contract: the first stage has the whole output left, and any line fits into the buffer. Assumes nothing.
+use mathlib.Core.Path.{_≡_, subst}
 use Prim.Native.Nat.{ℕ, _≤_}
-use native.Mathlib.Omega.{arith}
-use lib.ListN.{length, replicate, length-replicate}
+use lib.Dec.{lit≤}
 use Rattle.pages.specs.Pages.{longest}
 use borrow.Author.Needs.{needs}
 use Rattle.printing.proofs.print.Statement.{statement}
 use Rattle.printing.proofs.print.Tie as tie
 
-room : (n : ℕ) → longest ≤ n → longest ≤ length {A = ℕ} (replicate n 0)
-room n h = subst (λ (k : ℕ). longest ≤ k) (sym (length-replicate n 0)) h
+room : {size length : ℕ} → size ≡ length → longest ≤ size → longest ≤ length
+room e h = subst (λ (n : ℕ). longest ≤ n) e h
 
 slice-aggregate-begin : tie.Need-slice-aggregate-begin
 slice-aggregate-begin c = search needs
@@ -36,10 +35,12 @@ slice-aggregate-print-from-4 : tie.Need-slice-aggregate-print-from-4
 slice-aggregate-print-from-4 c = search needs
 
 print-from-requires : tie.Need-print-from-requires
-print-from-requires c κs = (c .before .before .before .before .before .before .before .before .begin .ensures .1, room 524288 (omega arith))
+print-from-requires c κs =
+    let b = c .before .before .before .before .before .before .before .before .begin .ensures in
+    (b .1 .1, b .0, room (slice-aggregate-print-from-4 c) (lit≤ tt))
 
 returns : tie.Need-returns
-returns c = search needs
+returns c = c .before .print-from .ensures
 
 pub print-spec : {M : Type 1} → statement M
 print-spec =

@@ -1,5 +1,6 @@
 -- `program::begin` meets its contract: a session that ends ready has the whole text left, one that is refused its line. Assumes nothing.
 use Rattle.store.specs.Stores.{Store, lent, closedRecord}
+use Rattle.session.proofs.Theorem.{store-of}
 use Rattle.program.proofs.ProgramLaws.{begins-ready, begins-refused}
 use borrow.Author.Needs.{needs}
 use Rattle.program.proofs.begin.Statement.{statement}
@@ -31,7 +32,7 @@ returns c =
     let r = c .before .before .before .before .before .before .before .before .before in
     let s = r .before .before .before .before .before .before .before .before in
     let ready = c .enum-told .given .1 in
-    (begins-ready (S s) _ (s .args .input .now) (r .run .result .answer) (r .run .ensures .0) ready, r .run .ensures .1 ready)
+    (begins-ready (S s) _ (s .args .input .now) (r .run .result .answer) (r .run .ensures .0) ready, (store-of (r .run .ensures .0), r .run .ensures .1 ready))
 
 same-length-4 : tie.Need-same-length-4
 same-length-4 c = search needs
@@ -46,7 +47,7 @@ returns-2 : tie.Need-returns-2
 returns-2 c =
     let r = c .before .before .before .before .before .before .before .before .before .before in
     let s = r .before .before .before .before .before .before .before .before in
-    (begins-refused (S s) _ (s .args .input .now) (r .run .result .answer) (r .run .ensures .0) _ (c .before .answer .given .1), tt)
+    (begins-refused (S s) _ (s .args .input .now) (r .run .result .answer) (r .run .ensures .0) _ (c .before .answer .given .1), (store-of (r .run .ensures .0), tt))
 
 pub begin-spec : {M : Type 1} → statement M
 begin-spec =

@@ -1,6 +1,6 @@
 -- `program::clauses` meets its contract: the page holds the clauses that fit. Assumes nothing.
 use Rattle.store.specs.Stores.{Store, lent}
-use Rattle.program.proofs.ProgramLaws.{clauses-go}
+use Rattle.program.proofs.ProgramLaws.{clauses-step}
 use borrow.Author.Needs.{needs}
 use Rattle.program.proofs.clauses.Statement.{statement}
 use Rattle.program.proofs.clauses.Tie as tie
@@ -19,7 +19,7 @@ returns c =
     let f = c .before .before .before in
     let s = f .before .before .before .before .before .before in
     let e = f .fill .ensures in
-    clauses-go (S s) (s .pre .0 .0) (s .args .cursor) _ _ _ _ (e .0) (e .1 .0) (λ none. e .1 .1 (s .pre .1) none)
+    clauses-step (S s) (s .pre .0 .0) (s .args .cursor) _ _ _ _ (e .0) (e .1 .0) (λ none. e .1 .1 (s .pre .1) none)
 
 pub clauses-spec : {M : Type 1} → statement M
 clauses-spec = tie.close (tie.spec fill-requires same-length returns)

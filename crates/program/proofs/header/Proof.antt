@@ -3,7 +3,7 @@ use native.Mathlib.Omega.{arith}
 use Rattle.store.specs.Stores.{Store, lent}
 use Rattle.render.proofs.DigitLaws.{digits-most}
 use Rattle.render.proofs.LineLaws.{length-header}
-use Rattle.program.proofs.ProgramLaws.{header-goes}
+use Rattle.program.proofs.ProgramLaws.{header-step}
 use borrow.Author.Needs.{needs}
 use Rattle.program.proofs.header.Statement.{statement}
 use Rattle.program.proofs.header.Tie as tie
@@ -34,7 +34,7 @@ returns c =
     let t = w .before .before in
     let s = t .before .before .before .before .before in
     let total = t .totals-of .ensures in
-    header-goes (S s) (s .pre .0) (s .args .out .now) (s .pre .1) _ _ _ _ (total .0) (total .1) (w .put-header .ensures .0) (w .put-header .ensures .1)
+    header-step (S s) (s .pre .0) (s .args .out .now) (s .pre .1) _ _ _ _ (total .0) (total .1) (w .put-header .ensures .0) (w .put-header .ensures .1)
     (c .start .result) (c .start .ensures .0) (c .start .ensures .1)
 
 pub header-spec : {M : Type 1} → statement M

@@ -1,9 +1,9 @@
 -- `program::page` meets its contract, stage by stage. Assumes nothing.
 use mathlib.Core.Path.{subst}
 use Rattle.store.specs.Stores.{Store, lent}
-use Rattle.program.specs.Program.{Stands}
+use Rattle.program.specs.Program.{StageStands}
 use Rattle.program.specs.declared.Stage.{Stage}
-use Rattle.program.proofs.ProgramLaws.{at-stage, over-goes}
+use Rattle.program.proofs.ProgramLaws.{at-stage, over-step}
 use borrow.Author.Needs.{needs}
 use Rattle.program.proofs.page.Statement.{statement}
 use Rattle.program.proofs.page.Tie as tie
@@ -23,7 +23,7 @@ enum-told c = search needs
 header-requires : tie.Need-header-requires
 header-requires c κs =
     let s = c .before .before .before .before .before .before .before in
-    (subst (λ (stage : Stage). Stands stage (S s)) (c .before .enum-told .given .1) (s .pre .0), s .pre .1)
+    (subst (λ (stage : Stage). StageStands stage (S s)) (c .before .enum-told .given .1) (s .pre .0), s .pre .1)
 
 enum-known-stage-2 : tie.Need-enum-known-stage-2
 enum-known-stage-2 c = search needs
@@ -31,7 +31,7 @@ enum-known-stage-2 c = search needs
 clauses-requires : tie.Need-clauses-requires
 clauses-requires c κs =
     let s = c .before .before .before .before .before .before .before .before in
-    (subst (λ (stage : Stage). Stands stage (S s)) (c .before .before .stage2 .given .1) (s .pre .0), s .pre .1)
+    (subst (λ (stage : Stage). StageStands stage (S s)) (c .before .before .stage2 .given .1) (s .pre .0), s .pre .1)
 
 enum-told-2 : tie.Need-enum-told-2
 enum-told-2 c = search needs
@@ -59,7 +59,7 @@ returns-3 c = at-stage (c .before .before .before .before .before .stage2 .given
 returns-4 : tie.Need-returns-4
 returns-4 c =
     let s = c .before .before .before .before .before .before in
-    at-stage (c .enum-told2 .given .1) (over-goes (S s) (s .args .out .now))
+    at-stage (c .enum-told2 .given .1) (over-step (S s) (s .args .out .now))
 
 pub page-spec : {M : Type 1} → statement M
 page-spec =

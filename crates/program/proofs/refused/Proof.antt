@@ -1,5 +1,5 @@
 -- `program::refused` meets its contract: the page is one line. Assumes nothing.
-use Rattle.program.proofs.ProgramLaws.{refusal-room, refused-goes}
+use Rattle.program.proofs.ProgramLaws.{refusal-room, refused-step}
 use borrow.Author.Needs.{needs}
 use Rattle.program.proofs.refused.Statement.{statement}
 use Rattle.program.proofs.refused.Tie as tie
@@ -25,7 +25,7 @@ returns c =
     let p = w .before .before in
     let n = p .before in
     let s = n .before .before in
-    λ store. refused-goes store (s .args .refusal) (s .args .out .now) (s .pre) _ _ _ _ (n .number .ensures) (p .place .ensures) (w .put-refusal .ensures .0) (w .put-refusal .ensures .1)
+    λ store. refused-step store (s .args .refusal) (s .args .out .now) (s .pre) _ _ _ _ (n .number .ensures) (p .place .ensures) (w .put-refusal .ensures .0) (w .put-refusal .ensures .1)
 
 pub refused-spec : {M : Type 1} → statement M
 refused-spec =

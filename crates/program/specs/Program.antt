@@ -8,7 +8,8 @@ use lib.ListN.{length, take, drop, replicate}
 use Rattle.store.specs.Refusals.{Said, done, refused, numberOf, placeOf}
 use Rattle.store.specs.Stores.{Store, lent, closedRecord, wellFormed, maxVariables, maxClauses, maxLiterals, maxRows}
 use Rattle.render.specs.Text.{refusalLine}
-use Rattle.emit.specs.Emit.{linesOf, textOf}
+use Rattle.lexleader.specs.Bounds.{maxMadeClauses}
+use Rattle.emit.specs.Emit.{linesOf, textOf, maxHeader, maxLine}
 use Rattle.cursor.specs.Cursors.{clausesLeft, Points}
 use Rattle.symbreak.specs.Calls.{Accepted}
 use Rattle.session.specs.Session.{sessionOf}
@@ -26,10 +27,9 @@ outputOf s input = printedBy (sessionOf s input .said) (sessionOf s input .store
 abbrev pub freshStore : Store
 freshStore = lent closedRecord (replicate maxLiterals 0) (replicate maxClauses 0) (replicate (maxRows * maxVariables) 0)
 
--- no output is longer: a header, and the lines of the plain clauses and of at most 6 clauses for each variable of each row, where a literal of any number
--- and the space after it have at most 22 bytes. It is generous: that it has a bound is what matters.
+-- no output is longer: a header, and as many of the longest lines as a made formula has clauses. It is generous: that there is a bound is what matters.
 abbrev pub maxOutput : ℕ
-maxOutput = (1 + maxClauses + 6 * maxVariables * maxRows) * (22 * maxLiterals + 2)
+maxOutput = maxHeader + maxMadeClauses * maxLine
 
 -- what is still to be printed
 unfoldable pub leftToPrint : Stage → Store → List ℕ

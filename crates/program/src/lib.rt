@@ -94,7 +94,7 @@ fn header(counts: Record, literals: &[u16], ends: &[u16], images: &[u16], out: &
     requires { ⌜ StageStands Stage.Header (lent counts (now literals) (now ends) (now images)) × (longest ≤ length (now out)) ⌝ }
     ensures { λ r. ⌜ PageStep (lent counts (now (literals .entry)) (now (ends .entry)) (now (images .entry))) Stage.Header (now (out .entry)) (r .stage) (r .bytes) (now (out .exit)) ⌝ }
 {
-    let total = emit::totals_of(counts, literals, ends, images);
+    let total = lexleader::totals_of(counts, images);
     let bytes = render::put_header(out, 0, total.variables as u64, total.clauses as u64);
     Printed {
         bytes: bytes,

@@ -14,12 +14,11 @@ use Rattle.quality.specs.Efficiency.{maxLabelled, hasEfficiency}
 use Rattle.store.specs.Refusals.{Said, done, refused}
 use Rattle.store.specs.Stores.{Store}
 use Rattle.store.specs.declared.refusal.Refusal.{Refusal}
-use Rattle.emit.specs.declared.Written.{Written}
 use Rattle.lexleader.specs.Store.{variablesOf, clausesOf}
 use Rattle.emit.specs.Emit.{headerOf, lineOf, writtenIf, headerBy, clauseBy}
 use Rattle.opening.specs.Opening.{openedBy}
 use Rattle.opening.specs.declared.Opened.{Opened}
-use Rattle.symbreak.specs.Calls.{saidOpened, openSays, openStore, saidWritten, headerSays, headerLeaves, clauseSays, clauseLeaves, compareSays, fillSays, fillLeaves, checkSays, descendSays, descendLeaves, efficiencySays}
+use Rattle.symbreak.specs.Calls.{saidOpened, openSays, openStore, headerSays, headerLeaves, clauseSays, clauseLeaves, compareSays, fillSays, fillLeaves, checkSays, descendSays, descendLeaves, efficiencySays}
 use Rattle.demands.specs.Reasons.{Reason, badAssignment, noSuchClause, tooShort, headerReasons, clauseReasons, fillReasons, checkReasons, descendReasons, compareReasons, efficiencyReasons}
 use Rattle.demands.specs.Demand1.{Unchanged, Demand1}
 use Rattle.demands.proofs.Acceptance.{store-refused}
@@ -34,7 +33,7 @@ wrong-form n a rest = where-false (isAssignment n a) (λ bad. (bad, rw bad)) (λ
 
 -- ---- header and clause
 
-line-exact : (line : List ℕ) (room : ℕ) → Exact (tooShort (length line) room ∷ []) (saidWritten (writtenIf line room))
+line-exact : (line : List ℕ) (room : ℕ) → Exact (tooShort (length line) room ∷ []) (writtenIf line room)
 unfolding writtenIf
 line-exact line room = too-short (length line) (length line) room (λ h. rw (le-leb (length line) room h)) (λ h. rw (lt-leb (length line) room h))
 
@@ -49,7 +48,7 @@ clause-exact s q room = on-store s (by (eqb q 0) refl (ltb (clausesOf s) q) refl
     by : (zero : Bool) → eqb q 0 ≡ zero → (above : Bool) → ltb (clausesOf s) q ≡ above
         → Exact
         (noSuchClause s q ∷ tooShort (length (lineOf s q)) room ∷ [])
-        (saidWritten (cond zero (Written.Refused Refusal.NoSuchClause) (cond above (Written.Refused Refusal.NoSuchClause) (writtenIf (lineOf s q) room))))
+        (cond zero (refused 13 0) (cond above (refused 13 0) (writtenIf (lineOf s q) room)))
     by true e above f = held (inl (eqb-true q 0 e)) refl
     by false e true f = held (inr (ltb-true (clausesOf s) q f)) refl
     by false e false f = missed (⊎-elim (eqb-false q 0 e) (λ h. omega (arith, ltb-false (clausesOf s) q f))) (line-exact (lineOf s q) room)

@@ -8,6 +8,7 @@ use native.Mathlib.Omega.{arith}
 use borrow.Author.Tests.{le-leb, le-ltb, ne-eqb}
 use lib.ListN.{length, getD, drop}
 use lib.Seq.{take-append-seam}
+use Rattle.store.specs.Refusals.{bufferLeft}
 use Rattle.store.specs.Stores.{Store, plainOf, heldRows, wellFormed, standingOf}
 use Rattle.store.specs.declared.form.Standing.{Standing}
 use Rattle.store.proofs.StandingLaws.{ready-of}
@@ -19,14 +20,14 @@ use Rattle.lexleader.specs.Store.{madeOf, variablesOf, clausesOf}
 use Rattle.emit.specs.Emit.{headerOf, lineOf, linesOf, textOf, maxHeader, maxLine, writtenIf, headerBy, clauseBy}
 use Rattle.emit.proofs.Bounds.{header-most, line-longest}
 use Rattle.emit.proofs.Text.{linesFrom, text-is-plain-then-documented}
-use Rattle.symbreak.specs.Calls.{saidWritten, bufferLeft, headerSays, headerLeaves, clauseSays, clauseLeaves}
+use Rattle.symbreak.specs.Calls.{headerSays, headerLeaves, clauseSays, clauseLeaves}
 use Rattle.demands.specs.Demand2.{writtenBy, clausesWritten, textWritten, Demand2}
 use Rattle.demands.proofs.Acceptance.{accepts-of, accepted-iff-symmetry, accepted-symmetry, accepted-held}
 
 -- ---- what the calls write
 
 line-written : (line buffer : List ℕ) → length line ≤ length buffer
-    → writtenBy (saidWritten (writtenIf line (length buffer))) (bufferLeft (saidWritten (writtenIf line (length buffer))) line buffer) ≡ line
+    → writtenBy (writtenIf line (length buffer)) (bufferLeft (writtenIf line (length buffer)) line buffer) ≡ line
 unfolding writtenIf
 line-written line buffer h = rw (le-leb (length line) (length buffer) h) (take-append-seam line (drop (length line) buffer))
 

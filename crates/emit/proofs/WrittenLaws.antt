@@ -1,5 +1,6 @@
 -- What writing a line says and leaves: one law for each way out. Assumes nothing.
-use mathlib.Core.Path.{_≡_, refl, ap, _∙_}
+use mathlib.Core.Path.{_≡_, refl, ap, ap₂, _∙_}
+use mathlib.Core.Bool.{true}
 use mathlib.Core.List.{List, _++_}
 use Prim.Native.Nat.{ℕ, _+_, _≤_, _<_}
 use native.Mathlib.Nat.{zero-add}
@@ -8,12 +9,15 @@ use borrow.Author.Tests.{eq-eqb, ne-eqb, le-leb, lt-leb, lt-ltb, le-ltb}
 use lib.ListN.{length, drop}
 use lib.Seq.{length-slice}
 use Rattle.store.specs.Refusals.{said, bufferLeft, refused}
-use Rattle.store.specs.Stores.{Store, literalCount, clauseAt, FormedClauses, maxLiterals}
+use Rattle.store.specs.Stores.{Store, literalCount, clauseAt, FormedClauses, maxLiterals, wellFormed}
 use Rattle.store.specs.declared.answer.Answer.{Answer}
 use Rattle.store.specs.declared.refusal.Refusal.{Refusal}
-use Rattle.render.specs.Text.{writtenAt}
 use Rattle.lexleader.specs.Store.{clausesOf}
-use Rattle.emit.specs.Emit.{lineOf, writtenIf, clauseBy}
+use Rattle.lexleader.specs.Counted.{Counted}
+use Rattle.lexleader.specs.declared.Totals.{Totals}
+use Rattle.lexleader.proofs.MadeLaws.{counted-variables, counted-clauses}
+use Rattle.render.specs.Text.{headerLine, writtenAt}
+use Rattle.emit.specs.Emit.{headerOf, lineOf, writtenIf, clauseBy}
 
 -- a line written at the start of a buffer
 pub at-start : (line out : List ℕ) → writtenAt 0 line out ≡ line ++ drop (length line) out
@@ -36,6 +40,11 @@ module _ (line out : List ℕ) where
 -- another name for the line
 pub same-line : {line other : List ℕ} → line ≡ other → (out : List ℕ) (answer : Answer) (after : List ℕ) → Writes line out answer after → Writes other out answer after
 same-line e out answer after w = rw e at w
+
+-- the header of the totals that were counted
+pub header-there : (s : Store) → wellFormed s ≡ true → {total : Totals} → Counted (s .counts) (s .images) total → headerLine (total .variables) (total .clauses) ≡ headerOf s
+unfolding headerOf
+header-there s well c = ap₂ headerLine (counted-variables s c) (counted-clauses s well c)
 
 -- a stored clause has no more literals than a store
 pub clause-short : (m : ℕ) (literals ends : List ℕ) → FormedClauses m literals ends → (c : ℕ) → c < m → length (clauseAt literals ends c) ≤ maxLiterals

@@ -4,8 +4,9 @@ use mathlib.Core.List.{List}
 use Prim.Native.Nat.{ℕ, _+_}
 use borrow.Author.Tests.{eq-eqb, ne-eqb}
 use lib.ListN.{length}
-use Rattle.store.specs.Refusals.{Said, done, refused, numberOf, placeOf, saidRefused}
+use Rattle.store.specs.Refusals.{Said, done, refused, numberOf, placeOf, saidRefused, said, bufferLeft}
 use Rattle.store.specs.Stores.{Store, lent, standingOf, maxRows}
+use Rattle.store.specs.declared.answer.Answer.{Answer}
 use Rattle.store.specs.declared.form.Standing.{Standing}
 use Rattle.store.specs.declared.record.Record.{Record}
 use Rattle.store.specs.declared.refusal.Refusal.{Refusal}
@@ -14,9 +15,7 @@ use Rattle.opening.specs.Opening.{bodyOf, openedBy, written}
 use Rattle.opening.specs.declared.Opened.{Opened}
 use Rattle.offering.specs.Offering.{rowFor, offeredBy, imagesAfter}
 use Rattle.offering.specs.declared.Offered.{Offered}
-use Rattle.emit.specs.Emit.{bufferAfter}
-use Rattle.emit.specs.declared.Written.{Written}
-use Rattle.symbreak.specs.Calls.{Accepted, onStore, saidWritten, bufferLeft, countsOpened, saidOpened, openSays, openStore, saidOffered, offerSays, offerStore}
+use Rattle.symbreak.specs.Calls.{Accepted, onStore, countsOpened, saidOpened, openSays, openStore, saidOffered, offerSays, offerStore}
 use Rattle.symbreak.specs.Exports.{cStored, cStoredAt}
 use Rattle.symbreak.specs.declared.Offering.{Offering}
 use Rattle.symbreak.specs.declared.exports.CStored.{CStored}
@@ -70,19 +69,14 @@ module _ (s : Store) (names values : List ℕ) where
 
 -- ---- header and clause
 
--- what is left of a buffer, by what the call says
-buffer-left : (w : Written) (line out : List ℕ) → bufferLeft (saidWritten w) line out ≡ bufferAfter w line out
-buffer-left (Written.Bytes k) line out = refl
-buffer-left (Written.Refused r) line out = refl
-
-module _ (s : Store) (w : Written) (line out : List ℕ) where
+module _ (s : Store) (there : Said ℕ) (line out : List ℕ) where
   pub unready-written : (r : Refusal) → standingOf s ≡ Standing.Refused r
-      → (saidRefused r ≡ onStore (standingOf s) (saidWritten w)) × (out ≡ bufferLeft (onStore (standingOf s) (saidWritten w)) line out)
+      → (saidRefused r ≡ onStore (standingOf s) there) × (out ≡ bufferLeft (onStore (standingOf s) there) line out)
   unready-written r e = rw e (refl, refl)
 
-  pub ready-written : standingOf s ≡ Standing.Ready → (a : Written) (after : List ℕ) → a ≡ w → after ≡ bufferAfter a line out
-      → (saidWritten a ≡ onStore (standingOf s) (saidWritten w)) × (after ≡ bufferLeft (onStore (standingOf s) (saidWritten w)) line out)
-  ready-written e a after is left = rw (e, ← is) (refl, left ∙ sym (buffer-left a line out))
+  pub ready-written : standingOf s ≡ Standing.Ready → (a : Answer) (after : List ℕ) → said a ≡ there → after ≡ bufferLeft (said a) line out
+      → (said a ≡ onStore (standingOf s) there) × (after ≡ bufferLeft (onStore (standingOf s) there) line out)
+  ready-written e a after is left = rw (e, ← is) (refl, left)
 
 -- ---- exports
 

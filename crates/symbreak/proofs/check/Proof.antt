@@ -3,11 +3,13 @@ use mathlib.Core.Path.{_≡_, sym, ap, _∙_}
 use borrow.Author.Tests.{not-true, not-false}
 use Rattle.store.specs.Stores.{Store, lent, standingOf}
 use Rattle.store.specs.declared.form.Standing.{Standing}
+use Rattle.store.proofs.Formed.{formed, formed-rows}
 use Rattle.store.proofs.StandingLaws.{ready}
 use mathlib.Core.Bool.{true}
 use Prim.Native.Nat.{ℕ}
 use Rattle.packed.specs.Words.{isAssignment}
 use Rattle.lexleader.specs.Store.{variablesOf}
+use Rattle.lexleader.proofs.MadeLaws.{counted-variables}
 use Rattle.symbreak.proofs.ModelLaws.{check-unready, check-misformed, check-done}
 use borrow.Author.Needs.{needs}
 use Rattle.symbreak.proofs.check.Statement.{statement}
@@ -29,7 +31,7 @@ start c = told c .before .before .before .before .before .before .before
 form : (c : tie.Else1) → isAssignment (variablesOf (S (start c))) (start c .args .a .now) ≡ true
 form c =
     let t = c .before .before in
-    sym (ap (λ (n : ℕ). isAssignment n (start c .args .a .now)) (t .totals-of .ensures .0)) ∙ sym (c .before .is-assignment .ensures) ∙ not-false _ (c .if1 .left)
+    sym (ap (λ (n : ℕ). isAssignment n (start c .args .a .now)) (counted-variables (S (start c)) (t .totals-of .ensures))) ∙ sym (c .before .is-assignment .ensures) ∙ not-false _ (c .if1 .left)
 
 admit-requires : tie.Need-admit-requires
 admit-requires c κs = search needs
@@ -44,7 +46,10 @@ enum-told : tie.Need-enum-told
 enum-told c = search needs
 
 totals-of-requires : tie.Need-totals-of-requires
-totals-of-requires c κs = ready (S (c .before .before .before .before .before .before .before)) (admitted c) .1
+totals-of-requires c κs =
+    let s = S (c .before .before .before .before .before .before .before) in
+    let well = ready s (admitted c) .1 in
+    (formed s well .clauses-fit, formed-rows s well)
 
 is-assignment-requires : tie.Need-is-assignment-requires
 is-assignment-requires c κs = search needs
@@ -54,7 +59,7 @@ returns-2 c =
     let i = c .before in
     let t = i .before in
     let s = t .before .before .before .before .before .before .before .before in
-    let same = ap (λ (n : ℕ). isAssignment n (s .args .a .now)) (t .totals-of .ensures .0) in
+    let same = ap (λ (n : ℕ). isAssignment n (s .args .a .now)) (counted-variables (S s) (t .totals-of .ensures)) in
     check-misformed (S s) (s .args .a .now) (admitted (t .before)) (sym same ∙ sym (i .is-assignment .ensures) ∙ not-true _ (c .if1 .taken))
 
 first-false-requires : tie.Need-first-false-requires

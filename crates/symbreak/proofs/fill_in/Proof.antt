@@ -4,11 +4,13 @@ use native.Mathlib.Omega.{arith}
 use borrow.Author.Tests.{not-true, not-false}
 use Rattle.store.specs.Stores.{Store, lent, heldRows, standingOf}
 use Rattle.store.specs.declared.form.Standing.{Standing}
+use Rattle.store.proofs.Formed.{formed, formed-rows}
 use Rattle.store.proofs.StandingLaws.{ready}
 use mathlib.Core.Bool.{true}
 use Prim.Native.Nat.{ℕ, _+_, _/_}
 use Rattle.packed.specs.Words.{wordCount, isAssignment}
 use Rattle.lexleader.specs.Store.{variablesOf}
+use Rattle.lexleader.proofs.MadeLaws.{counted-variables}
 use Rattle.symbreak.proofs.ModelLaws.{works, fill-unready, fill-misformed, fill-short, fill-done}
 use borrow.Author.Needs.{needs}
 use Rattle.symbreak.proofs.fill_in.Statement.{statement}
@@ -33,7 +35,7 @@ form c = sym (c .before .is-assignment .ensures) ∙ not-false _ (c .if1 .left)
 -- the words that are needed
 needed : (c : tie.After-totals-of) → (c .totals-of .result .variables + 63) / 64 ≡ wordCount (variablesOf (S (start (c .before))))
 unfolding wordCount
-needed c = ap (λ (n : ℕ). (n + 63) / 64) (c .totals-of .ensures .0)
+needed c = ap (λ (n : ℕ). (n + 63) / 64) (counted-variables (S (start (c .before))) (c .totals-of .ensures))
 
 admit-requires : tie.Need-admit-requires
 admit-requires c κs = search needs
@@ -58,10 +60,14 @@ returns-2 c =
     fill-misformed (S s) (s .args .a .now) (s .args .out .now) (admitted t) (sym (i .is-assignment .ensures) ∙ not-true _ (c .if1 .taken))
 
 totals-of-requires : tie.Need-totals-of-requires
-totals-of-requires c κs = let t = c .before .before in ready (S (t .before .before .before .before .before .before .before .before)) (admitted t) .1
+totals-of-requires c κs =
+    let t = c .before .before in
+    let s = S (t .before .before .before .before .before .before .before .before) in
+    let well = ready s (admitted t) .1 in
+    (formed s well .clauses-fit, formed-rows s well)
 
 add-needed : tie.Need-add-needed
-add-needed c = let t = c .before .totals-of .ensures in omega (arith, t .2)
+add-needed c = let t = c .before .totals-of .ensures in omega (arith, t .few-variables)
 
 returns-3 : tie.Need-returns-3
 returns-3 c =

@@ -3,8 +3,10 @@ use mathlib.Core.Path.{_≡_, sym, _∙_}
 use lib.ListN.{length}
 use Rattle.store.specs.Stores.{Store, lent, standingOf}
 use Rattle.store.specs.declared.form.Standing.{Standing}
+use Rattle.store.proofs.Formed.{formed, formed-rows}
 use Rattle.store.proofs.StandingLaws.{ready}
 use Rattle.emit.specs.Emit.{headerOf, headerBy}
+use Rattle.emit.proofs.WrittenLaws.{same-line, header-there}
 use Rattle.symbreak.specs.Calls.{headerSays, headerLeaves}
 use Rattle.symbreak.proofs.CallLaws.{unready-written, ready-written}
 use borrow.Author.Needs.{needs}
@@ -25,20 +27,36 @@ enum-known-refusal c = search needs
 
 returns : tie.Need-returns
 unfolding headerSays headerLeaves
-returns c = let s = c .before .before .before .before .before .before .before .before in unready-written (S s) (headerBy (S s) (length (s .args .out .now))) (headerOf (S s)) (s .args .out .now) _ (sym (c .before .before .before .admit .ensures) ∙ c .before .refusal .given .1)
+returns c =
+    let s = c .before .before .before .before .before .before .before .before in
+    unready-written (S s) (headerBy (S s) (length (s .args .out .now))) (headerOf (S s)) (s .args .out .now) _ (sym (c .before .before .before .admit .ensures) ∙ c .before .refusal .given .1)
 
 enum-told : tie.Need-enum-told
 enum-told c = search needs
 
+totals-of-requires : tie.Need-totals-of-requires
+totals-of-requires c κs =
+    let s = S (c .before .before .before .before .before .before .before) in
+    let well = ready s (admitted c) .1 in
+    (formed s well .clauses-fit, formed-rows s well)
+
 header-requires : tie.Need-header-requires
-header-requires c κs = ready (S (c .before .before .before .before .before .before .before .before)) (admitted (c .before)) .1
+header-requires c κs = search needs
 
 same-length : tie.Need-same-length
 same-length c = search needs
 
 returns-2 : tie.Need-returns-2
-unfolding headerSays headerLeaves
-returns-2 c = let s = c .before .before .before .before .before .before .before .before .before .before .before in let w = c .before .before in ready-written (S s) (headerBy (S s) (length (s .args .out .now))) (headerOf (S s)) (s .args .out .now) (admitted (c .before .before .before .before)) (w .header .result) (w .header .last .1 .1 .1 .1 .0) (w .header .ensures .0) (w .header .ensures .1)
+unfolding headerSays headerLeaves headerBy
+returns-2 c =
+    let w = c .before .before in
+    let t = w .before .before in
+    let e = t .before in
+    let a = e .before .before .before .before .before .before .before .args in
+    let s = S (e .before .before .before .before .before .before .before) in
+    let line = header-there s (ready s (admitted e) .1) (t .totals-of .ensures) in
+    let wrote = same-line line (a .out .now) (w .header .result) _ (w .header .ensures) in
+    ready-written s (headerBy s (length (a .out .now))) (headerOf s) (a .out .now) (admitted e) (w .header .result) _ (wrote .0) (wrote .1)
 
 pub header-spec : {M : Type 1} → statement M
 header-spec =
@@ -48,6 +66,7 @@ header-spec =
     enum-known-refusal
     returns
     enum-told
+    totals-of-requires
     header-requires
     same-length
     returns-2)

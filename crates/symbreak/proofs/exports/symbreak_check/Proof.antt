@@ -1,23 +1,10 @@
 -- `symbreak::exports::symbreak_check` meets its contract: what the call says, as numbers. Assumes nothing.
-use mathlib.Core.Path.{_≡_, sym, ap, _∙_}
-use Rattle.store.specs.Stores.{Store, lent}
-use Rattle.store.specs.declared.record.Record.{Record}
-use Rattle.symbreak.specs.Calls.{saidFinding, checkSays}
-use Rattle.symbreak.specs.Exports.{recordOf, cChecked}
+use mathlib.Core.Path.{sym, ap, _∙_}
+use Rattle.symbreak.specs.Calls.{saidFinding}
+use Rattle.symbreak.specs.Exports.{cChecked}
 use borrow.Author.Needs.{needs}
 use Rattle.symbreak.proofs.exports.symbreak_check.Statement.{statement}
 use Rattle.symbreak.proofs.exports.symbreak_check.Tie as tie
-
-abbrev S : tie.Start → Store
-S c =
-    lent (recordOf (c .args .variables) (c .args .clauses) (c .args .rows) (c .args .flag)) (c .args .literals .now) (c .args .ends .now) (c .args .images .now)
-
--- what the call says, and what it leaves, of the record that the four numbers are
-says : (c : tie.After-check) → let s = c .before .before .before .before .before .before in saidFinding (c .check .result) ≡ checkSays (S s) (s .args .a .now)
-says c =
-    let s = c .before .before .before .before .before .before in
-    c .check .ensures
-    ∙ ap (λ (r : Record). checkSays (lent r (s .args .literals .now) (s .args .ends .now) (s .args .images .now)) (s .args .a .now)) (c .before .record-of .ensures)
 
 record-of-requires : tie.Need-record-of-requires
 record-of-requires c κs = search needs
@@ -34,14 +21,20 @@ c-checked-requires c κs = search needs
 enum-known-r : tie.Need-enum-known-r
 enum-known-r c = search needs
 
-refusal-requires : tie.Need-refusal-requires
-refusal-requires c κs = search needs
+c-answer-requires : tie.Need-c-answer-requires
+c-answer-requires c κs = search needs
 
 returns : tie.Need-returns
-returns c = c .c-checked .ensures ∙ ap cChecked (sym (ap saidFinding (c .before .before .found .given .1)) ∙ says (c .before .before .before .before))
+returns c =
+    let w = c .before .before .before .before in
+    let says = rw (w .before .record-of .ensures) at (w .check .ensures) in
+    c .c-checked .ensures ∙ ap cChecked (sym (ap saidFinding (c .before .before .found .given .1)) ∙ says)
 
 returns-2 : tie.Need-returns-2
-returns-2 c = c .refusal .ensures ∙ ap cChecked (sym (ap saidFinding (c .before .before .r .given .1)) ∙ says (c .before .before .before .before))
+returns-2 c =
+    let w = c .before .before .before .before in
+    let says = rw (w .before .record-of .ensures) at (w .check .ensures) in
+    c .c-answer .ensures ∙ ap cChecked (sym (ap saidFinding (c .before .before .r .given .1)) ∙ says)
 
 pub symbreak-check-spec : {M : Type 1} → statement M
 symbreak-check-spec =
@@ -52,6 +45,6 @@ symbreak-check-spec =
     enum-known-found
     c-checked-requires
     enum-known-r
-    refusal-requires
+    c-answer-requires
     returns
     returns-2)

@@ -1,30 +1,9 @@
 -- `symbreak::exports::symbreak_clause` meets its contract: what the call says, as numbers, and what it leaves. Assumes nothing.
-use mathlib.Core.Path.{_≡_, sym, ap, _∙_}
-use lib.ListN.{length}
-use Rattle.store.specs.Stores.{Store, lent}
-use Rattle.store.specs.declared.record.Record.{Record}
-use Rattle.symbreak.specs.Calls.{saidWritten, clauseSays, clauseLeaves}
-use Rattle.symbreak.specs.Exports.{recordOf, cAnswer}
+use mathlib.Core.Path.{ap, _∙_}
+use Rattle.symbreak.specs.Exports.{cAnswer}
 use borrow.Author.Needs.{needs}
 use Rattle.symbreak.proofs.exports.symbreak_clause.Statement.{statement}
 use Rattle.symbreak.proofs.exports.symbreak_clause.Tie as tie
-
-abbrev S : tie.Start → Store
-S c =
-    lent (recordOf (c .args .variables) (c .args .clauses) (c .args .rows) (c .args .flag)) (c .args .literals .now) (c .args .ends .now) (c .args .images .now)
-
--- what the call says, and what it leaves, of the record that the four numbers are
-says : (c : tie.After-clause) → let s = c .before .before .before .before .before .before .before in saidWritten (c .clause .result) ≡ clauseSays (S s) (s .args .q) (length (s .args .out .now))
-says c =
-    let s = c .before .before .before .before .before .before .before in
-    c .clause .ensures .0
-    ∙ ap (λ (r : Record). clauseSays (lent r (s .args .literals .now) (s .args .ends .now) (s .args .images .now)) (s .args .q) (length (s .args .out .now))) (c .before .before .record-of .ensures)
-
-leaves : (c : tie.After-clause) → let s = c .before .before .before .before .before .before .before in c .clause .last .1 .1 .1 .1 .1 .0 ≡ clauseLeaves (S s) (s .args .q) (s .args .out .now)
-leaves c =
-    let s = c .before .before .before .before .before .before .before in
-    c .clause .ensures .1
-    ∙ ap (λ (r : Record). clauseLeaves (lent r (s .args .literals .now) (s .args .ends .now) (s .args .images .now)) (s .args .q) (s .args .out .now)) (c .before .before .record-of .ensures)
 
 record-of-requires : tie.Need-record-of-requires
 record-of-requires c κs = search needs
@@ -32,41 +11,17 @@ record-of-requires c κs = search needs
 clause-requires : tie.Need-clause-requires
 clause-requires c κs = search needs
 
-enum-known-length : tie.Need-enum-known-length
-enum-known-length c = search needs
-
-answer-requires : tie.Need-answer-requires
-answer-requires c κs = search needs
-
-enum-known-r : tie.Need-enum-known-r
-enum-known-r c = search needs
-
-refusal-requires : tie.Need-refusal-requires
-refusal-requires c κs = search needs
+c-answer-requires : tie.Need-c-answer-requires
+c-answer-requires c κs = search needs
 
 same-length : tie.Need-same-length
 same-length c = search needs
 
 returns : tie.Need-returns
-returns c = let w = c .before .before .before .before .before .before in (c .answer .ensures ∙ ap cAnswer (sym (ap saidWritten (c .before .before .length .given .1)) ∙ says w), leaves w)
-
-same-length-2 : tie.Need-same-length-2
-same-length-2 c = search needs
-
-returns-2 : tie.Need-returns-2
-returns-2 c = let w = c .before .before .before .before .before .before in (c .refusal .ensures ∙ ap cAnswer (sym (ap saidWritten (c .before .before .r .given .1)) ∙ says w), leaves w)
+returns c =
+    let w = c .before .before .before in
+    let both = rw (w .before .before .record-of .ensures) at (w .clause .ensures) in
+    (c .c-answer .ensures ∙ ap cAnswer (both .0), both .1)
 
 pub symbreak-clause-spec : {M : Type 1} → statement M
-symbreak-clause-spec =
-    tie.close
-    (tie.spec
-    record-of-requires
-    clause-requires
-    enum-known-length
-    answer-requires
-    enum-known-r
-    refusal-requires
-    same-length
-    returns
-    same-length-2
-    returns-2)
+symbreak-clause-spec = tie.close (tie.spec record-of-requires clause-requires c-answer-requires same-length returns)

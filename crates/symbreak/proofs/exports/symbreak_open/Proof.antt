@@ -36,8 +36,8 @@ open-requires c κs = search needs
 enum-told : tie.Need-enum-told
 enum-told c = search needs
 
-stored-requires : tie.Need-stored-requires
-stored-requires c κs = search needs
+stored-at-requires : tie.Need-stored-at-requires
+stored-at-requires c κs = search needs
 
 enum-known-answer : tie.Need-enum-known-answer
 enum-known-answer c = search needs
@@ -48,8 +48,8 @@ number-requires c κs = search needs
 place-requires : tie.Need-place-requires
 place-requires c κs = search needs
 
-stored-requires-2 : tie.Need-stored-requires-2
-stored-requires-2 c κs = search needs
+stored-at-requires-2 : tie.Need-stored-at-requires-2
+stored-at-requires-2 c κs = search needs
 
 same-length : tie.Need-same-length
 same-length c = search needs
@@ -60,7 +60,7 @@ same-length-2 c = search needs
 returns : tie.Need-returns
 returns c =
     let o = c .before .before .before .before .before .before .before .before in (
-      told-done _ _ _ _ _ (c .stored .ensures) (sym (ap saidOpened (c .before .enum-told .given .1)) ∙ says o) (counts-of (leaves o)),
+      told-done _ _ _ _ _ (c .stored-at .ensures) (sym (ap saidOpened (c .before .enum-told .given .1)) ∙ says o) (counts-of (leaves o)),
       (literals-of (leaves o), ends-of (leaves o)),
     )
 
@@ -73,7 +73,7 @@ same-length-4 c = search needs
 returns-2 : tie.Need-returns-2
 returns-2 c =
     let o = c .before .before .before .before .before .before .before .before .before .before .before in (
-      told-refused _ (c .before .before .before .before .answer .given .0 .0) _ _ _ _ _ (c .stored2 .ensures) (c .before .before .number .ensures) (c .before .place .ensures) (sym (ap saidOpened (c .before .before .before .before .answer .given .1)) ∙ says o) (counts-of (leaves o)),
+      told-refused _ (c .before .before .before .before .answer .given .0 .0) _ _ _ _ _ (c .stored-at2 .ensures) (c .before .before .number .ensures) (c .before .place .ensures) (sym (ap saidOpened (c .before .before .before .before .answer .given .1)) ∙ says o) (counts-of (leaves o)),
       (literals-of (leaves o), ends-of (leaves o)),
     )
 
@@ -84,11 +84,11 @@ symbreak-open-spec =
     record-of-requires
     open-requires
     enum-told
-    stored-requires
+    stored-at-requires
     enum-known-answer
     number-requires
     place-requires
-    stored-requires-2
+    stored-at-requires-2
     same-length
     same-length-2
     returns

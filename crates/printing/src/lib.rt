@@ -7,13 +7,13 @@ use store::record::Record;
 ghost use mathlib.Core.Path.{_≡_};
 ghost use Prim.Native.Nat.{ℕ, _+_, _≤_};
 ghost use lib.ListN.{length};
-ghost use Rattle.store.specs.Stores.{lent};
-ghost use Rattle.pages.specs.Pages.{longest};
+ghost use Rattle.store.specs.Stores.{stored};
+ghost use Rattle.emit.specs.Emit.{maxLine};
 ghost use Rattle.program.specs.Program.{outputOf, freshStore, maxOutput, leftToPrint, StageStands, PartAt};
 ghost use Rattle.printing.specs.Handed.{handedAfter};
 
 // The bytes of a page: any line fits.
-pub const PAGE: usize = 524288;
+pub const PAGE: usize = 131072;
 
 // So many bytes of the output were handed over, or a write failed.
 pub enum Handed {
@@ -45,7 +45,8 @@ fn print_from(
     images: &[u16],
     out: &mut [u8],
 ) -> Handed
-    requires { ⌜ StageStands first (lent counts (now literals) (now ends) (now images)) × (leftToPrint first (lent counts (now literals) (now ends) (now images)) ≡ outputOf freshStore (now input)) × (longest ≤ length (now out)) ⌝ }
+    requires { let s = stored counts literals ends images in
+        ⌜ StageStands first s × (leftToPrint first s ≡ outputOf freshStore (now input)) × (maxLine ≤ length (now out)) ⌝ }
     ensures { λ r. ⌜ ((bytes : ℕ) → r ≡ Handed.Bytes bytes → bytes ≡ length (outputOf freshStore (now (input .entry)))) ⌝ }
 {
     let mut stage = first;

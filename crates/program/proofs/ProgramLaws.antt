@@ -15,11 +15,11 @@ use Rattle.render.proofs.Writing.{length-written}
 use Rattle.render.proofs.LineLaws.{length-header, length-refusal}
 use Rattle.render.proofs.DigitLaws.{digits-most}
 use Rattle.lexleader.specs.Store.{madeOf, variablesOf, clausesOf}
-use Rattle.emit.specs.Emit.{headerOf, linesOf, textOf}
+use Rattle.emit.specs.Emit.{headerOf, linesOf, textOf, maxLine}
 use Rattle.emit.proofs.WrittenLaws.{at-start}
 use Rattle.cursor.specs.Cursors.{clausesLeft, Points}
 use Rattle.cursor.specs.declared.Cursor.{Cursor}
-use Rattle.pages.specs.Pages.{Filled, fillFrom, longest}
+use Rattle.pages.specs.Pages.{Filled, fillFrom}
 use Rattle.pages.proofs.PageLaws.{Holds, holds}
 use Rattle.session.specs.Session.{Ended, ended, saidAnswer, sessionOf}
 use Rattle.session.specs.declared.Answer.{Answer}
@@ -45,10 +45,10 @@ module _ (s : Store) (stage next : Stage) (line out : List ℕ) (is : leftToPrin
         stands = stands;
       }
 
-pub refusal-room : (number place room : ℕ) → longest ≤ room → 0 + length (refusalLine number place) ≤ room
+pub refusal-room : (number place room : ℕ) → maxLine ≤ room → 0 + length (refusalLine number place) ≤ room
 refusal-room number place room h = omega (arith, length-refusal number place, digits-most number, digits-most place)
 
-pub refused-step : (s : Store) (refusal : Refusal) (out : List ℕ) → longest ≤ length out → (number place bytes : ℕ) (after : List ℕ) → number ≡ numberOf refusal
+pub refused-step : (s : Store) (refusal : Refusal) (out : List ℕ) → maxLine ≤ length out → (number place bytes : ℕ) (after : List ℕ) → number ≡ numberOf refusal
     → place ≡ placeOf refusal → bytes ≡ 0 + length (refusalLine number place) → after ≡ writtenAt 0 (refusalLine number place) out
     → PageStep s (Stage.Refused refusal) out Stage.Over bytes after
 unfolding leftToPrint
@@ -57,7 +57,7 @@ refused-step s refusal out room number place bytes after n p b a =
     line-step s (Stage.Refused refusal) Stage.Over (refusalLine number place) out (rw (n, p) (sym (append-nil (refusalLine (numberOf refusal) (placeOf refusal)))))
     (omega arith) (omega (arith, refusal-room number place (length out) room)) tt bytes after b a
 
-pub header-step : (s : Store) → wellFormed s ≡ true → (out : List ℕ) → longest ≤ length out → (variables clauses bytes : ℕ) (after : List ℕ)
+pub header-step : (s : Store) → wellFormed s ≡ true → (out : List ℕ) → maxLine ≤ length out → (variables clauses bytes : ℕ) (after : List ℕ)
     → variables ≡ variablesOf s → clauses ≡ clausesOf s → bytes ≡ 0 + length (headerLine variables clauses) → after ≡ writtenAt 0 (headerLine variables clauses) out
     → (c : Cursor) → Points (s .counts) (s .images) c → clausesLeft s c ≡ madeOf s → PageStep s Stage.Header out (Stage.Clauses c) bytes after
 unfolding leftToPrint textOf headerOf

@@ -7,8 +7,8 @@ use store::refusal::Refusal;
 ghost use mathlib.Core.Path.{_≡_};
 ghost use Prim.Native.Nat.{_≤_};
 ghost use lib.ListN.{length};
-ghost use Rattle.store.specs.Stores.{Store, lent, closedRecord};
-ghost use Rattle.pages.specs.Pages.{longest};
+ghost use Rattle.store.specs.Stores.{Store, stored, closedRecord};
+ghost use Rattle.emit.specs.Emit.{maxLine};
 ghost use Rattle.session.specs.Session.{sessionOf};
 ghost use Rattle.program.specs.Program.{outputOf, leftToPrint, StageStands, PageStep};
 
@@ -34,9 +34,11 @@ pub struct Printed {
 
 // Opens and offers what an input states, in lent slices of any contents.
 pub fn begin(input: &[u8], literals: &mut [u16], ends: &mut [u16], images: &mut [u16]) -> Begun
-    ensures output { λ r. ⌜ leftToPrint (r .stage) (lent (r .counts) (now (literals .exit)) (now (ends .exit)) (now (images .exit))) ≡ outputOf (lent closedRecord (now (literals .entry)) (now (ends .entry)) (now (images .entry))) (now (input .entry)) ⌝ }
-    ensures store { λ r. ⌜ lent (r .counts) (now (literals .exit)) (now (ends .exit)) (now (images .exit)) ≡ sessionOf (lent closedRecord (now (literals .entry)) (now (ends .entry)) (now (images .entry))) (now (input .entry)) .store ⌝ }
-    ensures stands { λ r. ⌜ StageStands (r .stage) (lent (r .counts) (now (literals .exit)) (now (ends .exit)) (now (images .exit))) ⌝ }
+    ensures output { λ r. let s = stored closedRecord (literals .entry) (ends .entry) (images .entry) in
+        ⌜ leftToPrint (r .stage) (stored (r .counts) (literals .exit) (ends .exit) (images .exit)) ≡ outputOf s (now (input .entry)) ⌝ }
+    ensures store { λ r. let s = stored closedRecord (literals .entry) (ends .entry) (images .entry) in
+        ⌜ stored (r .counts) (literals .exit) (ends .exit) (images .exit) ≡ sessionOf s (now (input .entry)) .store ⌝ }
+    ensures stands { λ r. ⌜ StageStands (r .stage) (stored (r .counts) (literals .exit) (ends .exit) (images .exit)) ⌝ }
 {
     let ended = session::run(input, literals, ends, images);
     let answer = ended.answer;
@@ -62,8 +64,9 @@ pub fn page(
     images: &[u16],
     out: &mut [u8],
 ) -> Printed
-    requires { ⌜ StageStands stage (lent counts (now literals) (now ends) (now images)) × (longest ≤ length (now out)) ⌝ }
-    ensures { λ r. ⌜ PageStep (lent counts (now (literals .entry)) (now (ends .entry)) (now (images .entry))) stage (now (out .entry)) (r .stage) (r .bytes) (now (out .exit)) ⌝ }
+    requires { ⌜ StageStands stage (stored counts literals ends images) × (maxLine ≤ length (now out)) ⌝ }
+    ensures { λ r. let s = stored counts (literals .entry) (ends .entry) (images .entry) in
+        ⌜ PageStep s stage (now (out .entry)) (r .stage) (r .bytes) (now (out .exit)) ⌝ }
 {
     match stage {
         Stage::Refused(refusal) => refused(refusal, out),
@@ -78,7 +81,7 @@ pub fn page(
 
 // The page of a refusal.
 fn refused(refusal: Refusal, out: &mut [u8]) -> Printed
-    requires { ⌜ longest ≤ length (now out) ⌝ }
+    requires { ⌜ maxLine ≤ length (now out) ⌝ }
     ensures { λ r. ⌜ ((s : Store) → PageStep s (Stage.Refused refusal) (now (out .entry)) (r .stage) (r .bytes) (now (out .exit))) ⌝ }
 {
     let number = refusal.number() as u64;
@@ -91,8 +94,9 @@ fn refused(refusal: Refusal, out: &mut [u8]) -> Printed
 
 // The header's page.
 fn header(counts: Record, literals: &[u16], ends: &[u16], images: &[u16], out: &mut [u8]) -> Printed
-    requires { ⌜ StageStands Stage.Header (lent counts (now literals) (now ends) (now images)) × (longest ≤ length (now out)) ⌝ }
-    ensures { λ r. ⌜ PageStep (lent counts (now (literals .entry)) (now (ends .entry)) (now (images .entry))) Stage.Header (now (out .entry)) (r .stage) (r .bytes) (now (out .exit)) ⌝ }
+    requires { ⌜ StageStands Stage.Header (stored counts literals ends images) × (maxLine ≤ length (now out)) ⌝ }
+    ensures { λ r. let s = stored counts (literals .entry) (ends .entry) (images .entry) in
+        ⌜ PageStep s Stage.Header (now (out .entry)) (r .stage) (r .bytes) (now (out .exit)) ⌝ }
 {
     let total = lexleader::totals_of(counts, images);
     let bytes = render::put_header(out, 0, total.variables as u64, total.clauses as u64);
@@ -111,8 +115,9 @@ fn clauses(
     cursor: Cursor,
     out: &mut [u8],
 ) -> Printed
-    requires { ⌜ StageStands (Stage.Clauses cursor) (lent counts (now literals) (now ends) (now images)) × (longest ≤ length (now out)) ⌝ }
-    ensures { λ r. ⌜ PageStep (lent counts (now (literals .entry)) (now (ends .entry)) (now (images .entry))) (Stage.Clauses cursor) (now (out .entry)) (r .stage) (r .bytes) (now (out .exit)) ⌝ }
+    requires { ⌜ StageStands (Stage.Clauses cursor) (stored counts literals ends images) × (maxLine ≤ length (now out)) ⌝ }
+    ensures { λ r. let s = stored counts (literals .entry) (ends .entry) (images .entry) in
+        ⌜ PageStep s (Stage.Clauses cursor) (now (out .entry)) (r .stage) (r .bytes) (now (out .exit)) ⌝ }
 {
     let filled = pages::fill(counts, literals, ends, images, cursor, out);
     let next = filled.cursor;

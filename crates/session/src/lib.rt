@@ -10,7 +10,7 @@ ghost use mathlib.Core.Bool.{true};
 ghost use Prim.Native.Nat.{_<_};
 ghost use lib.ListN.{length};
 ghost use Rattle.dimacs.specs.Lines.{linesAt};
-ghost use Rattle.store.specs.Stores.{lent, closedRecord, wellFormed};
+ghost use Rattle.store.specs.Stores.{stored, closedRecord, wellFormed};
 ghost use Rattle.session.specs.Input.{fromDivider};
 ghost use Rattle.session.specs.Session.{ended, saidAnswer, offerLines, divided, sessionOf};
 
@@ -30,8 +30,9 @@ pub struct Session {
 
 // Opens and offers what an input states, in lent slices of any contents.
 pub fn run(input: &[u8], literals: &mut [u16], ends: &mut [u16], images: &mut [u16]) -> Session
-    ensures ends { λ r. ⌜ ended (saidAnswer (r .answer)) (lent (r .counts) (now (literals .exit)) (now (ends .exit)) (now (images .exit))) ≡ sessionOf (lent closedRecord (now (literals .entry)) (now (ends .entry)) (now (images .entry))) (now (input .entry)) ⌝ }
-    ensures formed { λ r. ⌜ (r .answer ≡ Answer.Ready → wellFormed (lent (r .counts) (now (literals .exit)) (now (ends .exit)) (now (images .exit))) ≡ true) ⌝ }
+    ensures ends { λ r. let s = stored closedRecord (literals .entry) (ends .entry) (images .entry) in
+        ⌜ ended (saidAnswer (r .answer)) (stored (r .counts) (literals .exit) (ends .exit) (images .exit)) ≡ sessionOf s (now (input .entry)) ⌝ }
+    ensures formed { λ r. ⌜ (r .answer ≡ Answer.Ready → wellFormed (stored (r .counts) (literals .exit) (ends .exit) (images .exit)) ≡ true) ⌝ }
 {
     if MAX_INPUT < input.len() {
         return bad_input();
@@ -78,7 +79,9 @@ fn open_and_offer(
     images: &mut [u16],
 ) -> Session
     requires { ⌜ at < length (now input) ⌝ }
-    ensures { λ r. ⌜ ended (saidAnswer (r .answer)) (lent (r .counts) (now (literals .exit)) (now (ends .exit)) (now (images .exit))) ≡ divided (lent closedRecord (now (literals .entry)) (now (ends .entry)) (now (images .entry))) (now (input .entry)) (linesAt (now (input .entry)) at) ⌝ }
+    ensures { λ r. let s = stored closedRecord (literals .entry) (ends .entry) (images .entry) in
+        let left = stored (r .counts) (literals .exit) (ends .exit) (images .exit) in
+        ⌜ ended (saidAnswer (r .answer)) left ≡ divided s (now (input .entry)) (linesAt (now (input .entry)) at) ⌝ }
 {
     let opening = symbreak::open(symbreak::new_record(), &input[..at], literals, ends);
     let answer = opening.answer;
@@ -108,7 +111,9 @@ fn offer_lines(
     input: &[u8],
     at: usize,
 ) -> Session
-    ensures { λ r. ⌜ ended (saidAnswer (r .answer)) (lent (r .counts) (now (literals .entry)) (now (ends .entry)) (now (images .exit))) ≡ offerLines (lent counts (now (literals .entry)) (now (ends .entry)) (now (images .entry))) (linesAt (now (input .entry)) at) ⌝ }
+    ensures { λ r. let s = stored counts (literals .entry) (ends .entry) (images .entry) in
+        let left = stored (r .counts) (literals .entry) (ends .entry) (images .exit) in
+        ⌜ ended (saidAnswer (r .answer)) left ≡ offerLines s (linesAt (now (input .entry)) at) ⌝ }
 {
     if input.len() <= at {
         return Session {

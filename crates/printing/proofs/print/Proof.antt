@@ -2,13 +2,13 @@
 use mathlib.Core.Path.{_≡_, subst}
 use Prim.Native.Nat.{ℕ, _≤_}
 use lib.Dec.{lit≤}
-use Rattle.pages.specs.Pages.{longest}
+use Rattle.emit.specs.Emit.{maxLine}
 use borrow.Author.Needs.{needs}
 use Rattle.printing.proofs.print.Statement.{statement}
 use Rattle.printing.proofs.print.Tie as tie
 
-room : {size length : ℕ} → size ≡ length → longest ≤ size → longest ≤ length
-room e h = subst (λ (n : ℕ). longest ≤ n) e h
+room : {size length : ℕ} → size ≡ length → maxLine ≤ size → maxLine ≤ length
+room e h = subst (λ (n : ℕ). maxLine ≤ n) e h
 
 slice-aggregate-begin : tie.Need-slice-aggregate-begin
 slice-aggregate-begin c = search needs

@@ -16,7 +16,7 @@ use Rattle.lexleader.specs.Models.{literalValue, clauseHolds, formulaHolds}
 use Rattle.lexleader.specs.Made.{agrees}
 use Rattle.lexleader.specs.Clause.{columnOf, pairAt}
 use Rattle.lexleader.specs.Places.{sixAt}
-use Rattle.lexleader.specs.declared.Place.{Place}
+use Rattle.lexleader.specs.declared.places.Place.{Place}
 use Rattle.lexleader.proofs.Truth.{value-opposite}
 use Rattle.checking.specs.Six.{ordered, due, Within}
 

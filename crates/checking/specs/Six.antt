@@ -10,7 +10,7 @@ use Rattle.lexleader.specs.Models.{literalValue}
 use Rattle.lexleader.specs.Rows.{Pair}
 use Rattle.lexleader.specs.Made.{agrees}
 use Rattle.lexleader.specs.Clause.{pairAt}
-use Rattle.lexleader.specs.declared.Place.{Place}
+use Rattle.lexleader.specs.declared.places.Place.{Place}
 
 -- y is true where x is
 unfoldable pub ordered : (ℕ → Bool) → Pair → Bool

@@ -2,7 +2,7 @@
 // cursor, until one is false; where the six of an auxiliary all hold they are passed at once. What carries the proofs: the first false clause of all is the
 // first false one of those that are left.
 use cursor::Cursor;
-use lexleader::Place;
+use lexleader::places::Place;
 use store::record::Record;
 ghost use mathlib.Core.Path.{_≡_};
 ghost use mathlib.Core.Bool.{true};
@@ -125,7 +125,7 @@ fn pair_agrees(row: &[u16], i: usize, a: &[u64]) -> bool
     requires { ⌜ (i < length (now row)) × (i ≤ maxVariables) × Within (64 * length (now a)) (pairAt (now row) i) ⌝ }
     ensures { λ r. ⌜ ((n : ℕ) → Within n (pairAt (now (row .entry)) i) → r ≡ agrees (valueOf (bitsOf n (now (a .entry)))) (pairAt (now (row .entry)) i)) ⌝ }
 {
-    let x = lexleader::own_code(i);
+    let x = lexleader::places::own_code(i);
     let y = store::literal::wide(row[i]);
     valuation::literal_value(a, x) == valuation::literal_value(a, y)
 }
@@ -135,7 +135,7 @@ fn is_ordered(row: &[u16], i: usize, a: &[u64]) -> bool
     requires { ⌜ (i < length (now row)) × (i ≤ maxVariables) × Within (64 * length (now a)) (pairAt (now row) i) ⌝ }
     ensures { λ r. ⌜ ((n : ℕ) → Within n (pairAt (now (row .entry)) i) → r ≡ ordered (valueOf (bitsOf n (now (a .entry)))) (pairAt (now (row .entry)) i)) ⌝ }
 {
-    let x = lexleader::own_code(i);
+    let x = lexleader::places::own_code(i);
     let y = store::literal::wide(row[i]);
     if !valuation::literal_value(a, x) {
         return true;
@@ -164,7 +164,7 @@ fn holds_at(
     let from = at.row * counts.variables;
     let to = from + counts.variables;
     let place = at.place;
-    let clause = lexleader::clause_at(&images[from..to], place);
+    let clause = lexleader::places::clause_at(&images[from..to], place);
     let codes = clause.literals;
     let count = clause.count;
     codes_hold(&codes[..count], a)

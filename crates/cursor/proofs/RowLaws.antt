@@ -11,9 +11,9 @@ use Rattle.lexleader.specs.Made.{rowClauses, auxiliaries, rowsClauses}
 use Rattle.lexleader.specs.Bounds.{maxBefore}
 use Rattle.lexleader.specs.Clause.{pairsAt}
 use Rattle.lexleader.specs.Places.{clausesOn, clausesAt, sixAt, auxiliaryAfter, Stands}
-use Rattle.lexleader.specs.declared.Place.{Place}
+use Rattle.lexleader.specs.declared.places.Place.{Place}
 use Rattle.lexleader.proofs.Bounds.{auxiliaries-most}
-use Rattle.lexleader.proofs.Places.{past, then-next, some-clause}
+use Rattle.lexleader.proofs.PlaceLaws.{past, then-next, some-clause}
 use Rattle.cursor.specs.Cursors.{rowAt, rowsLeft, addedLeft, Points}
 
 -- p is the place of a row's first clause, whose first auxiliary is e

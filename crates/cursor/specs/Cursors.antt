@@ -8,7 +8,7 @@ use Rattle.store.specs.declared.record.Record.{Record}
 use Rattle.lexleader.specs.Made.{rowsClauses}
 use Rattle.lexleader.specs.Bounds.{maxBefore}
 use Rattle.lexleader.specs.Places.{clausesAt, auxiliaryAfter, Stands}
-use Rattle.lexleader.specs.declared.Place.{Place}
+use Rattle.lexleader.specs.declared.places.Place.{Place}
 use Rattle.cursor.specs.declared.Cursor.{Cursor}
 
 -- row r of those that are held, from 0, and that row with those after it

@@ -1,7 +1,7 @@
 // A walk through the made formula's clauses (document 01, "Made formula"): a cursor says how many plain clauses are passed, which row comes next and the
 // place among its clauses, so that no row is walked again for each clause. What carries the proofs: the clauses that are left from a cursor on
 // (specs/Cursors.antt), of which each step takes the first.
-use lexleader::Place;
+use lexleader::places::Place;
 use store::record::Record;
 ghost use mathlib.Core.Path.{_≡_};
 ghost use mathlib.Core.Bool.{true};
@@ -63,7 +63,7 @@ pub fn next_added(counts: Record, images: &[u16], cursor: Cursor) -> Cursor
     let from = cursor.row * counts.variables;
     let to = from + counts.variables;
     let here = cursor.place;
-    let place = lexleader::next_place(&images[from..to], here);
+    let place = lexleader::places::next_place(&images[from..to], here);
     at_place(counts, images, cursor, place)
 }
 
@@ -99,7 +99,7 @@ pub fn next_auxiliary(
     let from = cursor.row * counts.variables;
     let to = from + counts.variables;
     let here = cursor.place;
-    let place = lexleader::next_auxiliary(&images[from..to], here);
+    let place = lexleader::places::next_auxiliary(&images[from..to], here);
     at_place(counts, images, cursor, place)
 }
 
@@ -137,7 +137,7 @@ fn row_from(counts: Record, images: &[u16], plain: usize, row: usize, e: u32) ->
     while r < counts.rows {
         let from = r * n;
         let to = from + n;
-        let place = lexleader::first_place(&images[from..to], first);
+        let place = lexleader::places::first_place(&images[from..to], first);
         if place.index < n {
             return Cursor {
                 plain: plain,

@@ -6,7 +6,7 @@ use mathlib.Core.Bool.{Bool, cond}
 use mathlib.Core.List.{List, _∷_}
 use lib.ListN.{length, getD, take, drop}
 use lib.Dec.{eqb}
-use Rattle.lexleader.specs.declared.Clause.{Clause}
+use Rattle.lexleader.specs.declared.table.Clause.{Clause}
 use Rattle.lexleader.specs.Rows.{Pair, pairsFrom}
 use Rattle.lexleader.specs.Made.{firstSix, laterSix}
 

@@ -9,7 +9,7 @@ use Rattle.store.specs.Literals.{oppositeOf}
 use Rattle.lexleader.specs.Rows.{Pair}
 use Rattle.lexleader.specs.Bounds.{maxMadeVariables}
 use Rattle.lexleader.specs.Clause.{tableOf, pairAt, pairsAt, Next}
-use Rattle.lexleader.specs.declared.Place.{Place}
+use Rattle.lexleader.specs.declared.places.Place.{Place}
 
 -- the clauses of a row from the auxiliary ej on, whose number is e, for the pairs from (xj, yj) on
 unfoldable pub clausesOn : ℕ → ℕ → List Pair → List (List ℕ)

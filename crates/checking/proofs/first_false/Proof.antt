@@ -14,7 +14,7 @@ use Rattle.lists.proofs.Members.{all-at}
 use Rattle.store.specs.Literals.{isLiteral}
 use Rattle.store.specs.Stores.{Store, lent}
 use Rattle.lexleader.specs.Places.{sixAt}
-use Rattle.lexleader.proofs.Places.{six-length}
+use Rattle.lexleader.proofs.PlaceLaws.{six-length}
 use Rattle.lexleader.specs.Store.{variablesOf, clausesOf}
 use Rattle.emit.proofs.Bounds.{store-within}
 use Rattle.cursor.specs.Cursors.{rowAt, clausesLeft, Points}

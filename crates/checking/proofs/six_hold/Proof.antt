@@ -18,7 +18,7 @@ use Rattle.store.proofs.RowLaws.{part-is, row-room, row-size}
 use Rattle.lexleader.specs.Models.{formulaHolds}
 use Rattle.lexleader.specs.Places.{sixAt}
 use Rattle.lexleader.proofs.Within.{formula-more}
-use Rattle.lexleader.proofs.Places.{auxiliary-most}
+use Rattle.lexleader.proofs.PlaceLaws.{auxiliary-most}
 use Rattle.lexleader.specs.Store.{variablesOf}
 use Rattle.cursor.specs.Cursors.{rowAt, AtAuxiliary}
 use Rattle.cursor.proofs.RowLaws.{row-part, here-six}

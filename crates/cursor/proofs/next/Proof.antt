@@ -3,7 +3,7 @@ use mathlib.Core.List.{[], _∷_}
 use native.Mathlib.Omega.{arith}
 use Rattle.store.specs.Stores.{Store, lent}
 use Rattle.store.proofs.Formed.{formed}
-use Rattle.lexleader.proofs.Places.{by-head}
+use Rattle.lexleader.proofs.PlaceLaws.{by-head}
 use Rattle.cursor.proofs.CursorLaws.{next-plain, past-added, some-row}
 use borrow.Author.Needs.{needs}
 use Rattle.cursor.proofs.next.Statement.{statement}

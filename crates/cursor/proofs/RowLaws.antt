@@ -10,7 +10,7 @@ use Rattle.store.proofs.RowLaws.{part-is, from-here, from-end, row-size}
 use Rattle.lexleader.specs.Made.{rowClauses, auxiliaries, rowsClauses}
 use Rattle.lexleader.specs.Bounds.{maxBefore}
 use Rattle.lexleader.specs.Clause.{pairsAt}
-use Rattle.lexleader.specs.Places.{clausesOn, clausesAt, sixAt, auxiliaryAfter, Stands}
+use Rattle.lexleader.specs.Places.{clausesOn, clausesAt, sixAt, auxiliaryAfter, PlaceStands}
 use Rattle.lexleader.specs.declared.places.Place.{Place}
 use Rattle.lexleader.proofs.Bounds.{auxiliaries-most}
 use Rattle.lexleader.proofs.PlaceLaws.{past, then-next, some-clause}
@@ -18,11 +18,11 @@ use Rattle.cursor.specs.Cursors.{rowAt, rowsLeft, addedLeft, Points}
 
 -- p is the place of a row's first clause, whose first auxiliary is e
 abbrev pub First : ℕ → List ℕ → Place → Type 0
-First e row p = Stands row p × (clausesAt row p ≡ rowClauses e row) × (auxiliaryAfter row p ≡ e + auxiliaries row)
+First e row p = PlaceStands row p × (clausesAt row p ≡ rowClauses e row) × (auxiliaryAfter row p ≡ e + auxiliaries row)
 
 -- q is the place after p, past these clauses
 abbrev pub After : List ℕ → List (List ℕ) → Place → Place → Type 0
-After row clauses p q = Stands row q × (clausesAt row p ≡ clauses ++ clausesAt row q) × (auxiliaryAfter row q ≡ auxiliaryAfter row p)
+After row clauses p q = PlaceStands row q × (clausesAt row p ≡ clauses ++ clausesAt row q) × (auxiliaryAfter row q ≡ auxiliaryAfter row p)
 
 module _ (counts : Record) (images : List ℕ) where
   -- a slice `&images[from..to]` is row r
@@ -56,14 +56,14 @@ module _ (counts : Record) (images : List ℕ) where
     added-here p = ap (λ (rows : List (List ℕ)). addedLeft rows p) here
 
     -- the clause at a place where one stands
-    pub here-first : (p : Place) → Stands row p → p .index < counts .variables → counts .rows * counts .variables ≤ length images
+    pub here-first : (p : Place) → PlaceStands row p → p .index < counts .variables → counts .rows * counts .variables ≤ length images
         → getD (addedLeft (rowsLeft counts images r) p) 0 [] ≡ getD (clausesAt row p) 0 []
     here-first p s inside fits =
         let some = some-clause row p s (omega (arith, row-size (counts .variables) (counts .rows) images fits r h)) in
         ap (λ (l : List (List ℕ)). getD l 0 []) (added-here p) ∙ List·getD-append (clausesAt row p) (rowsClauses (auxiliaryAfter row p) later) [] 0 some
 
     -- the clauses of an auxiliary, from the first of them on
-    pub here-six : (p : Place) → Stands row p → p .r ≡ 1 → p .index < counts .variables → p .next < counts .variables → counts .rows * counts .variables ≤ length images
+    pub here-six : (p : Place) → PlaceStands row p → p .r ≡ 1 → p .index < counts .variables → p .next < counts .variables → counts .rows * counts .variables ≤ length images
         → (rest : List (List ℕ)) × (addedLeft (rowsLeft counts images r) p ≡ sixAt row p ++ rest)
     here-six p s first inside more fits =
         let size = row-size (counts .variables) (counts .rows) images fits r h in
@@ -79,7 +79,7 @@ module _ (counts : Record) (images : List ℕ) where
     -- ---- a place of the row
 
     module _ (p : Place) where
-      pub place-points : {plain : ℕ} → plain ≤ counts .clauses → Stands row p → p .index < counts .variables → auxiliaryAfter row p ≤ maxBefore (r + 1) + 1
+      pub place-points : {plain : ℕ} → plain ≤ counts .clauses → PlaceStands row p → p .index < counts .variables → auxiliaryAfter row p ≤ maxBefore (r + 1) + 1
           → Points counts images (record { plain = plain; row = r; place = p })
       place-points written stands inside low = record {
         plain = written;

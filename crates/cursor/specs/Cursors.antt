@@ -7,7 +7,7 @@ use Rattle.store.specs.Stores.{Store, rowsOf, plainOf}
 use Rattle.store.specs.declared.record.Record.{Record}
 use Rattle.lexleader.specs.Made.{rowsClauses}
 use Rattle.lexleader.specs.Bounds.{maxBefore}
-use Rattle.lexleader.specs.Places.{clausesAt, auxiliaryAfter, Stands}
+use Rattle.lexleader.specs.Places.{clausesAt, auxiliaryAfter, PlaceStands}
 use Rattle.lexleader.specs.declared.places.Place.{Place}
 use Rattle.cursor.specs.declared.Cursor.{Cursor}
 
@@ -31,7 +31,7 @@ clausesLeft s c = drop (c .plain) (plainOf s) ++ addedLeft (rowsLeft (s .counts)
 pub record Points (counts : Record) (images : List ℕ) (c : Cursor) : Type 0 where
   pub plain : c .plain ≤ counts .clauses
   pub row : c .row ≤ counts .rows
-  pub place : c .row < counts .rows → Stands (rowAt counts images (c .row)) (c .place)
+  pub place : c .row < counts .rows → PlaceStands (rowAt counts images (c .row)) (c .place)
   pub there : c .row < counts .rows → c .place .index < counts .variables
   pub few : c .row < counts .rows → auxiliaryAfter (rowAt counts images (c .row)) (c .place) ≤ maxBefore (c .row + 1) + 1
 

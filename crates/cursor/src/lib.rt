@@ -11,7 +11,7 @@ ghost use lib.ListN.{length, getD};
 ghost use Rattle.store.specs.Stores.{maxVariables, maxRows, lent, wellFormed};
 ghost use Rattle.lexleader.specs.Made.{rowsClauses};
 ghost use Rattle.lexleader.specs.Bounds.{maxBefore};
-ghost use Rattle.lexleader.specs.Places.{clausesAt, sixAt, auxiliaryAfter, Stands};
+ghost use Rattle.lexleader.specs.Places.{clausesAt, sixAt, auxiliaryAfter, PlaceStands};
 ghost use Rattle.lexleader.specs.Store.{madeOf};
 ghost use Rattle.cursor.specs.Cursors.{rowAt, rowsLeft, addedLeft, clausesLeft, Points, AtAuxiliary};
 
@@ -105,7 +105,7 @@ pub fn next_auxiliary(
 
 // The cursor at a place of its row, or past the row's last clause at the first one of a later row.
 fn at_place(counts: Record, images: &[u16], cursor: Cursor, place: Place) -> Cursor
-    requires { ⌜ (counts .variables ≤ maxVariables) × (counts .rows ≤ maxRows) × (counts .rows * counts .variables ≤ length (now images)) × (cursor .plain ≤ counts .clauses) × (cursor .row < counts .rows) × Stands (rowAt counts (now images) (cursor .row)) place × (auxiliaryAfter (rowAt counts (now images) (cursor .row)) place ≤ maxBefore (cursor .row + 1) + 1) ⌝ }
+    requires { ⌜ (counts .variables ≤ maxVariables) × (counts .rows ≤ maxRows) × (counts .rows * counts .variables ≤ length (now images)) × (cursor .plain ≤ counts .clauses) × (cursor .row < counts .rows) × PlaceStands (rowAt counts (now images) (cursor .row)) place × (auxiliaryAfter (rowAt counts (now images) (cursor .row)) place ≤ maxBefore (cursor .row + 1) + 1) ⌝ }
     ensures points { λ r. ⌜ Points counts (now (images .entry)) r × (r .plain ≡ cursor .plain) ⌝ }
     ensures left { λ r. ⌜ addedLeft (rowsLeft counts (now (images .entry)) (cursor .row)) place ≡ addedLeft (rowsLeft counts (now (images .entry)) (r .row)) (r .place) ⌝ }
 {

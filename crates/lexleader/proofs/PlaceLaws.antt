@@ -15,8 +15,8 @@ use Rattle.lists.proofs.Steps.{drop-step}
 use Rattle.lexleader.specs.Rows.{Pair, pairsOf}
 use Rattle.lexleader.specs.Made.{laterSix, laterClauses, pairClauses, rowClauses, auxiliaries}
 use Rattle.lexleader.specs.Bounds.{maxMadeVariables}
-use Rattle.lexleader.specs.Clause.{columnOf, tableOf, pairAt, pairsAt, Next}
-use Rattle.lexleader.specs.Places.{clausesOn, clausesAt, sixAt, auxiliaryAfter, pastLast, Stands}
+use Rattle.lexleader.specs.Clause.{columnOf, tableOf, pairAt, pairsAt, NextMoved}
+use Rattle.lexleader.specs.Places.{clausesOn, clausesAt, sixAt, auxiliaryAfter, pastLast, PlaceStands, PlaceLeaves, PlaceAfter}
 use Rattle.lexleader.specs.declared.places.Place.{Place}
 use Rattle.lexleader.proofs.Walk.{pairs-start, walk-end, later-pairs}
 use Rattle.lexleader.proofs.Numbers.{row-few, row-many}
@@ -109,11 +109,11 @@ module _ (row : List ℕ) (p : Place) where
       ∙ ap (λ (k : ℕ). drop k (sixAt row p) ++ rest) r
       ∙ ap (λ (l : List (List ℕ)). l ++ rest) (last-of-six (p .j) (p .auxiliary) (pairAt row (p .index)) (pairAt row (p .next))))
 
-  pub few-auxiliaries : Stands row p → p .auxiliary ≤ maxMadeVariables + 1
+  pub few-auxiliaries : PlaceStands row p → p .auxiliary ≤ maxMadeVariables + 1
   unfolding auxiliaryAfter
   few-auxiliaries s = omega (arith, s .few)
 
-  module _ (s : Stands row p) (h : p .index < length row) where
+  module _ (s : PlaceStands row p) (h : p .index < length row) where
     abbrev own : Pair
     own = pairAt row (p .index)
 
@@ -174,7 +174,7 @@ module _ (row : List ℕ) (p : Place) where
           at-place ∙ drop-step all (p .r - 1) [] enough ∙ ap (λ (clause : List ℕ). clause ∷ drop (p .r - 1 + 1) all) head
 
       -- the next clause of the same auxiliary
-      pub then-same : (q : Place) → q ≡ record { index = p .index; next = p .next; auxiliary = p .auxiliary; j = p .j; r = p .r + 1 }
+      then-same : (q : Place) → q ≡ record { index = p .index; next = p .next; auxiliary = p .auxiliary; j = p .j; r = p .r + 1 }
           → clausesAt row p ≡ getD (clausesAt row p) 0 [] ∷ clausesAt row q
       unfolding clausesAt
       then-same q e =
@@ -182,22 +182,21 @@ module _ (row : List ℕ) (p : Place) where
           step ∙ rw (e, two, r)
 
       pub same-stands : p .r < 6 → (q : Place) → q ≡ record { index = p .index; next = p .next; auxiliary = p .auxiliary; j = p .j; r = p .r + 1 }
-          → Stands row q × (auxiliaryAfter row q ≡ auxiliaryAfter row p)
+          → PlaceAfter row p (getD (clausesAt row p) 0 [] ∷ []) q
       unfolding auxiliaryAfter
-      same-stands low q e = rw e (
-        record {
-          within = s .within;
-          here = s .here;
-          then = s .then;
-          alone = λ _ last. absurd (omega arith);
-          one = s .one;
-          early = s .early;
-          low = omega arith;
-          high = omega arith;
-          few = s .few;
-        },
-        refl,
-      )
+      same-stands low q e =
+          let stands : PlaceStands row q = rw e (record {
+            within = s .within;
+            here = s .here;
+            then = s .then;
+            alone = λ _ last. absurd (omega arith);
+            one = s .one;
+            early = s .early;
+            low = omega arith;
+            high = omega arith;
+            few = s .few;
+          }) in
+          record { stands = stands; left = then-same q e; auxiliary = rw e }
 
       -- the clauses of the auxiliary, and those of the next ones
       pub then-next : clausesAt row p ≡ drop (p .r - 1) (sixAt row p) ++ clausesOn (p .j + 1) (p .auxiliary + 1) (pairsAt (p .next) row)
@@ -217,12 +216,16 @@ module _ (row : List ℕ) (p : Place) where
 
       -- q is the place of the next auxiliary's first clause
       pub to-next : (q : Place)
-          → Stands row q × (clausesAt row q ≡ clausesOn (p .j + 1) (p .auxiliary + 1) (pairsAt (p .next) row)) × (auxiliaryAfter row q ≡ p .auxiliary + 1 + (length (pairsAt (p .next) row) - 1))
-          → Stands row q × (clausesAt row p ≡ drop (p .r - 1) (sixAt row p) ++ clausesAt row q) × (auxiliaryAfter row q ≡ auxiliaryAfter row p)
-      to-next q (stands, clauses, after) = (stands, then-next ∙ ap (λ (l : List (List ℕ)). drop (p .r - 1) (sixAt row p) ++ l) (sym clauses), after ∙ after-next)
+          → PlaceLeaves row q (clausesOn (p .j + 1) (p .auxiliary + 1) (pairsAt (p .next) row)) (p .auxiliary + 1 + (length (pairsAt (p .next) row) - 1))
+          → PlaceAfter row p (drop (p .r - 1) (sixAt row p)) q
+      to-next q z = record {
+        stands = z .stands;
+        left = then-next ∙ ap (λ (l : List (List ℕ)). drop (p .r - 1) (sixAt row p) ++ l) (sym (z .left));
+        auxiliary = z .auxiliary ∙ after-next;
+      }
 
 -- a clause stands at every place but the last
-pub some-clause : (row : List ℕ) (p : Place) → Stands row p → p .index < length row → 0 < length (clausesAt row p)
+pub some-clause : (row : List ℕ) (p : Place) → PlaceStands row p → p .index < length row → 0 < length (clausesAt row p)
 some-clause row p s h = go (lt-or-le (p .next) (length row))
   where
     go : (p .next < length row) ⊎ (length row ≤ p .next) → 0 < length (clausesAt row p)
@@ -231,7 +234,7 @@ some-clause row p s h = go (lt-or-le (p .next) (length row))
 
 -- ---- a row's first pair
 
-module _ (row : List ℕ) (e index : ℕ) (n : Next row 0 index) where
+module _ (row : List ℕ) (e index : ℕ) (n : NextMoved row 0 index) where
   same-pairs : pairsOf row ≡ pairsAt index row
   same-pairs = pairs-start row ∙ n .same
 
@@ -248,31 +251,26 @@ module _ (row : List ℕ) (e index : ℕ) (n : Next row 0 index) where
 -- ---- the first clauses of an auxiliary, for a pair at an index
 
 module _ (row : List ℕ) (index next e j : ℕ) (h : index < length row) (here : pairsAt index row ≡ pairAt row index ∷ pairsAt (index + 1) row)
-    (then : Next row (index + 1) next) where
+    (then : NextMoved row (index + 1) next) where
   abbrev start : Place
   start = record { index = index; next = next; auxiliary = e; j = j; r = 1 }
 
-  pub starts : (next ≡ length row → j ≡ 1) → 1 ≤ j → j ≤ index + 1 → e + (length (pairsAt index row) - 1) ≤ maxMadeVariables + 1 → Stands row start
-  unfolding auxiliaryAfter
-  starts alone one early few = record {
-    within = omega arith;
-    here = λ _. here;
-    then = λ _. then;
-    alone = λ _ last. (alone last, refl);
-    one = one;
-    early = early;
-    low = omega arith;
-    high = omega arith;
-    few = few;
-  }
-
-  pub start-clauses : clausesAt row start ≡ clausesOn j e (pairsAt index row)
-  unfolding clausesAt
-  start-clauses = refl
-
-  pub start-after : auxiliaryAfter row start ≡ e + (length (pairsAt index row) - 1)
-  unfolding auxiliaryAfter
-  start-after = refl
+  pub starts : (next ≡ length row → j ≡ 1) → 1 ≤ j → j ≤ index + 1 → {clauses : List (List ℕ)} {after : ℕ}
+      → clausesOn j e (pairsAt index row) ≡ clauses → e + (length (pairsAt index row) - 1) ≡ after → after ≤ maxMadeVariables + 1 → PlaceLeaves row start clauses after
+  unfolding clausesAt auxiliaryAfter
+  starts alone one early left auxiliary few =
+      let stands : PlaceStands row start = record {
+        within = omega arith;
+        here = λ _. here;
+        then = λ _. then;
+        alone = λ _ last. (alone last, refl);
+        one = one;
+        early = early;
+        low = omega arith;
+        high = omega arith;
+        few = omega (arith, auxiliary, few);
+      } in
+      record { stands = stands; left = left; auxiliary = auxiliary }
 
   -- a later auxiliary has no clauses where no pair follows
   pub no-later : 2 ≤ j → next ≡ length row → (clausesOn j e (pairsAt index row) ≡ []) × (e + (length (pairsAt index row) - 1) ≡ e)
@@ -283,10 +281,10 @@ module _ (row : List ℕ) (index next e j : ℕ) (h : index < length row) (here 
 
 -- the place past the last clause, with the clauses and the auxiliary that are left
 pub at-last : (row : List ℕ) (e : ℕ) (p : Place) → p ≡ pastLast row e → e ≤ maxMadeVariables + 1 → {clauses : List (List ℕ)} {after : ℕ} → [] ≡ clauses → e ≡ after
-    → Stands row p × (clausesAt row p ≡ clauses) × (auxiliaryAfter row p ≡ after)
+    → PlaceLeaves row p clauses after
 at-last row e p is few none same =
     let z = past row (pastLast row e) (omega arith) in
-    let stands : Stands row (pastLast row e) = record {
+    let stands : PlaceStands row (pastLast row e) = record {
       within = omega arith;
       here = λ h. absurd (omega arith);
       then = λ h. absurd (omega arith);
@@ -297,7 +295,7 @@ at-last row e p is few none same =
       high = omega arith;
       few = omega (arith, z .1);
     } in
-    rw is (stands, z .0 ∙ none, z .1 ∙ same)
+    rw is (record { stands = stands; left = z .0 ∙ none; auxiliary = z .1 ∙ same })
 
 -- ---- clause number q of a row
 
@@ -328,8 +326,8 @@ module _ (row : List ℕ) (e q i : ℕ) (p : Place) (is : p ≡ record { index =
       go (inl l) = omega (arith, size, row-few e row l)
       go (inr l) = absurd (omega (arith, size, row-many e row l))
 
-  module _ (many : q < length (rowClauses e row)) (h : i < length row) (here : pairsAt i row ≡ pairAt row i ∷ pairsAt (i + 1) row) (then : Next row (i + 1) (p .next)) where
-    pub number-stands : e + auxiliaries row ≤ maxMadeVariables + 1 → Stands row p
+  module _ (many : q < length (rowClauses e row)) (h : i < length row) (here : pairsAt i row ≡ pairAt row i ∷ pairsAt (i + 1) row) (then : NextMoved row (i + 1) (p .next)) where
+    pub number-stands : e + auxiliaries row ≤ maxMadeVariables + 1 → PlaceStands row p
     unfolding auxiliaryAfter auxiliaries
     number-stands low =
         let last : p .next ≡ length row → q ≡ 0 = λ end. only many (ap length here ∙ ap (λ (l : List Pair). suc (length l)) (then .same ∙ walk-end row (p .next) (omega arith))) in

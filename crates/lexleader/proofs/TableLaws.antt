@@ -9,7 +9,7 @@ use lib.Dec.{eqb}
 use lib.ListN.{getD}
 use Rattle.lexleader.specs.Rows.{Pair}
 use Rattle.lexleader.specs.Made.{firstSix, laterSix}
-use Rattle.lexleader.specs.Clause.{Holds, columnOf, tableOf}
+use Rattle.lexleader.specs.Clause.{ClauseIs, columnOf, tableOf}
 use Rattle.lexleader.specs.declared.table.Clause.{Clause}
 
 -- row r, which stands at k
@@ -55,6 +55,6 @@ pub same-table : (j : ℕ) {e k x y u v e′ k′ x′ y′ u′ v′ : ℕ} →
     ≡ getD (tableOf j e′ (record { x = x′; y = y′ }) (record { x = u′; y = v′ })) k′ []
 same-table j a b c d g h = same-numbers (λ e k x y u v. getD (tableOf j e (record { x = x; y = y }) (record { x = u; y = v })) k []) a b c d g h
 
--- a clause that holds these literals holds any that are the same
-pub holds-same : {c : Clause} {a b : List ℕ} → Holds c a → a ≡ b → Holds c b
-holds-same h e = record { few = h .few; room = h .room; are = h .are ∙ e }
+-- a clause is any list that is the same
+pub clause-same : {c : Clause} {a b : List ℕ} → ClauseIs c a → a ≡ b → ClauseIs c b
+clause-same h e = record { few = h .few; room = h .room; are = h .are ∙ e }

@@ -1,9 +1,17 @@
-// How much the rows of a store add to its plain formula (document 01, "Made formula").
+// How much rows add (document 01, "Made formula"): N and M, and the shares of each row.
+//
+// A row that moves the variables x1 < .. < xk compares an assignment with what the row makes of it at these k variables and no others, one
+// after the other (`places`). An auxiliary ej says that the comparison has found no difference up to xj; it is asked before xj+1 is
+// compared, so the last variable needs none. That makes k - 1 auxiliaries, and six clauses for each (`table`). Nothing moved is nothing
+// compared, and adds nothing. A permutation never moves exactly one variable, since the image of a moved variable is moved too
+// (`no-single`, proofs/Bounds.antt); a signed row may, by x1 to -x1, and then adds the one clause that compares it.
+//
+// How many clauses a row adds doesn't depend on the numbers of its auxiliaries, so counting needs no e: the contracts hold for every e.
 use store::record::Record;
 ghost use mathlib.Core.Path.{_≡_};
-ghost use Prim.Native.Nat.{ℕ, _+_, _-_, _*_, _≤_, _<_};
+ghost use Prim.Native.Nat.{ℕ, _*_, _≤_};
 ghost use lib.ListN.{length};
-ghost use Rattle.store.specs.Stores.{maxVariables, maxRows, rowsOf, maxClauses, FormedRows};
+ghost use Rattle.store.specs.Stores.{maxVariables, maxClauses, rowsOf, FormedRows};
 ghost use Rattle.lexleader.specs.Rows.{pairsOf};
 ghost use Rattle.lexleader.specs.Made.{rowClauses, auxiliaries, rowsClauses, allAuxiliaries};
 ghost use Rattle.lexleader.specs.Bounds.{maxAuxiliaries};
@@ -21,7 +29,8 @@ pub struct Totals {
     pub clauses: usize,
 }
 
-// How many variables a row moves. `own` is the code of the variable at i; the loop has no branch, so that compilers count several variables at once.
+// How many variables a row moves. `own` is the code of the variable at i; the loop has no branch, so that compilers count several variables
+// at once.
 pub fn pair_count(row: &[u16]) -> usize
     requires { ⌜ length (now row) ≤ maxVariables ⌝ }
     ensures { λ r. ⌜ r ≡ length (pairsOf (now (row .entry))) ⌝ }
@@ -40,7 +49,8 @@ pub fn pair_count(row: &[u16]) -> usize
 // A row that moves k variables, k of 2 or more, adds k - 1 auxiliaries and six clauses for each.
 pub fn added_by(row: &[u16]) -> Added
     requires { ⌜ length (now row) ≤ maxVariables ⌝ }
-    ensures { λ r. ⌜ (r .auxiliaries ≡ auxiliaries (now (row .entry))) × ((e : ℕ) → r .clauses ≡ length (rowClauses e (now (row .entry)))) ⌝ }
+    ensures { λ r. let row = now (row .entry) in
+        ⌜ (r .auxiliaries ≡ auxiliaries row) × ((e : ℕ) → r .clauses ≡ length (rowClauses e row)) ⌝ }
 {
     let k = pair_count(row);
     if k < 2 {
@@ -57,16 +67,18 @@ pub fn added_by(row: &[u16]) -> Added
 
 // What all rows add.
 pub fn added_by_rows(images: &[u16], rows: usize, n: usize) -> Added
-    requires { ⌜ (n ≤ maxVariables) × (rows ≤ maxRows) × (rows * n ≤ length (now images)) ⌝ }
-    ensures { λ r. ⌜ (r .auxiliaries ≡ allAuxiliaries (rowsOf n rows (now (images .entry)))) × ((e : ℕ) → r .clauses ≡ length (rowsClauses e (rowsOf n rows (now (images .entry))))) × (r .auxiliaries ≤ maxAuxiliaries) × (r .clauses ≤ 6 * maxAuxiliaries) ⌝ }
+    requires { ⌜ FormedRows n rows (now images) ⌝ }
+    ensures { λ r. let held = rowsOf n rows (now (images .entry)) in
+        ⌜ (r .auxiliaries ≡ allAuxiliaries held)
+        × ((e : ℕ) → r .clauses ≡ length (rowsClauses e held))
+        × (r .auxiliaries ≤ maxAuxiliaries)
+        × (r .clauses ≤ 6 * maxAuxiliaries) ⌝ }
 {
     let mut auxiliaries = 0;
     let mut clauses = 0;
     let mut r = 0;
     while r < rows {
-        let from = r * n;
-        let to = from + n;
-        let more = added_by(&images[from..to]);
+        let more = added_by(store::rows::row(images, n, r));
         auxiliaries += more.auxiliaries;
         clauses += more.clauses;
         r += 1;

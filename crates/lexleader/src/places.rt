@@ -1,18 +1,25 @@
-// Places.
+// The clauses that a row adds, one after another: a place says where among them, and what the table needs to know there.
+//
+// A row compares an assignment with what the row makes of it, A with A moved by p, by the first variable at which they differ. A variable
+// that p leaves where it is has the same value in both, so they first differ at a moved one: the comparison may pass over all others, and
+// the table is asked about the pairs x1, y1 .. xk, yk of the moved variables alone (`along-moved`, proofs/Moved.antt). A row is therefore
+// walked from moved variable to moved variable, and a place has the index of the pair's variable, that of the next moved one, the
+// auxiliary's number, and which clause of the six comes next. From it the next place is found without looking back: the row is read once
+// for all of its clauses, however many.
 use crate::table;
 use crate::table::Clause;
 ghost use mathlib.Core.Path.{_≡_};
-ghost use mathlib.Core.List.{_∷_, [], _++_};
+ghost use mathlib.Core.List.{_∷_, []};
 ghost use Prim.Native.Nat.{_+_, _-_, _*_, _≤_, _<_};
 ghost use lib.ListN.{length, getD, drop};
 ghost use Rattle.store.specs.Stores.{maxVariables};
 ghost use Rattle.lexleader.specs.Made.{rowClauses, auxiliaries};
 ghost use Rattle.lexleader.specs.Bounds.{maxMadeVariables};
-ghost use Rattle.lexleader.specs.Clause.{Holds, Next};
-ghost use Rattle.lexleader.specs.Places.{clausesAt, sixAt, auxiliaryAfter, pastLast, Stands};
+ghost use Rattle.lexleader.specs.Clause.{ClauseIs, NextMoved};
+ghost use Rattle.lexleader.specs.Places.{clausesAt, sixAt, pastLast, ClauseStands, PlaceLeaves, PlaceAfter};
 
-// A place among the clauses that a row adds: clause r of auxiliary j, that auxiliary's number, and the indices of its pair's variable and of the next one.
-// Past the last clause the index is the row's length and the number that of the next row's first auxiliary.
+// A place among the clauses that a row adds: clause r of auxiliary j, that auxiliary's number, and the indices of its pair's variable and
+// of the next one. Past the last clause the index is the row's length and the number that of the next row's first auxiliary.
 pub struct Place {
     pub index: usize,
     pub next: usize,
@@ -24,7 +31,7 @@ pub struct Place {
 // The place of a row's first clause, its first auxiliary being e.
 pub fn first_place(row: &[u16], e: u32) -> Place
     requires { ⌜ (length (now row) ≤ maxVariables) × (e + auxiliaries (now row) ≤ maxMadeVariables + 1) ⌝ }
-    ensures { λ r. ⌜ Stands (now (row .entry)) r × (clausesAt (now (row .entry)) r ≡ rowClauses e (now (row .entry))) × (auxiliaryAfter (now (row .entry)) r ≡ e + auxiliaries (now (row .entry))) ⌝ }
+    ensures { λ r. let row = now (row .entry) in ⌜ PlaceLeaves row r (rowClauses e row) (e + auxiliaries row) ⌝ }
 {
     let index = next_moved(row, 0);
     if index == row.len() {
@@ -42,8 +49,8 @@ pub fn first_place(row: &[u16], e: u32) -> Place
 
 // The clause at a place. A row that moves one variable only, which no permutation does, has the table's first clause and no auxiliary.
 pub fn clause_at(row: &[u16], place: Place) -> Clause
-    requires { ⌜ (length (now row) ≤ maxVariables) × Stands (now row) place × (place .index < length (now row)) ⌝ }
-    ensures { λ r. ⌜ Holds r (getD (clausesAt (now (row .entry)) place) 0 []) ⌝ }
+    requires { ⌜ ClauseStands (now row) place ⌝ }
+    ensures { λ r. ⌜ ClauseIs r (getD (clausesAt (now (row .entry)) place) 0 []) ⌝ }
 {
     let i = place.index;
     let next = place.next;
@@ -59,8 +66,8 @@ pub fn clause_at(row: &[u16], place: Place) -> Clause
 
 // The place after one at which a clause stands.
 pub fn next_place(row: &[u16], place: Place) -> Place
-    requires { ⌜ (length (now row) ≤ maxVariables) × Stands (now row) place × (place .index < length (now row)) ⌝ }
-    ensures { λ r. ⌜ Stands (now (row .entry)) r × (clausesAt (now (row .entry)) place ≡ getD (clausesAt (now (row .entry)) place) 0 [] ∷ clausesAt (now (row .entry)) r) × (auxiliaryAfter (now (row .entry)) r ≡ auxiliaryAfter (now (row .entry)) place) ⌝ }
+    requires { ⌜ ClauseStands (now row) place ⌝ }
+    ensures { λ r. let row = now (row .entry) in ⌜ PlaceAfter row place (getD (clausesAt row place) 0 [] ∷ []) r ⌝ }
 {
     if place.next == row.len() {
         return no_place(row, place.auxiliary);
@@ -79,8 +86,8 @@ pub fn next_place(row: &[u16], place: Place) -> Place
 
 // The place after the clauses of the auxiliary at one, whose pair is not the row's last.
 pub fn next_auxiliary(row: &[u16], place: Place) -> Place
-    requires { ⌜ (length (now row) ≤ maxVariables) × Stands (now row) place × (place .index < length (now row)) × (place .next < length (now row)) ⌝ }
-    ensures { λ r. ⌜ Stands (now (row .entry)) r × (clausesAt (now (row .entry)) place ≡ drop (place .r - 1) (sixAt (now (row .entry)) place) ++ clausesAt (now (row .entry)) r) × (auxiliaryAfter (now (row .entry)) r ≡ auxiliaryAfter (now (row .entry)) place) ⌝ }
+    requires { ⌜ ClauseStands (now row) place × (place .next < length (now row)) ⌝ }
+    ensures { λ r. let row = now (row .entry) in ⌜ PlaceAfter row place (drop (place .r - 1) (sixAt row place)) r ⌝ }
 {
     let e = place.auxiliary + 1;
     let next = next_moved(row, place.next + 1);
@@ -112,7 +119,7 @@ fn no_place(row: &[u16], e: u32) -> Place
 // The index of the first moved variable at or after an index; the row's length where there is none.
 pub fn next_moved(row: &[u16], from: usize) -> usize
     requires { ⌜ (length (now row) ≤ maxVariables) × (from ≤ length (now row)) ⌝ }
-    ensures { λ r. ⌜ Next (now (row .entry)) from r ⌝ }
+    ensures { λ r. ⌜ NextMoved (now (row .entry)) from r ⌝ }
 {
     let mut i = from;
     while i < row.len() {

@@ -1,11 +1,18 @@
-// Document 01's table: the six clauses of an auxiliary.
+// Document 01's table: the six clauses of the auxiliary ej, for the pair xj, yj of a moved variable and its image, and for the next pair.
+//
+// r1 to r3 say what follows from ej: e(j-1), and that xj and yj have the same value. r4 and r5 say the converse: where e(j-1) is true and
+// xj and yj agree, both false (r4) or both true (r5), ej is true. So ej is true exactly when e(j-1) is and the pair agrees; the first
+// auxiliary has none before it, and is true exactly when its pair agrees. By induction on j each auxiliary has one value that the clauses
+// allow, "A agrees with A moved by p on x1 .. xj", and no other: without r4 and r5 an auxiliary could be false where all agrees, and a kept
+// model would have several settings (`one-setting`, proofs/Theorems.antt). r6, with r1 of the first column, makes the order: where
+// everything up to xj agrees, xj+1 is at most yj+1.
 ghost use mathlib.Core.Path.{_≡_};
 ghost use mathlib.Core.List.{_∷_, []};
-ghost use Prim.Native.Nat.{_+_, _-_, _*_, _≤_};
+ghost use Prim.Native.Nat.{_+_, _-_, _≤_};
 ghost use lib.ListN.{getD};
 ghost use Rattle.store.specs.Literals.{oppositeOf};
 ghost use Rattle.lexleader.specs.Bounds.{maxMadeVariables};
-ghost use Rattle.lexleader.specs.Clause.{Holds, tableOf};
+ghost use Rattle.lexleader.specs.Clause.{ClauseIs, tableOf};
 
 // A clause that a row adds: at most four literals, as codes.
 pub struct Clause {
@@ -13,11 +20,12 @@ pub struct Clause {
     pub literals: [u32; 4],
 }
 
-// Document 01's table: clause r of the auxiliary ej, whose number is e, for the pair x, y and the next pair x2, y2. Where j is not 1, e(j-1) has the number
-// e - 1.
+// Clause r of the auxiliary ej, whose number is e, for the pair x, y and the next pair x2, y2. Where j is not 1, e(j-1) has the number e -
+// 1.
 pub fn table_clause(r: usize, j: usize, e: u32, x: u32, y: u32, x2: u32, y2: u32) -> Clause
     requires { ⌜ (1 ≤ r) × (r ≤ 6) × (e ≤ maxMadeVariables + 1) ⌝ }
-    ensures { λ c. ⌜ Holds c (getD (tableOf j e (record { x = x; y = y }) (record { x = x2; y = y2 })) (r - 1) []) ⌝ }
+    ensures { λ c. let six = tableOf j e (record { x = x; y = y }) (record { x = x2; y = y2 }) in
+        ⌜ ClauseIs c (getD six (r - 1) []) ⌝ }
 {
     let ej = 2 * e;
     let before = 2 * one_less(e);
@@ -54,7 +62,7 @@ fn one_less(e: u32) -> u32
 }
 
 fn two(a: u32, b: u32) -> Clause
-    ensures { λ r. ⌜ Holds r (a ∷ b ∷ []) ⌝ }
+    ensures { λ r. ⌜ ClauseIs r (a ∷ b ∷ []) ⌝ }
 {
     Clause {
         count: 2,
@@ -63,7 +71,7 @@ fn two(a: u32, b: u32) -> Clause
 }
 
 fn three(a: u32, b: u32, c: u32) -> Clause
-    ensures { λ r. ⌜ Holds r (a ∷ b ∷ c ∷ []) ⌝ }
+    ensures { λ r. ⌜ ClauseIs r (a ∷ b ∷ c ∷ []) ⌝ }
 {
     Clause {
         count: 3,
@@ -72,7 +80,7 @@ fn three(a: u32, b: u32, c: u32) -> Clause
 }
 
 fn four(a: u32, b: u32, c: u32, d: u32) -> Clause
-    ensures { λ r. ⌜ Holds r (a ∷ b ∷ c ∷ d ∷ []) ⌝ }
+    ensures { λ r. ⌜ ClauseIs r (a ∷ b ∷ c ∷ d ∷ []) ⌝ }
 {
     Clause {
         count: 4,

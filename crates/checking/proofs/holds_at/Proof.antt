@@ -14,7 +14,7 @@ use Rattle.store.specs.Literals.{isLiteral}
 use Rattle.store.specs.Stores.{Store, lent, maxLiterals, plainOf}
 use Rattle.store.proofs.Formed.{Formed, formed}
 use Rattle.store.proofs.RowLaws.{part-is, row-room, row-size}
-use Rattle.lexleader.specs.Clause.{Holds, clauseOf}
+use Rattle.lexleader.specs.Clause.{ClauseIs, clauseOf}
 use Rattle.lexleader.specs.Models.{clauseHolds}
 use Rattle.lexleader.specs.Places.{clausesAt}
 use Rattle.lexleader.proofs.Within.{all-literals-more}
@@ -32,7 +32,7 @@ S c = lent (c .args .counts) (c .args .literals .now) (c .args .ends .now) (c .a
 facts : (c : tie.Start) → Formed (S c)
 facts c = formed (S c) (c .pre .0)
 
--- the words have row-room for every variable of the clause at the cursor
+-- the words have room for every variable of the clause at the cursor
 enough : (c : tie.Start) (clause : List ℕ) → clause ≡ getD (clausesLeft (S c) (c .args .at)) 0 [] → allOf (isLiteral (64 * length (c .args .a .now))) clause ≡ true
 enough c clause is =
     rw is (all-literals-more (variablesOf (S c)) (64 * length (c .args .a .now)) (form-room (variablesOf (S c)) (c .args .a .now) (c .pre .3)) _ (c .pre .4))
@@ -71,10 +71,10 @@ fits : (c : tie.Else1) → let a = c .before .before .before .before .before .be
 fits c = let s = c .before .before .before .before .before .before .before in row-room (s .args .counts .variables) (s .args .counts .rows) (s .args .images .now) (facts s .images-long) (s .args .at .row) (row-left c)
 
 holds : (c : tie.After-clause-at) → let a = c .before .before .before .before .before .before .before .before .before .before .before .before .before .args in
-    Holds (c .clause-at .result) (getD (clausesAt (rowAt (a .counts) (a .images .now) (a .at .row)) (a .at .place)) 0 [])
+    ClauseIs (c .clause-at .result) (getD (clausesAt (rowAt (a .counts) (a .images .now) (a .at .row)) (a .at .place)) 0 [])
 holds c =
     let a = c .before .before .before .before .before .before .before .before .before .before .before .before .before .args in
-    row-part (a .counts) (a .images .now) (λ (row : List ℕ). Holds (c .clause-at .result) (getD (clausesAt row (a .at .place)) 0 [])) (a .at .row) (c .clause-at .ensures)
+    row-part (a .counts) (a .images .now) (λ (row : List ℕ). ClauseIs (c .clause-at .result) (getD (clausesAt row (a .at .place)) 0 [])) (a .at .row) (c .clause-at .ensures)
 
 added-first : (c : tie.After-clause-at) → let s = c .before .before .before .before .before .before .before .before .before .before .before .before .before in
     clauseOf (c .clause-at .result) ≡ getD (clausesLeft (S s) (s .args .at)) 0 []
@@ -147,10 +147,10 @@ clause-at-requires c κs =
     rw (part-is (a .counts .variables) (a .at .row) (a .images .now)) (omega (arith, f .variables-fit), s .pre .1 .place (row-left i), omega (arith, s .pre .1 .there (row-left i)))
 
 array-share-prefix-codes : tie.Need-array-share-prefix-codes
-array-share-prefix-codes c = let h = c .before .clause-at .ensures in omega (arith, h .few, h .row-room)
+array-share-prefix-codes c = let h = c .before .clause-at .ensures in omega (arith, h .few, h .room)
 
 slice-aggregate-codes-hold : tie.Need-slice-aggregate-codes-hold
-slice-aggregate-codes-hold c = let h = c .before .before .clause-at .ensures in sym (length-take-le _ _ (omega (arith, h .few, h .row-room)))
+slice-aggregate-codes-hold c = let h = c .before .before .clause-at .ensures in sym (length-take-le _ _ (omega (arith, h .few, h .room)))
 
 codes-hold-requires : tie.Need-codes-hold-requires
 codes-hold-requires c κs =

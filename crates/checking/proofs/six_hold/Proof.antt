@@ -34,7 +34,7 @@ S c = lent (c .args .counts) (c .args .literals .now) (c .args .ends .now) (c .a
 facts : (c : tie.Start) → Formed (S c)
 facts c = formed (S c) (c .pre .0)
 
--- the cursor is at an auxiliary, and there is row-room for its row
+-- the cursor is at an auxiliary, and there is room for its row
 at : (c : tie.Else1) → let a = c .before .before .before .before .before .before .args in AtAuxiliary (a .counts) (a .at)
 at c = c .before .at-auxiliary .ensures (not-false _ (c .if1 .left))
 

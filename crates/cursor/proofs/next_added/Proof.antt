@@ -12,7 +12,7 @@ use borrow.Author.Needs.{needs}
 use Rattle.cursor.proofs.next_added.Statement.{statement}
 use Rattle.cursor.proofs.next_added.Tie as tie
 
--- there is row-room for the cursor's row
+-- there is room for the cursor's row
 fits : (c : tie.Start) → c .args .cursor .row * c .args .counts .variables + c .args .counts .variables ≤ length (c .args .images .now)
 fits c = row-room (c .args .counts .variables) (c .args .counts .rows) (c .args .images .now) (c .pre .2) (c .args .cursor .row) (c .pre .4)
 

@@ -21,7 +21,7 @@ S c = lent (c .args .counts) (c .args .literals .now) (c .args .ends .now) (c .a
 facts : (c : tie.Start) → Formed (S c)
 facts c = formed (S c) (c .pre .0)
 
--- there is row-room for the cursor's row
+-- there is room for the cursor's row
 fits : (c : tie.Start) → c .args .cursor .row * c .args .counts .variables + c .args .counts .variables ≤ length (c .args .images .now)
 fits c = row-room (c .args .counts .variables) (c .args .counts .rows) (c .args .images .now) (facts c .images-long) (c .args .cursor .row) (c .pre .2 .row)
 

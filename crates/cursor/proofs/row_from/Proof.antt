@@ -22,7 +22,7 @@ Inv-loop counts images plain row e n first₀ r₀ first r =
 abbrev μ-loop : tie.MeasureT-loop
 μ-loop counts images plain row e n first₀ r₀ first r = counts .rows - r
 
--- there is row-room for row r
+-- there is room for row r
 fits : (c : tie.Then1 Inv-loop μ-loop) → let l = c .before .before in let a = l .before .before .args in
     l .loop .r * a .counts .variables + a .counts .variables ≤ length (a .images .now)
 fits c =

@@ -1,11 +1,11 @@
 -- `lexleader::counting::added_by_rows` meets its contract. The invariant: all rows add what was summed and what the rows from r on add (`Summed`).
 -- Assumes nothing.
-use Prim.Native.Nat.{_+_, _-_, _*_, _≤_}
-use lib.ListN.{length}
-use Rattle.store.proofs.RowLaws.{row-room}
-use Rattle.lexleader.specs.Made.{auxiliaries}
-use Rattle.lexleader.proofs.Left.{part-adds, Summed, summed-none, summed-more, summed-all}
+use mathlib.Core.Path.{ap, subst}
+use Prim.Native.Nat.{_+_, _-_}
 use native.Mathlib.Omega.{arith}
+use lib.ListN.{length}
+use Rattle.store.proofs.RowLaws.{row-room, row-size}
+use Rattle.lexleader.proofs.Left.{Adds, Summed, summed-none, summed-more, summed-all}
 use Rattle.lexleader.proofs.counting.added_by_rows.Statement.{statement}
 use Rattle.lexleader.proofs.counting.added_by_rows.Tie as tie
 
@@ -15,10 +15,6 @@ Inv-loop images rows n auxiliaries₀ clauses₀ r₀ auxiliaries clauses r = Su
 abbrev μ-loop : tie.MeasureT-loop
 μ-loop images rows n auxiliaries₀ clauses₀ r₀ auxiliaries clauses r = rows - r
 
--- there is row-room for row r
-within : (c : tie.In-loop Inv-loop μ-loop) → let l = c .before in let a = l .before .before .args in l .loop .r * a .n + a .n ≤ length (a .images .now)
-within c = let l = c .before in let s = l .before .before in row-room (s .args .n) (s .args .rows) (s .args .images .now) (s .pre .2) (l .loop .r) (omega arith)
-
 -- the sums with row r
 more : (c : tie.After-added-by Inv-loop μ-loop) → let l = c .before .before .before in
     let a = l .before .before .args in
@@ -26,39 +22,25 @@ more : (c : tie.After-added-by Inv-loop μ-loop) → let l = c .before .before .
 more c =
     let l = c .before .before .before in
     let s = l .before .before in
-    let a = s .args in
-    summed-more (a .n) (a .rows) (a .images .now) (l .loop .inv) (omega arith) (s .pre .0) (s .pre .2)
-    (part-adds (a .n) (l .loop .r) (a .images .now) _ _ (c .added-by .ensures))
+    summed-more (s .args .n) (s .args .rows) (s .args .images .now) (s .pre) (l .loop .inv) (omega arith) (subst (Adds _ _) (c .before .row .ensures) (c .added-by .ensures))
 
 loop-holds : tie.Need-loop-holds Inv-loop μ-loop
 loop-holds c = summed-none _ _ _
 
-mul-from : tie.Need-mul-from Inv-loop μ-loop
-mul-from c = omega (arith, within c)
-
-add-to : tie.Need-add-to Inv-loop μ-loop
-add-to c = omega (arith, within c)
-
-mul-added-by : tie.Need-mul-added-by Inv-loop μ-loop
-mul-added-by c = omega (arith, within c)
-
-sub-added-by : tie.Need-sub-added-by Inv-loop μ-loop
-sub-added-by c = omega arith
-
-part-added-by-start : tie.Need-part-added-by-start Inv-loop μ-loop
-part-added-by-start c = omega arith
-
-part-added-by-end : tie.Need-part-added-by-end Inv-loop μ-loop
-part-added-by-end c = omega (arith, within c)
+row-requires : tie.Need-row-requires Inv-loop μ-loop
+row-requires c κs = let l = c .before in let s = l .before .before in row-room (s .args .n) (s .args .rows) (s .args .images .now) (s .pre .fits) (l .loop .r) (omega arith)
 
 added-by-requires : tie.Need-added-by-requires Inv-loop μ-loop
-added-by-requires c κs = omega arith
+added-by-requires c κs =
+    let l = c .before .before in
+    let s = l .before .before in
+    omega (arith, ap length (c .row .ensures), row-size (s .args .n) (s .args .rows) (s .args .images .now) (s .pre .fits) (l .loop .r) (omega arith), s .pre .small)
 
 add-auxiliaries : tie.Need-add-auxiliaries Inv-loop μ-loop
-add-auxiliaries c = omega (arith, more (c .before) .few-auxiliaries)
+add-auxiliaries c = omega (arith, more (c .before) .few-auxiliaries, c .before .before .before .before .before .before .pre .few)
 
 add-clauses : tie.Need-add-clauses Inv-loop μ-loop
-add-clauses c = omega (arith, more (c .before .before) .few-clauses)
+add-clauses c = omega (arith, more (c .before .before) .few-clauses, c .before .before .before .before .before .before .before .pre .few)
 
 add-r : tie.Need-add-r Inv-loop μ-loop
 add-r c = omega arith
@@ -72,9 +54,9 @@ loop-again c = more (c .before .before)
 returns : tie.Need-returns Inv-loop μ-loop
 returns c =
     let l = c .before in
-    let a = l .before .before .args in
-    let all = summed-all (a .n) (a .rows) (a .images .now) (l .loop .inv) (omega arith) in
-    (all .0, all .1, omega arith, omega arith)
+    let s = l .before .before in
+    let all = summed-all (s .args .n) (s .args .rows) (s .args .images .now) (l .loop .inv) (omega arith) in
+    (all .0, all .1, omega (arith, s .pre .few), omega (arith, s .pre .few))
 
 pub added-by-rows-spec : {M : Type 1} → statement M
 added-by-rows-spec =
@@ -83,12 +65,7 @@ added-by-rows-spec =
     Inv-loop
     μ-loop
     loop-holds
-    mul-from
-    add-to
-    mul-added-by
-    sub-added-by
-    part-added-by-start
-    part-added-by-end
+    row-requires
     added-by-requires
     add-auxiliaries
     add-clauses

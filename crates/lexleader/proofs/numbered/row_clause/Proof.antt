@@ -8,7 +8,7 @@ use Rattle.lexleader.specs.Rows.{pairsOf}
 use Rattle.lexleader.specs.Clause.{pairsAt}
 use Rattle.lexleader.proofs.Walk.{pairs-length}
 use Rattle.lexleader.proofs.Numbers.{row-most}
-use Rattle.lexleader.proofs.TableLaws.{holds-same}
+use Rattle.lexleader.proofs.TableLaws.{clause-same}
 use Rattle.lexleader.proofs.PlaceLaws.{numbered, number-stands}
 use borrow.Author.Needs.{needs}
 use Rattle.lexleader.proofs.numbered.row_clause.Statement.{statement}
@@ -51,7 +51,11 @@ clause-at-requires c κs =
     let row = s .args .row .now in
     let found = m .moved-at .ensures in
     let same : drop (s .args .q / 6) (pairsOf row) ≡ pairsAt (m .moved-at .result) row = ap (λ (k : ℕ). drop k (pairsOf row)) {x = s .args .q / 6} {y = s .args .q / 6 + 1 - 1} (omega arith) ∙ found .1 in
-    (s .pre .0, number-stands row (s .args .e) (s .args .q) (m .moved-at .result) _ refl (omega (arith, number s .0)) same (s .pre .2) (found .0) (found .2) (c .next-moved .ensures) (s .pre .1), found .0)
+    record {
+      small = s .pre .0;
+      stands = number-stands row (s .args .e) (s .args .q) (m .moved-at .result) _ refl (omega (arith, number s .0)) same (s .pre .2) (found .0) (found .2) (c .next-moved .ensures) (s .pre .1);
+      inside = found .0;
+    }
 
 returns : tie.Need-returns
 returns c =
@@ -60,7 +64,7 @@ returns c =
     let row = s .args .row .now in
     let found = m .moved-at .ensures in
     let same : drop (s .args .q / 6) (pairsOf row) ≡ pairsAt (m .moved-at .result) row = ap (λ (k : ℕ). drop k (pairsOf row)) {x = s .args .q / 6} {y = s .args .q / 6 + 1 - 1} (omega arith) ∙ found .1 in
-    holds-same (c .clause-at .ensures) (numbered row (s .args .e) (s .args .q) (m .moved-at .result) _ refl (omega (arith, number s .0)) same)
+    clause-same (c .clause-at .ensures) (numbered row (s .args .e) (s .args .q) (m .moved-at .result) _ refl (omega (arith, number s .0)) same)
 
 pub row-clause-spec : {M : Type 1} → statement M
 row-clause-spec =

@@ -1,7 +1,7 @@
 -- `lexleader::places::first_place` meets its contract: what is left at a row's first moved variable is all of the row's. Assumes nothing.
-use mathlib.Core.Path.{refl, _∙_}
+use mathlib.Core.Path.{refl}
 use native.Mathlib.Omega.{arith}
-use Rattle.lexleader.proofs.PlaceLaws.{first-rest, first-none, at-last, starts, start-clauses, start-after}
+use Rattle.lexleader.proofs.PlaceLaws.{first-rest, first-none, at-last, starts}
 use borrow.Author.Needs.{needs}
 use Rattle.lexleader.proofs.places.first_place.Statement.{statement}
 use Rattle.lexleader.proofs.places.first_place.Tie as tie
@@ -33,11 +33,8 @@ returns-2 c =
     let index = n .next-moved .result in
     let rest = first-rest row (a .e) index (n .next-moved .ensures) in
     let here = n .next-moved .ensures .here (omega arith) in
-    let then = c .next-moved2 .ensures in (
-      starts row index (c .next-moved2 .result) (a .e) 1 (omega arith) here then (λ _. refl) (omega arith) (omega arith) (omega (arith, rest .1)),
-      start-clauses row index (c .next-moved2 .result) (a .e) 1 (omega arith) here then ∙ rest .0,
-      start-after row index (c .next-moved2 .result) (a .e) 1 (omega arith) here then ∙ rest .1,
-    )
+    starts row index (c .next-moved2 .result) (a .e) 1 (omega arith) here (c .next-moved2 .ensures) (λ _. refl) (omega arith) (omega arith) (rest .0) (rest .1)
+    (n .before .before .pre .1)
 
 pub first-place-spec : {M : Type 1} → statement M
 first-place-spec =

@@ -5,7 +5,7 @@ use Prim.Native.Nat.{ℕ}
 use native.Mathlib.Omega.{arith}
 use lib.ListN.{getD}
 use Rattle.lexleader.specs.Places.{clausesAt}
-use Rattle.lexleader.proofs.PlaceLaws.{few-auxiliaries, at-last, then-one, after-one, same-stands, then-same, last-clause}
+use Rattle.lexleader.proofs.PlaceLaws.{few-auxiliaries, at-last, then-one, after-one, same-stands, last-clause}
 use borrow.Author.Needs.{needs}
 use Rattle.lexleader.proofs.places.next_place.Statement.{statement}
 use Rattle.lexleader.proofs.places.next_place.Tie as tie
@@ -18,9 +18,11 @@ returns c =
     let s = c .before .before .before .before in
     let row = s .args .row .now in
     let p = s .args .place in
-    let after = after-one row p (s .pre .1) (s .pre .2) (omega arith) in
-    let z = at-last row (p .auxiliary) (c .no-place .result) (c .no-place .ensures) (few-auxiliaries row p (s .pre .1)) refl (sym after) in
-    (z .0, then-one row p (s .pre .1) (s .pre .2) (omega arith) ∙ ap (λ (l : List (List ℕ)). getD (clausesAt row p) 0 [] ∷ l) (sym (z .1)), z .2)
+    let r = s .pre in
+    let after = after-one row p (r .stands) (r .inside) (omega arith) in
+    let z = at-last row (p .auxiliary) (c .no-place .result) (c .no-place .ensures) (few-auxiliaries row p (r .stands)) refl (sym after) in
+    let left = then-one row p (r .stands) (r .inside) (omega arith) ∙ ap (λ (l : List (List ℕ)). getD (clausesAt row p) 0 [] ∷ l) (sym (z .left)) in
+    record { stands = z .stands; left = left; auxiliary = z .auxiliary }
 
 add-t5 : tie.Need-add-t5
 add-t5 c = search needs
@@ -28,21 +30,18 @@ add-t5 c = search needs
 returns-2 : tie.Need-returns-2
 returns-2 c =
     let s = c .before .before .before .before .before .before in
-    let row = s .args .row .now in
-    let p = s .args .place in
-    let z = same-stands row p (s .pre .1) (s .pre .2) (omega (arith, s .pre .1 .then (s .pre .2) .within)) (omega arith) _ refl in
-    (z .0, then-same row p (s .pre .1) (s .pre .2) (omega (arith, s .pre .1 .then (s .pre .2) .within)) _ refl, z .1)
+    let r = s .pre in
+    same-stands (s .args .row .now) (s .args .place) (r .stands) (r .inside) (omega (arith, r .stands .then (r .inside) .within)) (omega arith) _ refl
 
 next-auxiliary-requires : tie.Need-next-auxiliary-requires
-next-auxiliary-requires c κs =
-    let s = c .before .before .before .before .before in
-    (s .pre .0, s .pre .1, s .pre .2, omega (arith, s .pre .1 .then (s .pre .2) .within))
+next-auxiliary-requires c κs = let r = c .before .before .before .before .before .pre in (r, omega (arith, r .stands .then (r .inside) .within))
 
 returns-3 : tie.Need-returns-3
 returns-3 c =
     let s = c .before .before .before .before .before .before in
     let z = c .next-auxiliary .ensures in
-    (z .0, last-clause (s .args .row .now) (s .args .place) (omega (arith, s .pre .1 .high)) (z .1), z .2)
+    let left = last-clause (s .args .row .now) (s .args .place) (omega (arith, s .pre .stands .high)) (z .left) in
+    record { stands = z .stands; left = left; auxiliary = z .auxiliary }
 
 pub next-place-spec : {M : Type 1} → statement M
 next-place-spec =

@@ -3,7 +3,7 @@ use mathlib.Core.Path.{_≡_, refl, ap, _∙_}
 use Prim.Native.Nat.{ℕ, _-_, _*_}
 use Rattle.store.specs.Literals.{oppositeOf}
 use Rattle.lexleader.specs.Rows.{Pair}
-use Rattle.lexleader.proofs.TableLaws.{holds-same, table-first, table-later, table-both, same-two, same-three, same-four}
+use Rattle.lexleader.proofs.TableLaws.{clause-same, table-first, table-later, table-both, same-two, same-three, same-four}
 use borrow.Author.Needs.{needs}
 use native.Mathlib.Omega.{arith}
 use Rattle.lexleader.proofs.table.table_clause.Statement.{statement}
@@ -90,7 +90,7 @@ returns : tie.Need-returns
 returns c =
     let o = c .before .before .before in
     let s = start o in
-    holds-same (c .two .ensures)
+    clause-same (c .two .ensures)
     (same-two (not-x o) refl
     ∙ table-first (s .args .j) (s .args .e) (pair s) (next s) (s .args .r) 0 (c .before .before .match .keys1) (c .before .match2 .keys1))
 
@@ -98,7 +98,7 @@ returns-2 : tie.Need-returns-2
 returns-2 c =
     let o = c .before .before .before in
     let s = start o in
-    holds-same (c .two2 .ensures)
+    clause-same (c .two2 .ensures)
     (same-two (not-e o) (ap (λ (d : ℕ). 2 * d) (before o))
     ∙ table-later (s .args .j) (s .args .e) (pair s) (next s) (s .args .r) 0 (c .before .before .match .keys1) (λ e. omega arith))
 
@@ -106,7 +106,7 @@ returns-3 : tie.Need-returns-3
 returns-3 c =
     let o = c .before .before in
     let s = start o in
-    holds-same (c .three .ensures)
+    clause-same (c .three .ensures)
     (same-three (not-e o) (not-x o) refl
     ∙ table-both (s .args .j) (s .args .e) (pair s) (next s) (s .args .r) 1 (c .before .match .keys2) refl)
 
@@ -114,7 +114,7 @@ returns-4 : tie.Need-returns-4
 returns-4 c =
     let o = c .before .before in
     let s = start o in
-    holds-same (c .three2 .ensures)
+    clause-same (c .three2 .ensures)
     (same-three (not-e o) refl (not-y o)
     ∙ table-both (s .args .j) (s .args .e) (pair s) (next s) (s .args .r) 2 (c .before .match .keys3) refl)
 
@@ -122,14 +122,14 @@ returns-5 : tie.Need-returns-5
 returns-5 c =
     let o = c .before .before .before in
     let s = start o in
-    holds-same (c .three3 .ensures)
+    clause-same (c .three3 .ensures)
     (table-first (s .args .j) (s .args .e) (pair s) (next s) (s .args .r) 3 (c .before .before .match .keys4) (c .before .match3 .keys1))
 
 returns-6 : tie.Need-returns-6
 returns-6 c =
     let o = c .before .before .before .before in
     let s = start o in
-    holds-same (c .four .ensures)
+    clause-same (c .four .ensures)
     (same-four refl (c .before .opposite4 .ensures ∙ ap (λ (d : ℕ). oppositeOf (2 * d)) (before o)) refl refl
     ∙ table-later (s .args .j) (s .args .e) (pair s) (next s) (s .args .r) 3 (c .before .before .before .match .keys4) (λ e. omega arith))
 
@@ -137,7 +137,7 @@ returns-7 : tie.Need-returns-7
 returns-7 c =
     let o = c .before .before .before in
     let s = start o in
-    holds-same (c .three4 .ensures)
+    clause-same (c .three4 .ensures)
     (same-three refl (not-x o) (not-y o)
     ∙ table-first (s .args .j) (s .args .e) (pair s) (next s) (s .args .r) 4 (c .before .before .match .keys5) (c .before .match4 .keys1))
 
@@ -145,7 +145,7 @@ returns-8 : tie.Need-returns-8
 returns-8 c =
     let o = c .before .before .before .before in
     let s = start o in
-    holds-same (c .four2 .ensures)
+    clause-same (c .four2 .ensures)
     (same-four refl (c .before .opposite5 .ensures ∙ ap (λ (d : ℕ). oppositeOf (2 * d)) (before o)) (not-x o) (not-y o)
     ∙ table-later (s .args .j) (s .args .e) (pair s) (next s) (s .args .r) 4 (c .before .before .before .match .keys5) (λ e. omega arith))
 
@@ -153,7 +153,7 @@ returns-9 : tie.Need-returns-9
 returns-9 c =
     let o = c .before .before .before in
     let s = start o in
-    holds-same (c .three5 .ensures)
+    clause-same (c .three5 .ensures)
     (same-three (not-e o) (c .before .opposite6 .ensures) refl
     ∙ table-both (s .args .j) (s .args .e) (pair s) (next s) (s .args .r) 5 (omega arith) refl)
 

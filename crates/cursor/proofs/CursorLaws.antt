@@ -12,10 +12,10 @@ use Rattle.store.specs.declared.record.Record.{Record}
 use Rattle.store.proofs.RowLaws.{row-room}
 use Rattle.lexleader.specs.Made.{made}
 use Rattle.lexleader.specs.Store.{madeOf}
-use Rattle.lexleader.specs.Places.{ClauseStands}
-use Rattle.cursor.specs.Cursors.{addedFrom, leftOf, clausesLeft, rowOf, Points, ClauseLeft}
+use Rattle.lexleader.specs.Places.{clausesAt, ClauseStands}
+use Rattle.cursor.specs.Cursors.{addedFrom, leftOf, clausesLeft, rowOf, Points, ClauseLeft, AtAdded}
 use Rattle.cursor.specs.declared.Cursor.{Cursor}
-use Rattle.cursor.proofs.RowLaws.{size, nothing-added}
+use Rattle.cursor.proofs.RowLaws.{size, nothing-added, here-first}
 
 -- a cursor before the first clause of any plain ones is one before the first clause of a store's made formula
 pub start-left : (s : Store) (c : Cursor)
@@ -49,6 +49,12 @@ module _ (plain : List (List ℕ)) (counts : Record) (many : length plain ≡ co
   pub past-plain : counts .clauses ≤ c .plain → leftOf plain counts images c ≡ added
   unfolding leftOf
   past-plain h = ap (λ (l : List (List ℕ)). l ++ added) (drop-of-length-le plain {i = c .plain} (omega arith))
+
+  -- the first of those, which stands at the cursor's place
+  pub added-first : Points counts images c → AtAdded counts c → getD (leftOf plain counts images c) 0 [] ≡ getD (clausesAt (rowOf counts images c) (c .place)) 0 []
+  added-first p at =
+      ap (λ (l : List (List ℕ)). getD l 0 []) (past-plain (at .past))
+      ∙ here-first counts images (c .row) (p .rows) (at .row) (c .place) (clause-stands counts images c p (at .row))
 
   pub some-left : 0 < length (leftOf plain counts images c) → ClauseLeft counts c
   some-left some h = go (lt-or-le (c .row) (counts .rows))

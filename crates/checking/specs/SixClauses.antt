@@ -5,6 +5,7 @@ use Prim.Native.Nat.{ℕ, _-_, _*_}
 use mathlib.Core.Bool.{Bool, true, not, _&&_, _||_}
 use mathlib.Core.List.{List}
 use lib.Dec.{eqb}
+use Rattle.lists.specs.Tests.{allOf}
 use Rattle.store.specs.Literals.{isLiteral}
 use Rattle.lexleader.specs.Models.{literalValue}
 use Rattle.lexleader.specs.Rows.{Pair}
@@ -17,10 +18,14 @@ unfoldable pub ordered : (ℕ → Bool) → Pair → Bool
 ordered v q = not (literalValue v (q .x)) || literalValue v (q .y)
 
 -- the auxiliary at a place has to be true: the one before it is, unless it is the row's first, and the pair at the place agrees
-unfoldable pub due : (ℕ → Bool) → List ℕ → Place → Bool
-due v row p = (eqb (p .j) 1 || literalValue v (2 * (p .auxiliary - 1))) && agrees v (pairAt row (p .index))
+unfoldable pub auxiliaryDue : (ℕ → Bool) → List ℕ → Place → Bool
+auxiliaryDue v row p = (eqb (p .j) 1 || literalValue v (2 * (p .auxiliary - 1))) && agrees v (pairAt row (p .index))
 
--- both literals of a pair are of the variables 1..n
-pub record Within (n : ℕ) (q : Pair) : Type 0 where
+-- all literals of clauses are of the variables 1..n
+abbrev pub LiteralsWithin : ℕ → List (List ℕ) → Type 0
+LiteralsWithin n clauses = allOf (allOf (isLiteral n)) clauses ≡ true
+
+-- both literals of a pair are
+pub record PairWithin (n : ℕ) (q : Pair) : Type 0 where
   pub x : isLiteral n (q .x) ≡ true
   pub y : isLiteral n (q .y) ≡ true

@@ -1,3 +1,4 @@
+pub mod ClauseLaws
 pub mod CheckLaws
 pub mod SixLaws
 pub mod VerdictLaws

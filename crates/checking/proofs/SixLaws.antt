@@ -16,9 +16,9 @@ use Rattle.lexleader.specs.Models.{literalValue, clauseHolds, formulaHolds}
 use Rattle.lexleader.specs.Made.{agrees}
 use Rattle.lexleader.specs.Clause.{columnOf, pairAt}
 use Rattle.lexleader.specs.Places.{sixAt}
-use Rattle.lexleader.specs.declared.Place.{Place}
+use Rattle.lexleader.specs.declared.places.Place.{Place}
 use Rattle.lexleader.proofs.Truth.{value-opposite}
-use Rattle.checking.specs.Six.{ordered, due, Within}
+use Rattle.checking.specs.SixClauses.{LiteralsWithin, PairWithin, ordered, auxiliaryDue}
 
 -- ---- what they say, by cases: g is the value of the auxiliary before, e its own, x and y those of its pair, and m says that the next one is ordered
 
@@ -60,8 +60,8 @@ later-says false false x y m = refl
 
 module _ (v : ℕ → Bool) (row : List ℕ) (p : Place) where
   pub six-say : formulaHolds v (sixAt row p)
-      ≡ cond (literalValue v (2 * p .auxiliary)) (due v row p && ordered v (pairAt row (p .next))) (not (due v row p) && (not (eqb (p .j) 1) || ordered v (pairAt row (p .index))))
-  unfolding formulaHolds clauseHolds allOf anyOf sixAt due ordered agrees
+      ≡ cond (literalValue v (2 * p .auxiliary)) (auxiliaryDue v row p && ordered v (pairAt row (p .next))) (not (auxiliaryDue v row p) && (not (eqb (p .j) 1) || ordered v (pairAt row (p .index))))
+  unfolding formulaHolds clauseHolds allOf anyOf sixAt auxiliaryDue ordered agrees
   six-say = go (eqb (p .j) 1)
     where
       e : Bool
@@ -87,7 +87,7 @@ module _ (v : ℕ → Bool) (row : List ℕ) (p : Place) where
 -- ---- the range of their literals
 
 -- literal j of clause k of the table
-in-table : (n : ℕ) (table : List (List ℕ)) → allOf (allOf (isLiteral n)) table ≡ true → (k j : ℕ) → k < length table → j < length (getD table k [])
+in-table : (n : ℕ) (table : List (List ℕ)) → LiteralsWithin n table → (k j : ℕ) → k < length table → j < length (getD table k [])
     → isLiteral n (getD (getD table k []) j 0) ≡ true
 in-table n table h k j l m = all-at (isLiteral n) (getD table k []) 0 (all-at (allOf (isLiteral n)) table [] h k l) j m
 
@@ -99,38 +99,38 @@ by-opposite n i h =
     let high = literal-high n (oppositeOf (2 * i)) h in
     literal-most n (2 * i) (λ z. omega arith) ∙ le-leb (2 * i / 2) n (omega arith)
 
-module _ (n : ℕ) (row : List ℕ) (p : Place) (h : allOf (allOf (isLiteral n)) (sixAt row p) ≡ true) where
+module _ (n : ℕ) (row : List ℕ) (p : Place) (h : LiteralsWithin n (sixAt row p)) where
   abbrev table : Bool → List (List ℕ)
   table first = columnOf first (p .auxiliary) (pairAt row (p .index)) (pairAt row (p .next))
 
-  within : allOf (allOf (isLiteral n)) (table (eqb (p .j) 1)) ≡ true
+  within : LiteralsWithin n (table (eqb (p .j) 1))
   unfolding sixAt
   within = h
 
   pub own-within : isLiteral n (2 * p .auxiliary) ≡ true
   own-within = go (eqb (p .j) 1) within
     where
-      go : (first : Bool) → allOf (allOf (isLiteral n)) (table first) ≡ true → isLiteral n (2 * p .auxiliary) ≡ true
+      go : (first : Bool) → LiteralsWithin n (table first) → isLiteral n (2 * p .auxiliary) ≡ true
       go true w = in-table n (table true) w 3 0 (omega arith) (omega arith)
       go false w = in-table n (table false) w 3 0 (omega arith) (omega arith)
 
   pub before-within : (p .j ≡ 1 → ⊥) → isLiteral n (2 * (p .auxiliary - 1)) ≡ true
   before-within later = go (eqb (p .j) 1) (ne-eqb (p .j) 1 later) within
     where
-      go : (first : Bool) → first ≡ false → allOf (allOf (isLiteral n)) (table first) ≡ true → isLiteral n (2 * (p .auxiliary - 1)) ≡ true
+      go : (first : Bool) → first ≡ false → LiteralsWithin n (table first) → isLiteral n (2 * (p .auxiliary - 1)) ≡ true
       go true e w = never (sym e)
       go false e w = in-table n (table false) w 0 1 (omega arith) (omega arith)
 
-  pub pair-within : Within n (pairAt row (p .index))
+  pub pair-within : PairWithin n (pairAt row (p .index))
   pair-within = go (eqb (p .j) 1) within
     where
-      go : (first : Bool) → allOf (allOf (isLiteral n)) (table first) ≡ true → Within n (pairAt row (p .index))
+      go : (first : Bool) → LiteralsWithin n (table first) → PairWithin n (pairAt row (p .index))
       go true w = record { x = in-table n (table true) w 3 1 (omega arith) (omega arith); y = in-table n (table true) w 3 2 (omega arith) (omega arith) }
       go false w = record { x = in-table n (table false) w 3 2 (omega arith) (omega arith); y = in-table n (table false) w 3 3 (omega arith) (omega arith) }
 
-  pub next-within : Within n (pairAt row (p .next))
+  pub next-within : PairWithin n (pairAt row (p .next))
   next-within = go (eqb (p .j) 1) within
     where
-      go : (first : Bool) → allOf (allOf (isLiteral n)) (table first) ≡ true → Within n (pairAt row (p .next))
+      go : (first : Bool) → LiteralsWithin n (table first) → PairWithin n (pairAt row (p .next))
       go true w = record { x = by-opposite n (p .next + 1) (in-table n (table true) w 5 1 (omega arith) (omega arith)); y = in-table n (table true) w 5 2 (omega arith) (omega arith) }
       go false w = record { x = by-opposite n (p .next + 1) (in-table n (table false) w 5 1 (omega arith) (omega arith)); y = in-table n (table false) w 5 2 (omega arith) (omega arith) }

@@ -10,7 +10,7 @@ use lib.ListN.{length, getD}
 use Rattle.lists.specs.Tests.{allOf}
 use Rattle.lists.proofs.Cases.{never}
 use Rattle.lexleader.specs.Models.{clauseHolds, formulaHolds}
-use Rattle.checking.specs.Checking.{Verdict, yes, falseAt, falseFrom}
+use Rattle.checking.specs.Checking.{yes, falseAt, falseFrom}
 
 module _ (v : ℕ → Bool) where
   pub yes-iff : (q : ℕ) (clauses : List (List ℕ)) → (falseFrom q v clauses ≡ yes) ↔ (formulaHolds v clauses ≡ true)

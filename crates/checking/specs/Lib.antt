@@ -1,2 +1,2 @@
 pub mod Checking
-pub mod Six
+pub mod SixClauses

@@ -1,8 +1,13 @@
-// Checking an assignment of the made formula's variables (document 01, "Assignments, filling in and descent"): the clauses are tried one after another, by a
-// cursor, until one is false; where the six of an auxiliary all hold they are passed at once. What carries the proofs: the first false clause of all is the
-// first false one of those that are left.
+// Checking an assignment of the made formula's variables (document 01, "Assignments, filling in and descent"): the clauses are tried one
+// after another, by a cursor, until one is false; where the six of an auxiliary all hold they are passed at once. What carries the proofs:
+// the first false clause of all is the first false one of those that are left.
+//
+// The six clauses of ej are tried by the values of six literals, each read once. r1 to r5 say that ej is true exactly when it is due: when
+// e(j-1) is true, or ej is the row's first, and xj and yj agree (`lexleader::table` says why). r6 says that xj+1 is at most yj+1 where ej
+// is true. In the first column r1 says that x1 is at most y1, which is a question only where the two differ, so where e1 is not due. Where
+// one of the six is false the clauses are tried one by one, so that the number told is that of the first.
 use cursor::Cursor;
-use lexleader::Place;
+use lexleader::places::Place;
 use store::record::Record;
 ghost use mathlib.Core.Path.{_≡_};
 ghost use mathlib.Core.Bool.{true};
@@ -13,16 +18,15 @@ ghost use Rattle.lists.specs.Tests.{allOf};
 ghost use Rattle.packed.specs.Words.{bitsOf, isAssignment};
 ghost use Rattle.packed.specs.Order.{valueOf};
 ghost use Rattle.store.specs.Literals.{isLiteral};
-ghost use Rattle.store.specs.Stores.{maxVariables, lent, wellFormed};
+ghost use Rattle.store.specs.Stores.{maxVariables, stored, wellFormed};
 ghost use Rattle.lexleader.specs.Models.{clauseHolds, formulaHolds};
 ghost use Rattle.lexleader.specs.Made.{agrees};
-ghost use Rattle.lexleader.specs.Bounds.{maxMadeVariables};
 ghost use Rattle.lexleader.specs.Clause.{pairAt};
-ghost use Rattle.lexleader.specs.Places.{sixAt};
-ghost use Rattle.cursor.specs.Cursors.{rowAt, clausesLeft, Points, AtAuxiliary};
+ghost use Rattle.lexleader.specs.Places.{sixAt, ClauseStands};
 ghost use Rattle.lexleader.specs.Store.{variablesOf};
+ghost use Rattle.cursor.specs.Cursors.{addedFrom, clausesLeft, rowOf, Points, ClauseLeft, AtAuxiliary};
 ghost use Rattle.checking.specs.Checking.{verdictOf, firstFalse};
-ghost use Rattle.checking.specs.Six.{Within, ordered, due};
+ghost use Rattle.checking.specs.SixClauses.{LiteralsWithin, PairWithin, ordered, auxiliaryDue};
 
 // Every clause of the made formula is true, or the number of the first that is false, from 1.
 pub enum Checked {
@@ -38,58 +42,58 @@ pub fn first_false(
     images: &[u16],
     a: &[u64],
 ) -> Checked
-    requires { ⌜ (wellFormed (lent counts (now literals) (now ends) (now images)) ≡ true) × (isAssignment (variablesOf (lent counts (now literals) (now ends) (now images))) (now a) ≡ true) ⌝ }
-    ensures { λ r. ⌜ verdictOf r ≡ firstFalse (lent counts (now (literals .entry)) (now (ends .entry)) (now (images .entry))) (now (a .entry)) ⌝ }
+    requires { let s = stored counts literals ends images in
+        ⌜ (wellFormed s ≡ true) × (isAssignment (variablesOf s) (now a) ≡ true) ⌝ }
+    ensures { λ r. let s = stored counts (literals .entry) (ends .entry) (images .entry) in
+        ⌜ verdictOf r ≡ firstFalse s (now (a .entry)) ⌝ }
 {
-    let total = emit::totals_of(counts, literals, ends, images);
+    let total = lexleader::counting::totals_of(counts, images);
     let clauses = total.clauses;
-    let mut at = cursor::start(counts, literals, ends, images);
+    let mut at = cursor::start(counts, images);
     let mut q = 1;
     while q <= clauses {
-        if six_hold(counts, literals, ends, images, at, a) {
-            at = cursor::next_auxiliary(counts, literals, ends, images, at);
+        if six_hold(counts, images, at, a) {
+            at = cursor::next_auxiliary(counts, images, at);
             q += 6;
             continue;
         }
         if !holds_at(counts, literals, ends, images, at, a) {
             return Checked::Falsified(q);
         }
-        at = cursor::next(counts, literals, ends, images, at);
+        at = cursor::next(counts, images, at);
         q += 1;
     }
     Checked::Satisfied
 }
 
 // Whether a cursor stands at the first of an auxiliary's six clauses and they all hold.
-fn six_hold(
-    counts: Record,
-    literals: &[u16],
-    ends: &[u16],
-    images: &[u16],
-    at: Cursor,
-    a: &[u64],
-) -> bool
-    requires { ⌜ (wellFormed (lent counts (now literals) (now ends) (now images)) ≡ true) × Points counts (now images) at × (isAssignment (variablesOf (lent counts (now literals) (now ends) (now images))) (now a) ≡ true) × (allOf (allOf (isLiteral (variablesOf (lent counts (now literals) (now ends) (now images))))) (clausesLeft (lent counts (now literals) (now ends) (now images)) at) ≡ true) ⌝ }
-    ensures { λ r. ⌜ (r ≡ true → AtAuxiliary counts at × (formulaHolds (valueOf (bitsOf (variablesOf (lent counts (now (literals .entry)) (now (ends .entry)) (now (images .entry)))) (now (a .entry)))) (sixAt (rowAt counts (now (images .entry)) (at .row)) (at .place)) ≡ true)) ⌝ }
+fn six_hold(counts: Record, images: &[u16], at: Cursor, a: &[u64]) -> bool
+    requires { ⌜ Points counts (now images) at
+        × LiteralsWithin (64 * length (now a)) (addedFrom counts (now images) (at .row) (at .place)) ⌝ }
+    ensures { λ r. let images = now (images .entry) in
+        let six = sixAt (rowOf counts images at) (at .place) in
+        ⌜ (r ≡ true → AtAuxiliary counts at
+        × ((n : ℕ) → LiteralsWithin n six → formulaHolds (valueOf (bitsOf n (now (a .entry)))) six ≡ true)) ⌝ }
 {
     if !cursor::at_auxiliary(counts, at) {
         return false;
     }
-    let from = at.row * counts.variables;
-    let to = from + counts.variables;
+    let row = store::rows::row(images, counts.variables, at.row);
     let place = at.place;
-    table_holds(&images[from..to], place, a)
+    table_holds(row, place, a)
 }
 
-// Whether the six clauses of the auxiliary at a place hold: it is true exactly when it is due, the next pair is ordered where it is true, and so is the
-// pair of the row's first auxiliary.
+// Whether the six clauses of the auxiliary at a place hold: it is true exactly when it is due, the next pair is ordered where it is true,
+// and so is the pair of the row's first auxiliary.
 fn table_holds(row: &[u16], place: Place, a: &[u64]) -> bool
-    requires { ⌜ (length (now row) ≤ maxVariables) × (place .index < length (now row)) × (place .next < length (now row)) × (place .auxiliary ≤ maxMadeVariables) × (allOf (allOf (isLiteral (64 * length (now a)))) (sixAt (now row) place) ≡ true) ⌝ }
-    ensures { λ r. ⌜ ((n : ℕ) → allOf (allOf (isLiteral n)) (sixAt (now (row .entry)) place) ≡ true → r ≡ formulaHolds (valueOf (bitsOf n (now (a .entry)))) (sixAt (now (row .entry)) place)) ⌝ }
+    requires { ⌜ ClauseStands (now row) place × (place .next < length (now row))
+        × LiteralsWithin (64 * length (now a)) (sixAt (now row) place) ⌝ }
+    ensures { λ r. let six = sixAt (now (row .entry)) place in
+        ⌜ ((n : ℕ) → LiteralsWithin n six → r ≡ formulaHolds (valueOf (bitsOf n (now (a .entry)))) six) ⌝ }
 {
     let i = place.index;
     let next = place.next;
-    let due = is_due(row, place, a);
+    let due = auxiliary_due(row, place, a);
     if valuation::literal_value(a, 2 * place.auxiliary) {
         if !due {
             return false;
@@ -106,9 +110,10 @@ fn table_holds(row: &[u16], place: Place, a: &[u64]) -> bool
 }
 
 // Whether the auxiliary at a place has to be true.
-fn is_due(row: &[u16], place: Place, a: &[u64]) -> bool
-    requires { ⌜ (length (now row) ≤ maxVariables) × (place .index < length (now row)) × (place .auxiliary ≤ maxMadeVariables) × (allOf (allOf (isLiteral (64 * length (now a)))) (sixAt (now row) place) ≡ true) ⌝ }
-    ensures { λ r. ⌜ ((n : ℕ) → allOf (allOf (isLiteral n)) (sixAt (now (row .entry)) place) ≡ true → r ≡ due (valueOf (bitsOf n (now (a .entry)))) (now (row .entry)) place) ⌝ }
+fn auxiliary_due(row: &[u16], place: Place, a: &[u64]) -> bool
+    requires { ⌜ ClauseStands (now row) place × LiteralsWithin (64 * length (now a)) (sixAt (now row) place) ⌝ }
+    ensures { λ r. let row = now (row .entry) in
+        ⌜ ((n : ℕ) → LiteralsWithin n (sixAt row place) → r ≡ auxiliaryDue (valueOf (bitsOf n (now (a .entry)))) row place) ⌝ }
 {
     let i = place.index;
     if place.j == 1 {
@@ -122,20 +127,22 @@ fn is_due(row: &[u16], place: Place, a: &[u64]) -> bool
 
 // Whether a variable and its image have the same value.
 fn pair_agrees(row: &[u16], i: usize, a: &[u64]) -> bool
-    requires { ⌜ (i < length (now row)) × (i ≤ maxVariables) × Within (64 * length (now a)) (pairAt (now row) i) ⌝ }
-    ensures { λ r. ⌜ ((n : ℕ) → Within n (pairAt (now (row .entry)) i) → r ≡ agrees (valueOf (bitsOf n (now (a .entry)))) (pairAt (now (row .entry)) i)) ⌝ }
+    requires { ⌜ (i < length (now row)) × (i ≤ maxVariables) × PairWithin (64 * length (now a)) (pairAt (now row) i) ⌝ }
+    ensures { λ r. let pair = pairAt (now (row .entry)) i in
+        ⌜ ((n : ℕ) → PairWithin n pair → r ≡ agrees (valueOf (bitsOf n (now (a .entry)))) pair) ⌝ }
 {
-    let x = lexleader::own_code(i);
+    let x = lexleader::places::own_code(i);
     let y = store::literal::wide(row[i]);
     valuation::literal_value(a, x) == valuation::literal_value(a, y)
 }
 
 // Whether a variable's image is true where the variable is.
 fn is_ordered(row: &[u16], i: usize, a: &[u64]) -> bool
-    requires { ⌜ (i < length (now row)) × (i ≤ maxVariables) × Within (64 * length (now a)) (pairAt (now row) i) ⌝ }
-    ensures { λ r. ⌜ ((n : ℕ) → Within n (pairAt (now (row .entry)) i) → r ≡ ordered (valueOf (bitsOf n (now (a .entry)))) (pairAt (now (row .entry)) i)) ⌝ }
+    requires { ⌜ (i < length (now row)) × (i ≤ maxVariables) × PairWithin (64 * length (now a)) (pairAt (now row) i) ⌝ }
+    ensures { λ r. let pair = pairAt (now (row .entry)) i in
+        ⌜ ((n : ℕ) → PairWithin n pair → r ≡ ordered (valueOf (bitsOf n (now (a .entry)))) pair) ⌝ }
 {
-    let x = lexleader::own_code(i);
+    let x = lexleader::places::own_code(i);
     let y = store::literal::wide(row[i]);
     if !valuation::literal_value(a, x) {
         return true;
@@ -152,19 +159,22 @@ fn holds_at(
     at: Cursor,
     a: &[u64],
 ) -> bool
-    requires { ⌜ (wellFormed (lent counts (now literals) (now ends) (now images)) ≡ true) × Points counts (now images) at × (0 < length (clausesLeft (lent counts (now literals) (now ends) (now images)) at)) × (isAssignment (variablesOf (lent counts (now literals) (now ends) (now images))) (now a) ≡ true) × (allOf (isLiteral (variablesOf (lent counts (now literals) (now ends) (now images)))) (getD (clausesLeft (lent counts (now literals) (now ends) (now images)) at) 0 []) ≡ true) ⌝ }
-    ensures { λ r. ⌜ r ≡ clauseHolds (valueOf (bitsOf (variablesOf (lent counts (now (literals .entry)) (now (ends .entry)) (now (images .entry)))) (now (a .entry)))) (getD (clausesLeft (lent counts (now (literals .entry)) (now (ends .entry)) (now (images .entry))) at) 0 []) ⌝ }
+    requires { let s = stored counts literals ends images in
+        ⌜ (wellFormed s ≡ true) × Points counts (now images) at × ClauseLeft counts at
+        × (allOf (isLiteral (64 * length (now a))) (getD (clausesLeft s at) 0 []) ≡ true) ⌝ }
+    ensures { λ r. let s = stored counts (literals .entry) (ends .entry) (images .entry) in
+        let clause = getD (clausesLeft s at) 0 [] in
+        ⌜ ((n : ℕ) → allOf (isLiteral n) clause ≡ true → r ≡ clauseHolds (valueOf (bitsOf n (now (a .entry)))) clause) ⌝ }
 {
     if at.plain < counts.clauses {
-        let passed = at.plain;
-        let start = store::clauses::literal_count(ends, passed);
-        let end = store::clauses::literal_count(ends, passed + 1);
-        return stored_holds(&literals[start..end], a);
+        return stored_holds(
+            store::clauses::clause(literals, ends, counts.clauses, at.plain),
+            a,
+        );
     }
-    let from = at.row * counts.variables;
-    let to = from + counts.variables;
+    let row = store::rows::row(images, counts.variables, at.row);
     let place = at.place;
-    let clause = lexleader::clause_at(&images[from..to], place);
+    let clause = lexleader::places::clause_at(row, place);
     let codes = clause.literals;
     let count = clause.count;
     codes_hold(&codes[..count], a)
@@ -173,7 +183,8 @@ fn holds_at(
 // Whether a clause of the store has a true literal.
 fn stored_holds(clause: &[u16], a: &[u64]) -> bool
     requires { ⌜ allOf (isLiteral (64 * length (now a))) (now clause) ≡ true ⌝ }
-    ensures { λ r. ⌜ ((n : ℕ) → allOf (isLiteral n) (now (clause .entry)) ≡ true → r ≡ clauseHolds (valueOf (bitsOf n (now (a .entry)))) (now (clause .entry))) ⌝ }
+    ensures { λ r. let clause = now (clause .entry) in
+        ⌜ ((n : ℕ) → allOf (isLiteral n) clause ≡ true → r ≡ clauseHolds (valueOf (bitsOf n (now (a .entry)))) clause) ⌝ }
 {
     let mut i = 0;
     while i < clause.len() {
@@ -188,7 +199,8 @@ fn stored_holds(clause: &[u16], a: &[u64]) -> bool
 // Whether a clause of any codes, as the rows add them, has a true literal.
 fn codes_hold(clause: &[u32], a: &[u64]) -> bool
     requires { ⌜ allOf (isLiteral (64 * length (now a))) (now clause) ≡ true ⌝ }
-    ensures { λ r. ⌜ ((n : ℕ) → allOf (isLiteral n) (now (clause .entry)) ≡ true → r ≡ clauseHolds (valueOf (bitsOf n (now (a .entry)))) (now (clause .entry))) ⌝ }
+    ensures { λ r. let clause = now (clause .entry) in
+        ⌜ ((n : ℕ) → allOf (isLiteral n) clause ≡ true → r ≡ clauseHolds (valueOf (bitsOf n (now (a .entry)))) clause) ⌝ }
 {
     let mut i = 0;
     while i < clause.len() {

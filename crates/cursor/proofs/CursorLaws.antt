@@ -1,81 +1,71 @@
--- Where a cursor begins, and the clause at it: a plain one, with its literals, or past the plain ones what the rows add. Assumes nothing.
-use mathlib.Core.Path.{_≡_, sym, ap, ap₂, _∙_}
-use mathlib.Core.Bool.{true}
+-- The clause at a cursor: a plain one, or past the plain ones what the rows add. Assumes nothing.
+use mathlib.Core.Path.{_≡_, sym, ap, _∙_}
 use mathlib.Core.Logic.{_⊎_, inl, inr}
 use mathlib.Core.List.{List, [], _∷_, _++_}
-use Prim.Native.Nat.{ℕ, _+_, _-_, _≤_, _<_}
+use Prim.Native.Nat.{ℕ, _+_, _*_, _≤_, _<_}
 use native.Mathlib.Omega.{arith}
-use lib.ListN.{length, getD, take, drop, drop-of-length-le}
-use lib.Seq.{slice}
+use lib.ListN.{length, getD, drop-of-length-le}
 use Rattle.lists.proofs.Cases.{lt-or-le}
 use Rattle.lists.proofs.Steps.{drop-step}
-use Rattle.store.specs.Stores.{Store, literalCount, plainOf, heldRows, wellFormed}
-use Rattle.store.proofs.Formed.{formed as facts}
-use Rattle.store.proofs.RowLaws.{from-first}
-use Rattle.lexleader.specs.Made.{made, rowsClauses}
+use Rattle.store.specs.Stores.{Store, rowsOf, plainOf, heldRows}
+use Rattle.store.specs.declared.record.Record.{Record}
+use Rattle.store.proofs.RowLaws.{row-room}
+use Rattle.lexleader.specs.Made.{made}
 use Rattle.lexleader.specs.Store.{madeOf}
-use Rattle.lexleader.proofs.MadeLaws.{plain-length, plain-at}
-use Rattle.emit.proofs.Ranges.{Range, range}
-use Rattle.emit.proofs.WrittenLaws.{part-slice}
-use Rattle.cursor.specs.Cursors.{rowsLeft, addedLeft, clausesLeft}
+use Rattle.lexleader.specs.Places.{clausesAt, ClauseStands}
+use Rattle.cursor.specs.Cursors.{addedFrom, leftOf, clausesLeft, rowOf, Points, ClauseLeft, AtAdded}
 use Rattle.cursor.specs.declared.Cursor.{Cursor}
-use Rattle.cursor.proofs.RowLaws.{nothing-added}
+use Rattle.cursor.proofs.RowLaws.{size, nothing-added, here-first}
 
--- ---- where writing begins
-
-pub begins : (s : Store) (c : Cursor) → c .plain ≡ 0
-    → addedLeft (rowsLeft (s .counts) (s .images) (c .row)) (c .place) ≡ rowsClauses (s .counts .variables + 1) (rowsLeft (s .counts) (s .images) 0)
+-- a cursor before the first clause of any plain ones is one before the first clause of a store's made formula
+pub start-left : (s : Store) (c : Cursor)
+    → ((plain : List (List ℕ)) → leftOf plain (s .counts) (s .images) c ≡ made (s .counts .variables) plain (rowsOf (s .counts .variables) (s .counts .rows) (s .images)))
     → clausesLeft s c ≡ madeOf s
-unfolding clausesLeft madeOf made heldRows
-begins s c none all =
-    let n = s .counts .variables in
-    rw (none, all) (ap (λ (rows : List (List ℕ)). plainOf s ++ rowsClauses (n + 1) rows) (from-first n (s .counts .rows) (s .images)))
+unfolding madeOf heldRows
+start-left s c all = all (plainOf s)
+
+-- ---- the cursor's row
+
+module _ (counts : Record) (images : List ℕ) (c : Cursor) (p : Points counts images c) (h : c .row < counts .rows) where
+  pub row-there : c .row * counts .variables + counts .variables ≤ length images
+  row-there = row-room (counts .variables) (counts .rows) images (p .rows .fits) (c .row) h
+
+  pub clause-stands : ClauseStands (rowOf counts images c) (c .place)
+  clause-stands =
+      let is = size counts images (c .row) (p .rows) h in
+      record { small = omega (arith, is, p .rows .small); stands = p .place h; inside = omega (arith, is, p .there h) }
 
 -- ---- the next clause
 
-module _ (s : Store) (formed : wellFormed s ≡ true) (c : Cursor) where
+module _ (plain : List (List ℕ)) (counts : Record) (many : length plain ≡ counts .clauses) (images : List ℕ) (c : Cursor) where
   abbrev added : List (List ℕ)
-  added = addedLeft (rowsLeft (s .counts) (s .images) (c .row)) (c .place)
+  added = addedFrom counts images (c .row) (c .place)
 
-  -- a plain one
-  pub next-plain : c .plain < s .counts .clauses → clausesLeft s c ≡ getD (plainOf s) (c .plain) [] ∷ clausesLeft s (record { plain = c .plain + 1; row = c .row; place = c .place })
-  unfolding clausesLeft
-  next-plain h = ap (λ (l : List (List ℕ)). l ++ added) (drop-step (plainOf s) (c .plain) [] (omega (arith, plain-length s formed)))
+  pub next-plain : c .plain < counts .clauses
+      → leftOf plain counts images c ≡ getD plain (c .plain) [] ∷ leftOf plain counts images (record { plain = c .plain + 1; row = c .row; place = c .place })
+  unfolding leftOf
+  next-plain h = ap (λ (l : List (List ℕ)). l ++ added) (drop-step plain (c .plain) [] (omega arith))
 
-  -- its literals
-  module _ (h : c .plain < s .counts .clauses) where
-    pub bounds : Range s (c .plain + 1)
-    bounds = range s (facts s formed) (c .plain + 1) (omega arith) (omega arith)
+  pub past-plain : counts .clauses ≤ c .plain → leftOf plain counts images c ≡ added
+  unfolding leftOf
+  past-plain h = ap (λ (l : List (List ℕ)). l ++ added) (drop-of-length-le plain {i = c .plain} (omega arith))
 
-    back : c .plain + 1 - 1 ≡ c .plain
-    back = omega arith
+  -- the first of those, which stands at the cursor's place
+  pub added-first : Points counts images c → AtAdded counts c → getD (leftOf plain counts images c) 0 [] ≡ getD (clausesAt (rowOf counts images c) (c .place)) 0 []
+  added-first p at =
+      ap (λ (l : List (List ℕ)). getD l 0 []) (past-plain (at .past))
+      ∙ here-first counts images (c .row) (p .rows) (at .row) (c .place) (clause-stands counts images c p (at .row))
 
-    pub rises : literalCount (c .plain) (s .ends) ≤ literalCount (c .plain + 1) (s .ends)
-    rises = rw back at (bounds .rises)
-
-    pub plain-part : (a b : ℕ) → a ≡ literalCount (c .plain) (s .ends) → b ≡ literalCount (c .plain + 1) (s .ends)
-        → take (b - a) (drop a (s .literals)) ≡ getD (plainOf s) (c .plain) []
-    plain-part a b from to =
-        part-slice a b (s .literals) (omega (arith, rises))
-        ∙ ap₂ (λ (i j : ℕ). slice i j (s .literals)) from to
-        ∙ sym (rw back at (plain-at s formed (c .plain + 1) (omega arith) (omega arith)))
-
-  -- past the plain ones
-  pub past-plain : s .counts .clauses ≤ c .plain → clausesLeft s c ≡ added
-  unfolding clausesLeft
-  past-plain h = ap (λ (l : List (List ℕ)). l ++ added) (drop-of-length-le (plainOf s) {i = c .plain} (omega (arith, plain-length s formed)))
-
-  -- where a clause is left, and it is no plain one, a row is left
-  pub some-row : s .counts .clauses ≤ c .plain → 0 < length (clausesLeft s c) → c .row < s .counts .rows
-  some-row h some = go (lt-or-le (c .row) (s .counts .rows))
+  pub some-left : 0 < length (leftOf plain counts images c) → ClauseLeft counts c
+  some-left some h = go (lt-or-le (c .row) (counts .rows))
     where
-      go : (c .row < s .counts .rows) ⊎ (s .counts .rows ≤ c .row) → c .row < s .counts .rows
+      go : (c .row < counts .rows) ⊎ (counts .rows ≤ c .row) → c .row < counts .rows
       go (inl l) = l
-      go (inr l) = absurd (omega (arith, ap length (past-plain h ∙ nothing-added (s .counts) (s .images) (c .row) l (c .place))))
+      go (inr l) = absurd (omega (arith, ap length (past-plain h ∙ nothing-added counts images (c .row) l (c .place))))
 
 -- past clauses that a row adds
-pub past-added : (s : Store) → wellFormed s ≡ true → (c d : Cursor) → s .counts .clauses ≤ c .plain → d .plain ≡ c .plain → (clauses : List (List ℕ))
-    → addedLeft (rowsLeft (s .counts) (s .images) (c .row)) (c .place) ≡ clauses ++ addedLeft (rowsLeft (s .counts) (s .images) (d .row)) (d .place)
-    → clausesLeft s c ≡ clauses ++ clausesLeft s d
-past-added s formed c d h same clauses e =
-    past-plain s formed c h ∙ e ∙ ap (λ (l : List (List ℕ)). clauses ++ l) (sym (past-plain s formed d (omega arith)))
+pub past-added : (counts : Record) (images : List ℕ) (c d : Cursor) → counts .clauses ≤ c .plain → d .plain ≡ c .plain → (clauses : List (List ℕ))
+    → addedFrom counts images (c .row) (c .place) ≡ clauses ++ addedFrom counts images (d .row) (d .place)
+    → (plain : List (List ℕ)) → length plain ≡ counts .clauses → leftOf plain counts images c ≡ clauses ++ leftOf plain counts images d
+past-added counts images c d h same clauses e plain many =
+    past-plain plain counts many images c h ∙ e ∙ ap (λ (l : List (List ℕ)). clauses ++ l) (sym (past-plain plain counts many images d (omega arith)))

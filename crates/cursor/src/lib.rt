@@ -1,19 +1,27 @@
-// A walk through the made formula's clauses (document 01, "Made formula"): a cursor says how many plain clauses are passed, which row comes next and the
-// place among its clauses, so that no row is walked again for each clause. What carries the proofs: the clauses that are left from a cursor on
-// (specs/Cursors.antt), of which each step takes the first.
-use lexleader::Place;
+// A walk through the made formula's clauses (document 01, "Made formula"), one after another, by a cursor and never by a number.
+//
+// To find clause q one has to count what the rows before its own add, and in its row to pass the moved variables before it: up to 64 rows
+// of 512 images are read for one clause, and as many again for the next. A cursor keeps what that count found: how many plain clauses are
+// passed, the row whose clause comes next, and the place in it. From there the next clause costs a few reads, and every row is read once
+// for all of its clauses. A cursor is a value: no memory is lent for it, a caller may keep one from page to page and go on from it, and
+// two walks never disturb each other. Only the clause call looks a clause up by its number (`lexleader::numbered`).
+//
+// The proofs gain as much. There is no arithmetic on numbers of clauses: what a cursor means is the list of the clauses that are left from
+// it on (specs/Cursors.antt), each step takes clauses off the front of that list, and whoever walks has his invariant over it. The plain
+// clauses are the store's own and a cursor only counts them, so what is left is said for any plain clauses, as many as the record counts,
+// and no function here reads a literal.
+use lexleader::places::Place;
 use store::record::Record;
 ghost use mathlib.Core.Path.{_≡_};
 ghost use mathlib.Core.Bool.{true};
-ghost use mathlib.Core.List.{[], _∷_, _++_};
-ghost use Prim.Native.Nat.{_+_, _*_, _≤_, _<_};
+ghost use mathlib.Core.List.{List, [], _∷_};
+ghost use Prim.Native.Nat.{ℕ, _+_, _≤_};
 ghost use lib.ListN.{length, getD};
-ghost use Rattle.store.specs.Stores.{maxVariables, maxRows, lent, wellFormed};
-ghost use Rattle.lexleader.specs.Made.{rowsClauses};
+ghost use Rattle.store.specs.Stores.{rowsOf, rowsFrom, FormedRows};
+ghost use Rattle.lexleader.specs.Made.{made, rowsClauses};
 ghost use Rattle.lexleader.specs.Bounds.{maxBefore};
-ghost use Rattle.lexleader.specs.Places.{clausesAt, sixAt, auxiliaryAfter, Stands};
-ghost use Rattle.lexleader.specs.Store.{madeOf};
-ghost use Rattle.cursor.specs.Cursors.{rowAt, rowsLeft, addedLeft, clausesLeft, Points, AtAuxiliary};
+ghost use Rattle.lexleader.specs.Places.{clausesAt, sixAt, auxiliaryAfter, PlaceStands, PlaceAfter};
+ghost use Rattle.cursor.specs.Cursors.{addedFrom, leftOf, rowOf, Points, ClauseLeft, AtAdded, AtAuxiliary, CursorAfter};
 
 // How many plain clauses are passed, the row whose clauses come next, and the place among them.
 pub struct Cursor {
@@ -23,25 +31,23 @@ pub struct Cursor {
 }
 
 // The cursor before the first clause.
-pub fn start(counts: Record, literals: &[u16], ends: &[u16], images: &[u16]) -> Cursor
-    requires { ⌜ wellFormed (lent counts (now literals) (now ends) (now images)) ≡ true ⌝ }
+pub fn start(counts: Record, images: &[u16]) -> Cursor
+    requires { ⌜ FormedRows (counts .variables) (counts .rows) (now images) ⌝ }
     ensures points { λ r. ⌜ Points counts (now (images .entry)) r ⌝ }
-    ensures left { λ r. ⌜ clausesLeft (lent counts (now (literals .entry)) (now (ends .entry)) (now (images .entry))) r ≡ madeOf (lent counts (now (literals .entry)) (now (ends .entry)) (now (images .entry))) ⌝ }
+    ensures left { λ r. let images = now (images .entry) in
+        let rows = rowsOf (counts .variables) (counts .rows) images in
+        ⌜ ((plain : List (List ℕ)) → leftOf plain counts images r ≡ made (counts .variables) plain rows) ⌝ }
 {
     row_from(counts, images, 0, 0, counts.variables as u32 + 1)
 }
 
 // The cursor after the clause at one.
-pub fn next(
-    counts: Record,
-    literals: &[u16],
-    ends: &[u16],
-    images: &[u16],
-    cursor: Cursor,
-) -> Cursor
-    requires { ⌜ (wellFormed (lent counts (now literals) (now ends) (now images)) ≡ true) × Points counts (now images) cursor × (0 < length (clausesLeft (lent counts (now literals) (now ends) (now images)) cursor)) ⌝ }
+pub fn next(counts: Record, images: &[u16], cursor: Cursor) -> Cursor
+    requires { ⌜ Points counts (now images) cursor × ClauseLeft counts cursor ⌝ }
     ensures points { λ r. ⌜ Points counts (now (images .entry)) r ⌝ }
-    ensures left { λ r. ⌜ clausesLeft (lent counts (now (literals .entry)) (now (ends .entry)) (now (images .entry))) cursor ≡ getD (clausesLeft (lent counts (now (literals .entry)) (now (ends .entry)) (now (images .entry))) cursor) 0 [] ∷ clausesLeft (lent counts (now (literals .entry)) (now (ends .entry)) (now (images .entry))) r ⌝ }
+    ensures left { λ r. let images = now (images .entry) in
+        ⌜ ((plain : List (List ℕ)) → length plain ≡ counts .clauses
+        → leftOf plain counts images cursor ≡ getD (leftOf plain counts images cursor) 0 [] ∷ leftOf plain counts images r) ⌝ }
 {
     if cursor.plain < counts.clauses {
         let place = cursor.place;
@@ -56,14 +62,14 @@ pub fn next(
 
 // The cursor after a clause that a row adds, in the same row or a later one.
 pub fn next_added(counts: Record, images: &[u16], cursor: Cursor) -> Cursor
-    requires { ⌜ (counts .variables ≤ maxVariables) × (counts .rows ≤ maxRows) × (counts .rows * counts .variables ≤ length (now images)) × Points counts (now images) cursor × (cursor .row < counts .rows) ⌝ }
-    ensures points { λ r. ⌜ Points counts (now (images .entry)) r × (r .plain ≡ cursor .plain) ⌝ }
-    ensures left { λ r. ⌜ addedLeft (rowsLeft counts (now (images .entry)) (cursor .row)) (cursor .place) ≡ getD (clausesAt (rowAt counts (now (images .entry)) (cursor .row)) (cursor .place)) 0 [] ∷ addedLeft (rowsLeft counts (now (images .entry)) (r .row)) (r .place) ⌝ }
+    requires { ⌜ Points counts (now images) cursor × AtAdded counts cursor ⌝ }
+    ensures { λ r. let images = now (images .entry) in
+        let clause = getD (clausesAt (rowOf counts images cursor) (cursor .place)) 0 [] in
+        ⌜ CursorAfter counts images cursor (clause ∷ []) r ⌝ }
 {
-    let from = cursor.row * counts.variables;
-    let to = from + counts.variables;
+    let row = store::rows::row(images, counts.variables, cursor.row);
     let here = cursor.place;
-    let place = lexleader::next_place(&images[from..to], here);
+    let place = lexleader::places::next_place(row, here);
     at_place(counts, images, cursor, place)
 }
 
@@ -85,29 +91,25 @@ pub fn at_auxiliary(counts: Record, cursor: Cursor) -> bool
 }
 
 // The cursor after the six clauses of an auxiliary, from one at the first of them.
-pub fn next_auxiliary(
-    counts: Record,
-    literals: &[u16],
-    ends: &[u16],
-    images: &[u16],
-    cursor: Cursor,
-) -> Cursor
-    requires { ⌜ (wellFormed (lent counts (now literals) (now ends) (now images)) ≡ true) × Points counts (now images) cursor × AtAuxiliary counts cursor ⌝ }
-    ensures points { λ r. ⌜ Points counts (now (images .entry)) r ⌝ }
-    ensures left { λ r. ⌜ clausesLeft (lent counts (now (literals .entry)) (now (ends .entry)) (now (images .entry))) cursor ≡ sixAt (rowAt counts (now (images .entry)) (cursor .row)) (cursor .place) ++ clausesLeft (lent counts (now (literals .entry)) (now (ends .entry)) (now (images .entry))) r ⌝ }
+pub fn next_auxiliary(counts: Record, images: &[u16], cursor: Cursor) -> Cursor
+    requires { ⌜ Points counts (now images) cursor × AtAuxiliary counts cursor ⌝ }
+    ensures { λ r. let images = now (images .entry) in
+        ⌜ CursorAfter counts images cursor (sixAt (rowOf counts images cursor) (cursor .place)) r ⌝ }
 {
-    let from = cursor.row * counts.variables;
-    let to = from + counts.variables;
+    let row = store::rows::row(images, counts.variables, cursor.row);
     let here = cursor.place;
-    let place = lexleader::next_auxiliary(&images[from..to], here);
+    let place = lexleader::places::next_auxiliary(row, here);
     at_place(counts, images, cursor, place)
 }
 
-// The cursor at a place of its row, or past the row's last clause at the first one of a later row.
+// The cursor at a later place of its row, or past the row's last clause at the first one of a later row.
 fn at_place(counts: Record, images: &[u16], cursor: Cursor, place: Place) -> Cursor
-    requires { ⌜ (counts .variables ≤ maxVariables) × (counts .rows ≤ maxRows) × (counts .rows * counts .variables ≤ length (now images)) × (cursor .plain ≤ counts .clauses) × (cursor .row < counts .rows) × Stands (rowAt counts (now images) (cursor .row)) place × (auxiliaryAfter (rowAt counts (now images) (cursor .row)) place ≤ maxBefore (cursor .row + 1) + 1) ⌝ }
-    ensures points { λ r. ⌜ Points counts (now (images .entry)) r × (r .plain ≡ cursor .plain) ⌝ }
-    ensures left { λ r. ⌜ addedLeft (rowsLeft counts (now (images .entry)) (cursor .row)) place ≡ addedLeft (rowsLeft counts (now (images .entry)) (r .row)) (r .place) ⌝ }
+    requires { let row = rowOf counts (now images) cursor in
+        ⌜ Points counts (now images) cursor × AtAdded counts cursor
+        × PlaceStands row place × (auxiliaryAfter row place ≡ auxiliaryAfter row (cursor .place)) ⌝ }
+    ensures { λ r. let images = now (images .entry) in
+        ⌜ ((clauses : List (List ℕ)) → PlaceAfter (rowOf counts images cursor) (cursor .place) clauses place
+        → CursorAfter counts images cursor clauses r) ⌝ }
 {
     if place.index < counts.variables {
         return Cursor {
@@ -127,17 +129,18 @@ fn at_place(counts: Record, images: &[u16], cursor: Cursor, place: Place) -> Cur
 
 // The cursor at the first clause that a row or a later one adds, where e is the row's first auxiliary.
 fn row_from(counts: Record, images: &[u16], plain: usize, row: usize, e: u32) -> Cursor
-    requires { ⌜ (counts .variables ≤ maxVariables) × (counts .rows ≤ maxRows) × (counts .rows * counts .variables ≤ length (now images)) × (plain ≤ counts .clauses) × (row ≤ counts .rows) × (e ≤ maxBefore row + 1) ⌝ }
+    requires { ⌜ FormedRows (counts .variables) (counts .rows) (now images)
+        × (plain ≤ counts .clauses) × (row ≤ counts .rows) × (e ≤ maxBefore row + 1) ⌝ }
     ensures points { λ r. ⌜ Points counts (now (images .entry)) r × (r .plain ≡ plain) ⌝ }
-    ensures left { λ r. ⌜ addedLeft (rowsLeft counts (now (images .entry)) (r .row)) (r .place) ≡ rowsClauses e (rowsLeft counts (now (images .entry)) row) ⌝ }
+    ensures left { λ r. let images = now (images .entry) in
+        let rows = rowsFrom (counts .variables) (counts .rows) images row in
+        ⌜ addedFrom counts images (r .row) (r .place) ≡ rowsClauses e rows ⌝ }
 {
     let n = counts.variables;
     let mut first = e;
     let mut r = row;
     while r < counts.rows {
-        let from = r * n;
-        let to = from + n;
-        let place = lexleader::first_place(&images[from..to], first);
+        let place = lexleader::places::first_place(store::rows::row(images, n, r), first);
         if place.index < n {
             return Cursor {
                 plain: plain,

@@ -1,14 +1,14 @@
 -- A loop over the rows: what is left is row r and those after it, and what that means for the counts and for the clause looked for. Assumes nothing.
-use mathlib.Core.Path.{_≡_, ap, subst, _∙_}
+use mathlib.Core.Path.{_≡_, ap, _∙_}
 use mathlib.Core.Logic.{_⊎_, inl, inr, ⊎-elim}
-use mathlib.Core.List.{List, [], _∷_, _++_}
+use mathlib.Core.List.{List, [], _++_}
 use Prim.Native.Nat.{ℕ, _+_, _-_, _*_, _≤_, _<_}
 use native.Mathlib.Omega.{arith}
-use lib.ListN.{length, getD, take, drop, length-append, List·getD-append}
+use lib.ListN.{length, getD, length-append, List·getD-append}
 use lib.Seq.{getD-append-add}
 use Rattle.lists.proofs.Cases.{lt-or-le}
-use Rattle.store.specs.Stores.{maxVariables, rowsOf, rowAt, rowsFrom}
-use Rattle.store.proofs.RowLaws.{part-is, from-first, from-here, from-end, row-size}
+use Rattle.store.specs.Stores.{maxVariables, rowsOf, rowAt, rowsFrom, FormedRows}
+use Rattle.store.proofs.RowLaws.{from-first, from-here, from-end, row-size}
 use Rattle.lexleader.specs.Rows.{pairsOf}
 use Rattle.lexleader.specs.Made.{rowClauses, auxiliaries, rowsClauses, allAuxiliaries}
 use Rattle.lexleader.specs.Bounds.{maxBefore}
@@ -23,9 +23,6 @@ clauses-most e k row h many = ⊎-elim (λ l. omega (arith, row-few e row l)) (�
 -- x auxiliaries and y clauses are what a row adds
 abbrev pub Adds : ℕ → ℕ → List ℕ → Type 0
 Adds x y row = (x ≡ auxiliaries row) × ((e : ℕ) → y ≡ length (rowClauses e row))
-
-pub part-adds : (n r : ℕ) (images : List ℕ) (x y : ℕ) → Adds x y (take (r * n + n - r * n) (drop (r * n) images)) → Adds x y (rowAt n r images)
-part-adds n r images x y h = subst (Adds x y) (part-is n r images) h
 
 module _ (n rows : ℕ) (images : List ℕ) where
   -- row r and those after it
@@ -49,17 +46,16 @@ module _ (n rows : ℕ) (images : List ℕ) where
     all-clauses = omega (arith, ap (λ (l : List (List ℕ)). length (rowsClauses 0 l)) (from-first n rows images));
   }
 
-  pub summed-more : {a k r x y : ℕ} → Summed a k r → r < rows → n ≤ maxVariables → rows * n ≤ length images
-      → Adds x y (rowAt n r images) → Summed (a + x) (k + y) (r + 1)
+  pub summed-more : FormedRows n rows images → {a k r x y : ℕ} → Summed a k r → r < rows → Adds x y (rowAt n r images) → Summed (a + x) (k + y) (r + 1)
   unfolding allAuxiliaries rowsClauses
-  summed-more {a} {k} {r} {x} {y} s h small fits (ax, ky) =
+  summed-more f {a} {k} {r} {x} {y} s h (ax, ky) =
       let row : List ℕ = rowAt n r images in
       let rest : List (List ℕ) = left (r + 1) in
-      let size = row-size n rows images fits r h in
+      let size = row-size n rows images (f .fits) r h in
       record {
         upto = omega arith;
-        few-auxiliaries = omega (arith, s .few-auxiliaries, auxiliaries-most row);
-        few-clauses = omega (arith, s .few-clauses, ky 0, clauses-most 0 maxVariables row (omega arith) (omega arith));
+        few-auxiliaries = omega (arith, f .small, s .few-auxiliaries, auxiliaries-most row);
+        few-clauses = omega (arith, s .few-clauses, ky 0, clauses-most 0 maxVariables row (omega (arith, f .small)) (omega arith));
         all-auxiliaries = omega (arith, s .all-auxiliaries, ap allAuxiliaries (from-here n rows images r h));
         all-clauses =
             omega (
@@ -114,15 +110,15 @@ module _ (n rows : ℕ) (images : List ℕ) where
           ∙ ap (λ (l : List (List ℕ)). getD l k []) apart
           ∙ List·getD-append (rowClauses e (rowAt n r images)) (rowsClauses (e + auxiliaries (rowAt n r images)) (left (r + 1))) [] k h
 
-      pub sought-later : {x y : ℕ} → n ≤ maxVariables → rows * n ≤ length images → Adds x y (rowAt n r images) → y ≤ k → Sought q (e + x) (k - y) (r + 1)
-      sought-later {x} {y} small fits (ax, count) h =
+      pub sought-later : FormedRows n rows images → {x y : ℕ} → Adds x y (rowAt n r images) → y ≤ k → Sought q (e + x) (k - y) (r + 1)
+      sought-later f {x} {y} (ax, count) h =
           let ky : y ≡ length (rowClauses e (rowAt n r images)) = count e in
           let row : List ℕ = rowAt n r images in
           let rest : List (List ℕ) = rowsClauses (e + x) (left (r + 1)) in
           let cut : rowsClauses e (left r) ≡ rowClauses e row ++ rest = rw ax apart in
           let number : k ≡ length (rowClauses e row) + (k - y) = omega arith in
           record {
-            low = omega (arith, s .low, auxiliaries-most row, row-size n rows images fits r sought-within);
+            low = omega (arith, f .small, s .low, auxiliaries-most row, row-size n rows images (f .fits) r sought-within);
             inside = omega (arith, s .inside, ap length cut, length-append (rowClauses e row) rest);
             same =
                 s .same

@@ -14,8 +14,8 @@ pub mod Examples
 pub mod Walk
 pub mod Numbers
 pub mod Bounds
-pub mod Places
-pub mod Table
+pub mod PlaceLaws
+pub mod TableLaws
 pub mod Left
 pub mod MadeLaws
 pub mod StoreBounds

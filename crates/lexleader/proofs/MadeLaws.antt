@@ -12,7 +12,7 @@ use Rattle.store.proofs.Demands.{rest-of}
 use Rattle.lexleader.specs.Made.{rowsClauses, made}
 use Rattle.lexleader.specs.Store.{madeOf, variablesOf, clausesOf}
 use Rattle.lexleader.specs.Counted.{Counted}
-use Rattle.lexleader.specs.declared.Totals.{Totals}
+use Rattle.lexleader.specs.declared.counting.Totals.{Totals}
 
 module _ (s : Store) (formed : wellFormed s ≡ true) where
   -- the ends of the clauses in use

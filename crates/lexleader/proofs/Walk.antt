@@ -14,7 +14,7 @@ use lib.Seq.{drop-drop}
 use Rattle.lists.proofs.Cases.{lt-or-le}
 use Rattle.lists.proofs.Steps.{drop-step}
 use Rattle.lexleader.specs.Rows.{Pair, pairsFrom, pairsOf}
-use Rattle.lexleader.specs.Clause.{pairAt, pairsAt, Next}
+use Rattle.lexleader.specs.Clause.{pairAt, pairsAt, NextMoved}
 
 pub pairs-start : (row : List ℕ) → pairsOf row ≡ pairsAt 0 row
 unfolding pairsOf pairsAt
@@ -78,7 +78,7 @@ unfolding pairsOf
 pairs-length row = from-length 1 row
 
 -- where the pairs from number k on, from 0, are those at or after an index, the next moved variable is that of pair k
-pub next-found : (row : List ℕ) (k from r : ℕ) → Next row from r → drop k (pairsOf row) ≡ pairsAt from row → k < length (pairsOf row)
+pub next-found : (row : List ℕ) (k from r : ℕ) → NextMoved row from r → drop k (pairsOf row) ≡ pairsAt from row → k < length (pairsOf row)
     → (r < length row) × (drop k (pairsOf row) ≡ pairsAt r row) × (pairsAt r row ≡ pairAt row r ∷ pairsAt (r + 1) row)
 next-found row k from r n e h = go (lt-or-le r (length row))
   where
@@ -91,5 +91,5 @@ pub rest-found : (pairs : List Pair) (k : ℕ) (a : Pair) (rest : List Pair) →
 rest-found pairs k a rest e = sym (drop-drop 1 k pairs) ∙ ap (drop 1) e
 
 -- the index found is the first at or after itself
-pub stays : {row : List ℕ} {from r : ℕ} → Next row from r → Next row r r
+pub stays : {row : List ℕ} {from r : ℕ} → NextMoved row from r → NextMoved row r r
 stays n = record { within = n .within; onward = omega arith; same = refl; here = n .here }

@@ -6,7 +6,7 @@ use mathlib.Core.Bool.{Bool, cond}
 use mathlib.Core.List.{List, _∷_}
 use lib.ListN.{length, getD, take, drop}
 use lib.Dec.{eqb}
-use Rattle.lexleader.specs.declared.Clause.{Clause}
+use Rattle.lexleader.specs.declared.table.Clause.{Clause}
 use Rattle.lexleader.specs.Rows.{Pair, pairsFrom}
 use Rattle.lexleader.specs.Made.{firstSix, laterSix}
 
@@ -15,7 +15,7 @@ abbrev pub clauseOf : Clause → List ℕ
 clauseOf c = take (c .count) (c .literals)
 
 -- a clause that was returned holds these literals, at most four
-pub record Holds (c : Clause) (clause : List ℕ) : Type 0 where
+pub record ClauseIs (c : Clause) (clause : List ℕ) : Type 0 where
   pub few : c .count ≤ 4
   pub room : length (c .literals) ≡ 4
   pub are : clauseOf c ≡ clause
@@ -37,7 +37,7 @@ unfoldable pub pairsAt : ℕ → List ℕ → List Pair
 pairsAt i row = pairsFrom (i + 1) (drop i row)
 
 -- r is the index of the first moved variable at or after `from`, or the row's length where there is none
-pub record Next (row : List ℕ) (from r : ℕ) : Type 0 where
+pub record NextMoved (row : List ℕ) (from r : ℕ) : Type 0 where
   pub within : r ≤ length row
   pub onward : from ≤ r
   pub same : pairsAt from row ≡ pairsAt r row

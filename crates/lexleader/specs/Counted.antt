@@ -7,7 +7,7 @@ use Rattle.store.specs.Stores.{rowsOf}
 use Rattle.store.specs.declared.record.Record.{Record}
 use Rattle.lexleader.specs.Made.{rowsClauses, madeVariables}
 use Rattle.lexleader.specs.Bounds.{maxMadeVariables, maxMadeClauses}
-use Rattle.lexleader.specs.declared.Totals.{Totals}
+use Rattle.lexleader.specs.declared.counting.Totals.{Totals}
 
 -- the totals are those of a record and its images: of a well-formed store, N and M (`counted-clauses`, proofs/MadeLaws.antt)
 pub record Counted (counts : Record) (images : List ℕ) (r : Totals) : Type 0 where

@@ -7,9 +7,10 @@ use lib.ListN.{length, drop}
 use lib.Dec.{eqb}
 use Rattle.store.specs.Literals.{oppositeOf}
 use Rattle.lexleader.specs.Rows.{Pair}
+use Rattle.store.specs.Stores.{maxVariables}
 use Rattle.lexleader.specs.Bounds.{maxMadeVariables}
-use Rattle.lexleader.specs.Clause.{tableOf, pairAt, pairsAt, Next}
-use Rattle.lexleader.specs.declared.Place.{Place}
+use Rattle.lexleader.specs.Clause.{tableOf, pairAt, pairsAt, NextMoved}
+use Rattle.lexleader.specs.declared.places.Place.{Place}
 
 -- the clauses of a row from the auxiliary ej on, whose number is e, for the pairs from (xj, yj) on
 unfoldable pub clausesOn : ℕ → ℕ → List Pair → List (List ℕ)
@@ -34,13 +35,31 @@ abbrev pub pastLast : List ℕ → ℕ → Place
 pastLast row e = record { index = length row; next = length row; auxiliary = e; j = 1; r = 1 }
 
 -- p is a place of the row: at a moved variable, with the next one, or past the last clause. Before the j-th moved variable there are j - 1 others (`early`).
-pub record Stands (row : List ℕ) (p : Place) : Type 0 where
+pub record PlaceStands (row : List ℕ) (p : Place) : Type 0 where
   pub within : p .index ≤ length row
   pub here : p .index < length row → pairsAt (p .index) row ≡ pairAt row (p .index) ∷ pairsAt (p .index + 1) row
-  pub then : p .index < length row → Next row (p .index + 1) (p .next)
+  pub then : p .index < length row → NextMoved row (p .index + 1) (p .next)
   pub alone : p .index < length row → p .next ≡ length row → (p .j ≡ 1) × (p .r ≡ 1)
   pub one : 1 ≤ p .j
   pub early : p .j ≤ p .index + 1
   pub low : 1 ≤ p .r
   pub high : p .r ≤ 6
   pub few : auxiliaryAfter row p ≤ maxMadeVariables + 1
+
+-- a clause stands at p, a place of a row that a store can hold
+pub record ClauseStands (row : List ℕ) (p : Place) : Type 0 where
+  pub small : length row ≤ maxVariables
+  pub stands : PlaceStands row p
+  pub inside : p .index < length row
+
+-- from the place p on, these clauses are left of the row, and `after` is the auxiliary after its last one
+pub record PlaceLeaves (row : List ℕ) (p : Place) (clauses : List (List ℕ)) (after : ℕ) : Type 0 where
+  pub stands : PlaceStands row p
+  pub left : clausesAt row p ≡ clauses
+  pub auxiliary : auxiliaryAfter row p ≡ after
+
+-- q is the place past these clauses, from p on
+pub record PlaceAfter (row : List ℕ) (p : Place) (clauses : List (List ℕ)) (q : Place) : Type 0 where
+  pub stands : PlaceStands row q
+  pub left : clausesAt row p ≡ clauses ++ clausesAt row q
+  pub auxiliary : auxiliaryAfter row q ≡ auxiliaryAfter row p

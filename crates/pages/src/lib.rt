@@ -129,7 +129,7 @@ fn add_added(
     let from = cursor.row * counts.variables;
     let to = from + counts.variables;
     let place = cursor.place;
-    let clause = lexleader::clause_at(&images[from..to], place);
+    let clause = lexleader::places::clause_at(&images[from..to], place);
     let next = cursor::next_added(counts, images, cursor);
     let codes = clause.literals;
     let count = clause.count;

@@ -1,188 +1,102 @@
 -- `checking::holds_at` meets its contract: the clause at the cursor is a plain one, or the one at its place in a row. Assumes nothing.
-use mathlib.Core.Path.{_≡_, sym, ap, _∙_}
+use mathlib.Core.Path.{_≡_, sym, ap, subst, _∙_}
 use mathlib.Core.Bool.{true}
 use mathlib.Core.List.{List, []}
-use Prim.Native.Nat.{ℕ, _+_, _-_, _*_, _≤_, _<_}
+use Prim.Native.Nat.{ℕ}
 use native.Mathlib.Omega.{arith}
-use lib.ListN.{length, getD, take, drop}
+use lib.ListN.{getD}
 use lib.Seq.{length-take-le}
 use Rattle.lists.specs.Tests.{allOf}
 use Rattle.packed.specs.Words.{bitsOf}
 use Rattle.packed.specs.Order.{valueOf}
-use Rattle.packed.proofs.Form.{form-room}
 use Rattle.store.specs.Literals.{isLiteral}
-use Rattle.store.specs.Stores.{Store, lent, maxLiterals, plainOf}
-use Rattle.store.proofs.Formed.{Formed, formed}
-use Rattle.store.proofs.RowLaws.{part-is, row-room, row-size}
-use Rattle.lexleader.specs.Clause.{Holds, clauseOf}
+use Rattle.store.specs.Stores.{Store, lent, plainOf}
+use Rattle.store.proofs.Formed.{formed, formed-clauses}
+use Rattle.lexleader.specs.Clause.{clauseOf}
 use Rattle.lexleader.specs.Models.{clauseHolds}
 use Rattle.lexleader.specs.Places.{clausesAt}
-use Rattle.lexleader.proofs.Within.{all-literals-more}
-use Rattle.lexleader.specs.Store.{variablesOf}
-use Rattle.cursor.specs.Cursors.{rowAt, clausesLeft}
-use Rattle.cursor.proofs.RowLaws.{row-part, here-first}
-use Rattle.cursor.proofs.CursorLaws.{next-plain, bounds, rises, plain-part, past-plain, some-row}
-use borrow.Author.Needs.{needs}
+use Rattle.lexleader.proofs.MadeLaws.{plain-length, plain-at}
+use Rattle.cursor.specs.Cursors.{clausesLeft, AtAdded}
+use Rattle.cursor.proofs.CursorLaws.{row-there, clause-stands, next-plain, added-first}
 use Rattle.checking.proofs.holds_at.Statement.{statement}
 use Rattle.checking.proofs.holds_at.Tie as tie
 
 abbrev S : tie.Start → Store
 S c = lent (c .args .counts) (c .args .literals .now) (c .args .ends .now) (c .args .images .now)
 
-facts : (c : tie.Start) → Formed (S c)
-facts c = formed (S c) (c .pre .0)
+-- ---- a plain clause
 
--- the words have row-room for every variable of the clause at the cursor
-enough : (c : tie.Start) (clause : List ℕ) → clause ≡ getD (clausesLeft (S c) (c .args .at)) 0 [] → allOf (isLiteral (64 * length (c .args .a .now))) clause ≡ true
-enough c clause is =
-    rw is (all-literals-more (variablesOf (S c)) (64 * length (c .args .a .now)) (form-room (variablesOf (S c)) (c .args .a .now) (c .pre .3)) _ (c .pre .4))
-
--- ---- a plain clause: where its literals lie, and that they are its own
-
-lies : (c : tie.After-literal-count2) → let s = c .before .before .before .before .before .before .before .before .before in
-    (c .before .literal-count .result ≤ c .literal-count2 .result) × (c .literal-count2 .result ≤ length (s .args .literals .now)) × (c .literal-count2 .result ≤ maxLiterals)
-lies c =
-    let s = c .before .before .before .before .before .before .before .before .before in
-    let plain = c .before .before .if1 .taken in
-    let b = bounds (S s) (s .pre .0) (s .args .at) plain in
-    let r = rises (S s) (s .pre .0) (s .args .at) plain in
-    let start = c .before .literal-count .ensures in
-    let end = c .literal-count2 .ensures in
-    (omega (arith, r), omega (arith, b .within), omega (arith, b .few))
-
-clause-is : (c : tie.After-literal-count2) → let s = c .before .before .before .before .before .before .before .before .before in
-    take (c .literal-count2 .result - c .before .literal-count .result) (drop (c .before .literal-count .result) (s .args .literals .now)) ≡ getD (plainOf (S s)) (s .args .at .plain) []
-clause-is c =
-    let s = c .before .before .before .before .before .before .before .before .before in
-    plain-part (S s) (s .pre .0) (s .args .at) (c .before .before .if1 .taken) _ _ (c .before .literal-count .ensures) (c .literal-count2 .ensures)
-
-plain-first : (c : tie.After-literal-count2) → let s = c .before .before .before .before .before .before .before .before .before in
-    take (c .literal-count2 .result - c .before .literal-count .result) (drop (c .before .literal-count .result) (s .args .literals .now)) ≡ getD (clausesLeft (S s) (s .args .at)) 0 []
+plain-first : (c : tie.After-clause) → let s = c .before .before .before .before .before .before .before .before in
+    c .clause .result .now ≡ getD (clausesLeft (S s) (s .args .at)) 0 []
 plain-first c =
-    let s = c .before .before .before .before .before .before .before .before .before in
-    clause-is c ∙ sym (ap (λ (x : List (List ℕ)). getD x 0 []) (next-plain (S s) (s .pre .0) (s .args .at) (c .before .before .if1 .taken)))
+    let s = c .before .before .before .before .before .before .before .before in
+    let at = s .args .at in
+    let plain = c .before .if1 .taken in
+    let left = next-plain (plainOf (S s)) (s .args .counts) (plain-length (S s) (s .pre .0)) (s .args .images .now) at plain in
+    c .clause .ensures ∙ sym (ap (λ (l : List (List ℕ)). getD l 0 []) left ∙ plain-at (S s) (s .pre .0) (at .plain) plain)
 
--- ---- a clause that a row adds: the row, and the clause at the place
-
-row-left : (c : tie.Else1) → let s = c .before .before .before .before .before .before .before in s .args .at .row < s .args .counts .rows
-row-left c = let s = c .before .before .before .before .before .before .before in some-row (S s) (s .pre .0) (s .args .at) (c .if1 .left) (s .pre .2)
-
-fits : (c : tie.Else1) → let a = c .before .before .before .before .before .before .before .args in a .at .row * a .counts .variables + a .counts .variables ≤ length (a .images .now)
-fits c = let s = c .before .before .before .before .before .before .before in row-room (s .args .counts .variables) (s .args .counts .rows) (s .args .images .now) (facts s .images-long) (s .args .at .row) (row-left c)
-
-holds : (c : tie.After-clause-at) → let a = c .before .before .before .before .before .before .before .before .before .before .before .before .before .args in
-    Holds (c .clause-at .result) (getD (clausesAt (rowAt (a .counts) (a .images .now) (a .at .row)) (a .at .place)) 0 [])
-holds c =
-    let a = c .before .before .before .before .before .before .before .before .before .before .before .before .before .args in
-    row-part (a .counts) (a .images .now) (λ (row : List ℕ). Holds (c .clause-at .result) (getD (clausesAt row (a .at .place)) 0 [])) (a .at .row) (c .clause-at .ensures)
-
-added-first : (c : tie.After-clause-at) → let s = c .before .before .before .before .before .before .before .before .before .before .before .before .before in
-    clauseOf (c .clause-at .result) ≡ getD (clausesLeft (S s) (s .args .at)) 0 []
-added-first c =
-    let i = c .before .before .before .before .before .before in
-    let s = i .before .before .before .before .before .before .before in
-    let a = s .args in
-    let at = s .pre .1 in
-    let head = here-first (a .counts) (a .images .now) (a .at .row) (row-left i) (a .at .place) (at .place (row-left i)) (at .there (row-left i)) (facts s .images-long) in
-    holds c .are ∙ sym (ap (λ (x : List (List ℕ)). getD x 0 []) (past-plain (S s) (s .pre .0) (a .at) (i .if1 .left)) ∙ head)
-
-literal-count-requires : tie.Need-literal-count-requires
-literal-count-requires c κs = let s = c .before .before .before .before .before .before .before in omega (arith, facts s .ends-long, c .if1 .taken)
-
-add-literal-count : tie.Need-add-literal-count
-add-literal-count c = search needs
-
-literal-count-requires-2 : tie.Need-literal-count-requires-2
-literal-count-requires-2 c κs = let s = c .before .before .before .before .before .before .before .before in omega (arith, facts s .ends-long, c .before .if1 .taken)
-
-mul-stored-holds : tie.Need-mul-stored-holds
-mul-stored-holds c = omega (arith, lies c)
-
-sub-stored-holds : tie.Need-sub-stored-holds
-sub-stored-holds c = omega (arith, lies c)
-
-part-stored-holds-start : tie.Need-part-stored-holds-start
-part-stored-holds-start c = omega (arith, lies c)
-
-part-stored-holds-end : tie.Need-part-stored-holds-end
-part-stored-holds-end c = omega (arith, lies c)
+clause-requires : tie.Need-clause-requires
+clause-requires c κs = let s = c .before .before .before .before .before .before .before in (formed-clauses (S s) (formed (S s) (s .pre .0)), c .if1 .taken)
 
 stored-holds-requires : tie.Need-stored-holds-requires
-stored-holds-requires c κs =
-    let s = c .before .before .before .before .before .before .before .before .before .before in
-    enough s _ (plain-first (c .before))
+stored-holds-requires c κs = rw (plain-first c) (c .before .before .before .before .before .before .before .before .pre .3)
 
 returns : tie.Need-returns
-returns c =
-    let l = c .before .before in
-    let s = l .before .before .before .before .before .before .before .before .before in
-    let first = plain-first l in
-    c .stored-holds .ensures (variablesOf (S s)) (rw first (s .pre .4)) ∙ ap (clauseHolds (valueOf (bitsOf (variablesOf (S s)) (s .args .a .now)))) first
+returns c n =
+    let a = c .before .before .before .before .before .before .before .before .before .args .a .now in
+    subst (λ (clause : List ℕ). allOf (isLiteral n) clause ≡ true → c .stored-holds .result ≡ clauseHolds (valueOf (bitsOf n a)) clause) (plain-first (c .before)) (c .stored-holds .ensures n)
 
-mul-from : tie.Need-mul-from
-mul-from c = omega (arith, fits (c .before .before))
+-- ---- a clause that a row adds
 
-add-to : tie.Need-add-to
-add-to c = omega (arith, fits (c .before .before .before))
+at-added : (c : tie.Else1) → let a = c .before .before .before .before .before .before .before .args in AtAdded (a .counts) (a .at)
+at-added c = record { past = c .if1 .left; row = c .before .before .before .before .before .before .before .pre .2 (c .if1 .left) }
 
-mul-clause-at : tie.Need-mul-clause-at
-mul-clause-at c = omega (arith, fits (c .before .before .before .before))
+row-first : (c : tie.After-clause-at) → let s = c .before .before .before .before .before .before .before .before .before .before in
+    clauseOf (c .clause-at .result) ≡ getD (clausesLeft (S s) (s .args .at)) 0 []
+row-first c =
+    let i = c .before .before .before in
+    let s = i .before .before .before .before .before .before .before in
+    let a = s .args in
+    c .clause-at .ensures .are
+    ∙ ap (λ (row : List ℕ). getD (clausesAt row (a .at .place)) 0 []) (c .before .before .row .ensures)
+    ∙ sym (added-first (plainOf (S s)) (a .counts) (plain-length (S s) (s .pre .0)) (a .images .now) (a .at) (s .pre .1) (at-added i))
 
-sub-clause-at : tie.Need-sub-clause-at
-sub-clause-at c = search needs
-
-part-clause-at-start : tie.Need-part-clause-at-start
-part-clause-at-start c = search needs
-
-part-clause-at-end : tie.Need-part-clause-at-end
-part-clause-at-end c = omega (arith, fits (c .before .before .before .before))
+row-requires : tie.Need-row-requires
+row-requires c κs =
+    let s = c .before .before .before .before .before .before .before in
+    row-there (s .args .counts) (s .args .images .now) (s .args .at) (s .pre .1) (at-added c .row)
 
 clause-at-requires : tie.Need-clause-at-requires
 clause-at-requires c κs =
-    let i = c .before .before .before .before .before in
+    let i = c .before .before in
     let s = i .before .before .before .before .before .before .before in
-    let a = s .args in
-    let f = facts s in
-    let size = row-size (a .counts .variables) (a .counts .rows) (a .images .now) (f .images-long) (a .at .row) (row-left i) in
-    rw (part-is (a .counts .variables) (a .at .row) (a .images .now)) (omega (arith, f .variables-fit), s .pre .1 .place (row-left i), omega (arith, s .pre .1 .there (row-left i)))
+    rw (c .before .row .ensures) (clause-stands (s .args .counts) (s .args .images .now) (s .args .at) (s .pre .1) (at-added i .row))
 
 array-share-prefix-codes : tie.Need-array-share-prefix-codes
-array-share-prefix-codes c = let h = c .before .clause-at .ensures in omega (arith, h .few, h .row-room)
+array-share-prefix-codes c = let h = c .before .clause-at .ensures in omega (arith, h .few, h .room)
 
 slice-aggregate-codes-hold : tie.Need-slice-aggregate-codes-hold
-slice-aggregate-codes-hold c = let h = c .before .before .clause-at .ensures in sym (length-take-le _ _ (omega (arith, h .few, h .row-room)))
+slice-aggregate-codes-hold c = let h = c .before .before .clause-at .ensures in sym (length-take-le _ _ (omega (arith, h .few, h .room)))
 
 codes-hold-requires : tie.Need-codes-hold-requires
 codes-hold-requires c κs =
     let k = c .before .before in
-    enough (k .before .before .before .before .before .before .before .before .before .before .before .before .before) _ (added-first k)
+    rw (row-first k) (k .before .before .before .before .before .before .before .before .before .before .pre .3)
 
 returns-2 : tie.Need-returns-2
-returns-2 c =
+returns-2 c n =
     let k = c .before .before .before in
-    let s = k .before .before .before .before .before .before .before .before .before .before .before .before .before in
-    let first = added-first k in
-    c .codes-hold .ensures (variablesOf (S s)) (rw first (s .pre .4)) ∙ ap (clauseHolds (valueOf (bitsOf (variablesOf (S s)) (s .args .a .now)))) first
+    let a = k .before .before .before .before .before .before .before .before .before .before .args .a .now in
+    subst (λ (clause : List ℕ). allOf (isLiteral n) clause ≡ true → c .codes-hold .result ≡ clauseHolds (valueOf (bitsOf n a)) clause) (row-first k) (c .codes-hold .ensures n)
 
 pub holds-at-spec : {M : Type 1} → statement M
 holds-at-spec =
     tie.close
     (tie.spec
-    literal-count-requires
-    add-literal-count
-    literal-count-requires-2
-    mul-stored-holds
-    sub-stored-holds
-    part-stored-holds-start
-    part-stored-holds-end
+    clause-requires
     stored-holds-requires
     returns
-    mul-from
-    add-to
-    mul-clause-at
-    sub-clause-at
-    part-clause-at-start
-    part-clause-at-end
+    row-requires
     clause-at-requires
     array-share-prefix-codes
     slice-aggregate-codes-hold

@@ -8,14 +8,14 @@ use Rattle.packed.specs.Order.{valueOf}
 use Rattle.store.proofs.FormLaws.{literal-low, literal-high}
 use Rattle.lexleader.specs.Models.{literalValue}
 use Rattle.lexleader.specs.Clause.{pairAt}
-use Rattle.checking.specs.Six.{Within, ordered}
+use Rattle.checking.specs.SixClauses.{PairWithin, ordered}
 use borrow.Author.Needs.{needs}
 use Rattle.checking.proofs.is_ordered.Statement.{statement}
 use Rattle.checking.proofs.is_ordered.Tie as tie
 
 -- the value of the variable
 own : (c : tie.After-literal-value) (n : ℕ) → let a = c .before .before .before .before .before .before .args in
-    Within n (pairAt (a .row .now) (a .i)) → c .literal-value .result ≡ literalValue (valueOf (bitsOf n (a .a .now))) (2 * (a .i + 1))
+    PairWithin n (pairAt (a .row .now) (a .i)) → c .literal-value .result ≡ literalValue (valueOf (bitsOf n (a .a .now))) (2 * (a .i + 1))
 own c n within =
     let o = c .before .before .before in
     c .literal-value .ensures n (omega (arith, literal-high _ _ (within .x))) ∙ ap (literalValue (valueOf (bitsOf n (o .before .before .before .args .a .now)))) (o .own-code .ensures)

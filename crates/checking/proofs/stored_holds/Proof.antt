@@ -1,24 +1,16 @@
 -- `checking::stored_holds` meets its contract. The invariant: the clause holds exactly when one of the literals from i on is true. Assumes nothing.
-use mathlib.Core.Path.{_≡_, refl, sym, _∙_}
-use mathlib.Core.Bool.{true}
-use Prim.Native.Nat.{ℕ, _-_, _*_}
+use mathlib.Core.Path.{refl}
+use Prim.Native.Nat.{_-_}
 use native.Mathlib.Omega.{arith}
-use lib.ListN.{length, drop}
-use Rattle.lists.specs.Tests.{anyOf, allOf}
-use Rattle.lists.proofs.Members.{all-at}
-use Rattle.lists.proofs.Steps.{any-drop-hit, any-drop-miss, any-drop-end}
-use Rattle.packed.specs.Words.{bitsOf}
-use Rattle.packed.specs.Order.{valueOf}
-use Rattle.store.specs.Literals.{isLiteral}
-use Rattle.store.proofs.FormLaws.{literal-low, literal-high}
-use Rattle.lexleader.specs.Models.{literalValue, clauseHolds}
+use lib.ListN.{length}
+use Rattle.lexleader.specs.Models.{clauseHolds}
+use Rattle.checking.proofs.ClauseLaws.{Tried, variable-within, tried-true, tried-false, tried-all}
 use borrow.Author.Needs.{needs}
 use Rattle.checking.proofs.stored_holds.Statement.{statement}
 use Rattle.checking.proofs.stored_holds.Tie as tie
 
 abbrev Inv-loop : tie.InvT-loop
-Inv-loop clause a i₀ i =
-    (n : ℕ) → allOf (isLiteral n) clause ≡ true → clauseHolds (valueOf (bitsOf n a)) clause ≡ anyOf (literalValue (valueOf (bitsOf n a))) (drop i clause)
+Inv-loop clause a i₀ i = Tried a clause i
 
 abbrev μ-loop : tie.MeasureT-loop
 μ-loop clause a i₀ i = length clause - i
@@ -40,15 +32,13 @@ literal-value-requires : tie.Need-literal-value-requires Inv-loop μ-loop
 literal-value-requires c κs =
     let l = c .before .before in
     let s = l .before .before .before in
-    let e = all-at (isLiteral (64 * length (s .args .a .now))) (s .args .clause .now) 0 (s .pre) (l .loop .i) (omega arith) in
-    (literal-low _ _ e, literal-high _ _ e)
+    variable-within (s .args .a .now) (s .args .clause .now) (l .loop .i) (l .loop .inv) (omega arith) _ (s .pre)
 
 returns : tie.Need-returns Inv-loop μ-loop
 returns c =
-    let t = c .before in
-    let l = t .before .before .before in
+    let l = c .before .before .before .before in
     let a = l .before .before .before .args in
-    λ n within. sym (l .loop .inv n within ∙ any-drop-hit (literalValue (valueOf (bitsOf n (a .a .now)))) (a .clause .now) (l .loop .i) 0 (search needs) (sym (t .literal-value .ensures n (literal-high _ _ (all-at (isLiteral n) (a .clause .now) 0 within (l .loop .i) (search needs)))) ∙ c .if1 .taken))
+    tried-true (a .a .now) (a .clause .now) (l .loop .i) (l .loop .inv) (search needs) _ (c .before .literal-value .ensures) (c .if1 .taken)
 
 add-i : tie.Need-add-i Inv-loop μ-loop
 add-i c = omega arith
@@ -58,16 +48,12 @@ loop-less c = omega arith
 
 loop-again : tie.Need-loop-again Inv-loop μ-loop
 loop-again c =
-    let t = c .before in
-    let l = t .before .before .before in
+    let l = c .before .before .before .before in
     let a = l .before .before .before .args in
-    λ n within. l .loop .inv n within ∙ any-drop-miss (literalValue (valueOf (bitsOf n (a .a .now)))) (a .clause .now) (l .loop .i) 0 (search needs) (sym (t .literal-value .ensures n (literal-high _ _ (all-at (isLiteral n) (a .clause .now) 0 within (l .loop .i) (search needs)))) ∙ c .if1 .left)
+    tried-false (a .a .now) (a .clause .now) (l .loop .i) (l .loop .inv) (search needs) _ (c .before .literal-value .ensures) (c .if1 .left)
 
 returns-2 : tie.Need-returns-2 Inv-loop μ-loop
-returns-2 c =
-    let l = c .before in
-    let a = l .before .before .before .args in
-    λ n within. sym (l .loop .inv n within ∙ any-drop-end (literalValue (valueOf (bitsOf n (a .a .now)))) (a .clause .now) (l .loop .i) (omega arith))
+returns-2 c = let l = c .before in let a = l .before .before .before .args in tried-all (a .a .now) (a .clause .now) (l .loop .i) (l .loop .inv) (omega arith)
 
 pub stored-holds-spec : {M : Type 1} → statement M
 stored-holds-spec =

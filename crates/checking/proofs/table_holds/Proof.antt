@@ -1,42 +1,42 @@
 -- `checking::table_holds` meets its contract: each answer is what the six clauses say, by `six-say`. Assumes nothing.
 use mathlib.Core.Path.{_≡_, sym, ap₂, _∙_}
-use mathlib.Core.Bool.{Bool, true, not, cond, _&&_, _||_}
+use mathlib.Core.Bool.{Bool, not, cond, _&&_, _||_}
 use Prim.Native.Nat.{ℕ}
 use native.Mathlib.Omega.{arith}
 use borrow.Author.Tests.{eq-eqb, ne-eqb, not-true, not-false}
 use lib.Dec.{eqb}
-use Rattle.lists.specs.Tests.{allOf}
 use Rattle.packed.specs.Words.{bitsOf}
 use Rattle.packed.specs.Order.{valueOf}
-use Rattle.store.specs.Literals.{isLiteral}
 use Rattle.store.proofs.FormLaws.{literal-low, literal-high}
 use Rattle.lexleader.specs.Models.{formulaHolds}
 use Rattle.lexleader.specs.Clause.{pairAt}
 use Rattle.lexleader.specs.Places.{sixAt}
-use Rattle.checking.specs.Six.{ordered}
+use Rattle.lexleader.proofs.PlaceLaws.{few-auxiliaries}
+use Rattle.checking.specs.SixClauses.{LiteralsWithin, ordered}
 use Rattle.checking.proofs.SixLaws.{six-say, own-within, pair-within, next-within}
-use borrow.Author.Needs.{needs}
 use Rattle.checking.proofs.table_holds.Statement.{statement}
 use Rattle.checking.proofs.table_holds.Tie as tie
 
-is-due-requires : tie.Need-is-due-requires
-is-due-requires c κs = let s = c .before .before in (s .pre .0, s .pre .1, s .pre .3, s .pre .4)
+auxiliary-due-requires : tie.Need-auxiliary-due-requires
+auxiliary-due-requires c κs = let s = c .before .before in (s .pre .0, s .pre .2)
 
 mul-literal-value : tie.Need-mul-literal-value
-mul-literal-value c = search needs
+mul-literal-value c =
+    let s = c .before .before .before .before in
+    omega (arith, few-auxiliaries (s .args .row .now) (s .args .place) (s .pre .0 .stands))
 
 literal-value-requires : tie.Need-literal-value-requires
 literal-value-requires c κs =
     let s = c .before .before .before .before in
-    let e = own-within _ (s .args .row .now) (s .args .place) (s .pre .4) in
+    let e = own-within _ (s .args .row .now) (s .args .place) (s .pre .2) in
     (literal-low _ _ e, literal-high _ _ e)
 
 -- what the clauses say, by the values that were read
 says : (c : tie.After-literal-value) (n : ℕ) → let a = c .before .before .before .before .before .args in let v = valueOf (bitsOf n (a .a .now)) in
-    allOf (allOf (isLiteral n)) (sixAt (a .row .now) (a .place)) ≡ true
+    LiteralsWithin n (sixAt (a .row .now) (a .place))
     → formulaHolds v (sixAt (a .row .now) (a .place))
-    ≡ cond (c .literal-value .result) (c .before .before .is-due .result && ordered v (pairAt (a .row .now) (a .place .next)))
-    (not (c .before .before .is-due .result) && (not (eqb (a .place .j) 1) || ordered v (pairAt (a .row .now) (a .place .index))))
+    ≡ cond (c .literal-value .result) (c .before .before .auxiliary-due .result && ordered v (pairAt (a .row .now) (a .place .next)))
+    (not (c .before .before .auxiliary-due .result) && (not (eqb (a .place .j) 1) || ordered v (pairAt (a .row .now) (a .place .index))))
 says c n within =
     let d = c .before .before in
     let a = d .before .before .before .args in
@@ -44,19 +44,19 @@ says c n within =
     let row = a .row .now in
     let p = a .place in
     six-say v row p
-    ∙ ap₂ (λ (e due : Bool). cond e (due && ordered v (pairAt row (p .next))) (not due && (not (eqb (p .j) 1) || ordered v (pairAt row (p .index)))))
+    ∙ ap₂ (λ (e auxiliaryDue : Bool). cond e (auxiliaryDue && ordered v (pairAt row (p .next))) (not auxiliaryDue && (not (eqb (p .j) 1) || ordered v (pairAt row (p .index)))))
     (sym (c .literal-value .ensures n (literal-high _ _ (own-within n row p within))))
-    (sym (d .is-due .ensures n within))
+    (sym (d .auxiliary-due .ensures n within))
 
 returns : tie.Need-returns
 returns c n within =
     let i = c .before in
-    sym (says (i .before) n within ∙ rw (i .if1 .taken, not-true (i .before .before .before .is-due .result) (c .if2 .taken)))
+    sym (says (i .before) n within ∙ rw (i .if1 .taken, not-true (i .before .before .before .auxiliary-due .result) (c .if2 .taken)))
 
 is-ordered-requires : tie.Need-is-ordered-requires
 is-ordered-requires c κs =
     let s = c .before .before .before .before .before .before .before in
-    (s .pre .2, omega (arith, s .pre .0, s .pre .2), next-within _ (s .args .row .now) (s .args .place) (s .pre .4))
+    (s .pre .1, omega (arith, s .pre .0 .small, s .pre .1), next-within _ (s .args .row .now) (s .args .place) (s .pre .2))
 
 returns-2 : tie.Need-returns-2
 returns-2 c n within =
@@ -64,7 +64,7 @@ returns-2 c n within =
     let l = i .before in
     let a = l .before .before .before .before .before .args in
     c .is-ordered .ensures n (next-within n (a .row .now) (a .place) within)
-    ∙ sym (says l n within ∙ rw (i .if1 .taken, not-false (l .before .before .is-due .result) (c .before .if2 .left)))
+    ∙ sym (says l n within ∙ rw (i .if1 .taken, not-false (l .before .before .auxiliary-due .result) (c .before .if2 .left)))
 
 returns-3 : tie.Need-returns-3
 returns-3 c n within =
@@ -74,7 +74,7 @@ returns-3 c n within =
 is-ordered-requires-2 : tie.Need-is-ordered-requires-2
 is-ordered-requires-2 c κs =
     let s = c .before .before .before .before .before .before .before .before .before in
-    (s .pre .1, omega (arith, s .pre .0, s .pre .1), pair-within _ (s .args .row .now) (s .args .place) (s .pre .4))
+    (s .pre .0 .inside, omega (arith, s .pre .0 .small, s .pre .0 .inside), pair-within _ (s .args .row .now) (s .args .place) (s .pre .2))
 
 returns-4 : tie.Need-returns-4
 returns-4 c n within =
@@ -95,7 +95,7 @@ pub table-holds-spec : {M : Type 1} → statement M
 table-holds-spec =
     tie.close
     (tie.spec
-    is-due-requires
+    auxiliary-due-requires
     mul-literal-value
     literal-value-requires
     returns

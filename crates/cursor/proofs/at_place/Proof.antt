@@ -1,33 +1,55 @@
 -- `cursor::at_place` meets its contract: the place itself, or past the row's last clause the first one of a later row. Assumes nothing.
-use mathlib.Core.Path.{refl, sym, _∙_}
+use mathlib.Core.Path.{_≡_, refl, sym, ap, _∙_}
+use mathlib.Core.List.{List, _++_}
+use Prim.Native.Nat.{ℕ, _+_, _≤_}
 use native.Mathlib.Omega.{arith}
-use Rattle.cursor.proofs.RowLaws.{place-points, place-past, place-few}
-use borrow.Author.Needs.{needs}
+use Rattle.lexleader.specs.Bounds.{maxBefore}
+use Rattle.lexleader.specs.Places.{auxiliaryAfter, PlaceAfter}
+use Rattle.cursor.specs.Cursors.{addedFrom, rowOf}
+use Rattle.cursor.proofs.RowLaws.{place-past, place-few, after-here}
+use Rattle.cursor.proofs.CursorLaws.{past-added}
 use Rattle.cursor.proofs.at_place.Statement.{statement}
 use Rattle.cursor.proofs.at_place.Tie as tie
 
+-- the auxiliaries of the rows up to the cursor's own are few
+low : (c : tie.Start) → auxiliaryAfter (rowOf (c .args .counts) (c .args .images .now) (c .args .cursor)) (c .args .place) ≤ maxBefore (c .args .cursor .row + 1) + 1
+low c = omega (arith, c .pre .3, c .pre .0 .few (c .pre .1 .row))
+
+-- what is left past clauses that lead to the place
+next : (c : tie.Start) (clauses : List (List ℕ)) → let a = c .args in
+    PlaceAfter (rowOf (a .counts) (a .images .now) (a .cursor)) (a .cursor .place) clauses (a .place)
+    → addedFrom (a .counts) (a .images .now) (a .cursor .row) (a .cursor .place) ≡ clauses ++ addedFrom (a .counts) (a .images .now) (a .cursor .row) (a .place)
+next c clauses z = let a = c .args in after-here (a .counts) (a .images .now) (a .cursor .row) (c .pre .0 .rows) (c .pre .1 .row) clauses (a .cursor .place) (a .place) z
+
 returns : tie.Need-returns
-returns c =
+returns c clauses z =
     let s = c .before .before .before .before in
     let a = s .args in
-    ((place-points (a .counts) (a .images .now) (a .cursor .row) (s .pre .4) (a .place) (s .pre .3) (s .pre .5) (c .if1 .taken) (s .pre .6), refl), refl)
+    let p = s .pre .0 in
+    record {
+      points = record { rows = p .rows; plain = p .plain; row = p .row; place = λ _. s .pre .2; there = λ _. c .if1 .taken; few = λ _. low s };
+      left = past-added (a .counts) (a .images .now) (a .cursor) _ (s .pre .1 .past) refl clauses (next s clauses z);
+    }
 
 add-row-from : tie.Need-add-row-from
-add-row-from c = search needs
+add-row-from c = let s = c .before .before .before .before .before in omega (arith, s .pre .1 .row, s .pre .0 .rows .few)
 
 row-from-requires : tie.Need-row-from-requires
 row-from-requires c κs =
     let s = c .before .before .before .before .before in
     let a = s .args in
-    let low = place-few (a .counts) (a .images .now) (a .cursor .row) (s .pre .4) (a .place) (s .pre .2) (c .before .if1 .left) (s .pre .6) in
-    (s .pre .0, s .pre .1, s .pre .2, s .pre .3, omega (arith, s .pre .4), low)
+    let few = place-few (a .counts) (a .images .now) (a .cursor .row) (s .pre .0 .rows) (s .pre .1 .row) (a .place) (c .before .if1 .left) (low s) in
+    (s .pre .0 .rows, s .pre .0 .plain, omega (arith, s .pre .1 .row), few)
 
 returns-2 : tie.Need-returns-2
-returns-2 c =
+returns-2 c clauses z =
     let i = c .before .before in
     let s = i .before .before .before .before in
     let a = s .args in
-    (c .row-from .ensures .0, place-past (a .counts) (a .images .now) (a .cursor .row) (s .pre .4) (a .place) (s .pre .2) (i .if1 .left) ∙ sym (c .row-from .ensures .1))
+    let r = c .row-from .ensures in
+    let on = place-past (a .counts) (a .images .now) (a .cursor .row) (s .pre .0 .rows) (s .pre .1 .row) (a .place) (i .if1 .left) ∙ sym (r .1) in
+    let left = next s clauses z ∙ ap (λ (l : List (List ℕ)). clauses ++ l) on in
+    record { points = r .0 .0; left = past-added (a .counts) (a .images .now) (a .cursor) (c .row-from .result) (s .pre .1 .past) (r .0 .1) clauses left }
 
 pub at-place-spec : {M : Type 1} → statement M
 at-place-spec = tie.close (tie.spec returns add-row-from row-from-requires returns-2)

@@ -1,33 +1,32 @@
--- `cursor::start` meets its contract: no plain clause is written yet, and the rows' clauses begin with the first row. Assumes nothing.
+-- `cursor::start` meets its contract: no plain clause is passed yet, and the rows' clauses begin with the first row. Assumes nothing.
+use mathlib.Core.Path.{ap, ap₂, _∙_}
+use mathlib.Core.List.{List, _++_}
+use Prim.Native.Nat.{ℕ, _+_}
 use native.Mathlib.Omega.{arith}
-use Rattle.store.specs.Stores.{Store, lent}
-use Rattle.store.proofs.Formed.{Formed, formed}
-use Rattle.cursor.proofs.CursorLaws.{begins}
+use lib.ListN.{drop}
+use Rattle.store.proofs.RowLaws.{from-first}
+use Rattle.lexleader.specs.Made.{made, rowsClauses}
+use Rattle.cursor.specs.Cursors.{leftOf}
 use Rattle.cursor.proofs.start.Statement.{statement}
 use Rattle.cursor.proofs.start.Tie as tie
 
-abbrev S : tie.Start → Store
-S c = lent (c .args .counts) (c .args .literals .now) (c .args .ends .now) (c .args .images .now)
-
-facts : (c : tie.Start) → Formed (S c)
-facts c = formed (S c) (c .pre)
-
 cast-row-from : tie.Need-cast-row-from
-cast-row-from c = omega (arith, facts (c .before .before .before .before) .variables-fit)
+cast-row-from c = omega (arith, c .before .before .pre .small)
 
 add-row-from : tie.Need-add-row-from
-add-row-from c = omega (arith, facts (c .before .before .before .before) .variables-fit)
+add-row-from c = omega (arith, c .before .before .pre .small)
 
 row-from-requires : tie.Need-row-from-requires
-row-from-requires c κs =
-    let f = facts (c .before .before .before .before) in
-    (f .variables-fit, f .rows-fit, f .images-long, omega arith, omega arith, omega (arith, f .variables-fit))
+row-from-requires c κs = let f = c .before .before .pre in (f, omega arith, omega arith, omega (arith, f .small))
 
 returns : tie.Need-returns
+unfolding leftOf made
 returns c =
-    let s = S (c .before .before .before .before .before) in
+    let a = c .before .before .before .args in
+    let n = a .counts .variables in
     let r = c .row-from .ensures in
-    (r .0 .0, begins s _ (r .0 .1) (r .1))
+    let all = r .1 ∙ ap (rowsClauses (n + 1)) (from-first n (a .counts .rows) (a .images .now)) in
+    (r .0 .0, λ plain. ap₂ (λ (k : ℕ) (l : List (List ℕ)). drop k plain ++ l) (r .0 .1) all)
 
 pub start-spec : {M : Type 1} → statement M
 start-spec = tie.close (tie.spec cast-row-from add-row-from row-from-requires returns)

@@ -8,7 +8,7 @@ use lib.Seq.{length-take-le}
 use Rattle.store.specs.Stores.{Store, lent}
 use Rattle.store.proofs.Formed.{Formed, formed}
 use Rattle.store.proofs.RowLaws.{part-is, row-room, row-size}
-use Rattle.lexleader.specs.Clause.{Holds}
+use Rattle.lexleader.specs.Clause.{ClauseIs}
 use Rattle.lexleader.specs.Places.{clausesAt}
 use Rattle.render.specs.Text.{clauseLine, writtenAt}
 use Rattle.cursor.specs.Cursors.{rowAt}
@@ -25,19 +25,19 @@ S c = lent (c .args .counts) (c .args .literals .now) (c .args .ends .now) (c .a
 facts : (c : tie.Start) → Formed (S c)
 facts c = formed (S c) (c .pre .0)
 
--- there is row-room for the cursor's row
+-- there is room for the cursor's row
 fits : (c : tie.Start) → c .args .cursor .row * c .args .counts .variables + c .args .counts .variables ≤ length (c .args .images .now)
 fits c = row-room (c .args .counts .variables) (c .args .counts .rows) (c .args .images .now) (facts c .images-long) (c .args .cursor .row) (c .pre .4)
 
 -- the clause at the cursor's place
 holds : (c : tie.After-clause-at) → let a = c .before .before .before .before .before .before .before .before .before .before .args in
-    Holds (c .clause-at .result) (getD (clausesAt (rowAt (a .counts) (a .images .now) (a .cursor .row)) (a .cursor .place)) 0 [])
+    ClauseIs (c .clause-at .result) (getD (clausesAt (rowAt (a .counts) (a .images .now) (a .cursor .row)) (a .cursor .place)) 0 [])
 holds c =
     let a = c .before .before .before .before .before .before .before .before .before .before .args in
-    row-part (a .counts) (a .images .now) (λ (row : List ℕ). Holds (c .clause-at .result) (getD (clausesAt row (a .cursor .place)) 0 [])) (a .cursor .row) (c .clause-at .ensures)
+    row-part (a .counts) (a .images .now) (λ (row : List ℕ). ClauseIs (c .clause-at .result) (getD (clausesAt row (a .cursor .place)) 0 [])) (a .cursor .row) (c .clause-at .ensures)
 
 size : (c : tie.After-clause-at) → length (take (c .clause-at .result .count) (c .clause-at .result .literals)) ≡ c .clause-at .result .count
-size c = let h = c .clause-at .ensures in length-take-le _ _ (omega (arith, h .few, h .row-room))
+size c = let h = c .clause-at .ensures in length-take-le _ _ (omega (arith, h .few, h .room))
 
 mul-from : tie.Need-mul-from
 mul-from c = omega (arith, fits (c .before .before .before .before .before .before))
@@ -69,7 +69,7 @@ next-added-requires : tie.Need-next-added-requires
 next-added-requires c κs = let s = c .before .before .before .before .before .before .before .before .before .before in let f = facts s in (f .variables-fit, f .rows-fit, f .images-long, s .pre .1, s .pre .4)
 
 array-share-prefix-codes : tie.Need-array-share-prefix-codes
-array-share-prefix-codes c = let h = c .before .before .clause-at .ensures in omega (arith, h .few, h .row-room)
+array-share-prefix-codes c = let h = c .before .before .clause-at .ensures in omega (arith, h .few, h .room)
 
 slice-aggregate-clause-length : tie.Need-slice-aggregate-clause-length
 slice-aggregate-clause-length c = sym (size (c .before .before .before))
@@ -91,7 +91,7 @@ returns c =
     (added-short _ (omega (arith, ap length (holds k .are), size k, holds k .few))) (omega (arith, line, n .clause-length .ensures, c .if1 .taken))
 
 array-share-prefix-codes-2 : tie.Need-array-share-prefix-codes-2
-array-share-prefix-codes-2 c = let h = c .before .before .before .before .before .before .clause-at .ensures in omega (arith, h .few, h .row-room)
+array-share-prefix-codes-2 c = let h = c .before .before .before .before .before .before .clause-at .ensures in omega (arith, h .few, h .room)
 
 slice-aggregate-put-clause : tie.Need-slice-aggregate-put-clause
 slice-aggregate-put-clause c = sym (size (c .before .before .before .before .before .before .before))

@@ -1,0 +1,82 @@
+-- `lexleader::numbered::row_clause` meets its contract: the place of the clause's number has the clause. Assumes nothing.
+use mathlib.Core.Path.{_≡_, refl, ap, _∙_}
+use Prim.Native.Nat.{ℕ, _+_, _-_, _/_, _≤_}
+use native.Mathlib.Omega.{arith}
+use lib.ListN.{length, drop}
+use Rattle.store.specs.Stores.{maxVariables}
+use Rattle.lexleader.specs.Rows.{pairsOf}
+use Rattle.lexleader.specs.Clause.{pairsAt}
+use Rattle.lexleader.proofs.Walk.{pairs-length}
+use Rattle.lexleader.proofs.Numbers.{row-most}
+use Rattle.lexleader.proofs.TableLaws.{clause-same}
+use Rattle.lexleader.proofs.PlaceLaws.{numbered, number-stands}
+use borrow.Author.Needs.{needs}
+use Rattle.lexleader.proofs.numbered.row_clause.Statement.{statement}
+use Rattle.lexleader.proofs.numbered.row_clause.Tie as tie
+
+-- the clause's auxiliary is one of the row's
+number : (c : tie.Start) → (c .args .q / 6 + 1 ≤ length (pairsOf (c .args .row .now))) × (c .args .q / 6 + 1 ≤ maxVariables)
+number c =
+    let row = c .args .row .now in
+    (omega (arith, row-most (c .args .e) row), omega (arith, row-most (c .args .e) row, pairs-length row))
+
+add-moved-at : tie.Need-add-moved-at
+add-moved-at c = search needs
+
+moved-at-requires : tie.Need-moved-at-requires
+moved-at-requires c κs = let s = c .before in (s .pre .0, omega arith, number s .0)
+
+add-next-moved : tie.Need-add-next-moved
+add-next-moved c = search needs
+
+next-moved-requires : tie.Need-next-moved-requires
+next-moved-requires c κs = search needs
+
+cast-t9 : tie.Need-cast-t9
+cast-t9 c = omega (arith, number (c .before .before .before) .1)
+
+add-t10 : tie.Need-add-t10
+add-t10 c = omega (arith, number (c .before .before .before) .1)
+
+add-t8 : tie.Need-add-t8
+add-t8 c = omega (arith, number (c .before .before .before) .1)
+
+add-t12 : tie.Need-add-t12
+add-t12 c = search needs
+
+clause-at-requires : tie.Need-clause-at-requires
+clause-at-requires c κs =
+    let m = c .before in
+    let s = m .before .before in
+    let row = s .args .row .now in
+    let found = m .moved-at .ensures in
+    let same : drop (s .args .q / 6) (pairsOf row) ≡ pairsAt (m .moved-at .result) row = ap (λ (k : ℕ). drop k (pairsOf row)) {x = s .args .q / 6} {y = s .args .q / 6 + 1 - 1} (omega arith) ∙ found .1 in
+    record {
+      small = s .pre .0;
+      stands = number-stands row (s .args .e) (s .args .q) (m .moved-at .result) _ refl (omega (arith, number s .0)) same (s .pre .2) (found .0) (found .2) (c .next-moved .ensures) (s .pre .1);
+      inside = found .0;
+    }
+
+returns : tie.Need-returns
+returns c =
+    let m = c .before .before in
+    let s = m .before .before in
+    let row = s .args .row .now in
+    let found = m .moved-at .ensures in
+    let same : drop (s .args .q / 6) (pairsOf row) ≡ pairsAt (m .moved-at .result) row = ap (λ (k : ℕ). drop k (pairsOf row)) {x = s .args .q / 6} {y = s .args .q / 6 + 1 - 1} (omega arith) ∙ found .1 in
+    clause-same (c .clause-at .ensures) (numbered row (s .args .e) (s .args .q) (m .moved-at .result) _ refl (omega (arith, number s .0)) same)
+
+pub row-clause-spec : {M : Type 1} → statement M
+row-clause-spec =
+    tie.close
+    (tie.spec
+    add-moved-at
+    moved-at-requires
+    add-next-moved
+    next-moved-requires
+    cast-t9
+    add-t10
+    add-t8
+    add-t12
+    clause-at-requires
+    returns)

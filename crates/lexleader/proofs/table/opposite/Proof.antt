@@ -1,0 +1,20 @@
+-- `lexleader::table::opposite` meets its contract. Assumes nothing.
+use borrow.Author.Tests.{eq-eqb, ne-eqb}
+use borrow.Author.Needs.{needs}
+use Rattle.lexleader.proofs.table.opposite.Statement.{statement}
+use Rattle.lexleader.proofs.table.opposite.Tie as tie
+
+sub-result : tie.Need-sub-result
+sub-result c = search needs
+
+returns : tie.Need-returns
+returns c = rw (eq-eqb _ _ (c .if1 .taken))
+
+add-result : tie.Need-add-result
+add-result c = search needs
+
+returns-2 : tie.Need-returns-2
+returns-2 c = rw (ne-eqb _ _ (c .if1 .left))
+
+pub opposite-spec : {M : Type 1} → statement M
+opposite-spec = tie.close (tie.spec sub-result returns add-result returns-2)

@@ -141,5 +141,5 @@ module _ {n rows : ℕ} {images : List ℕ} (f : FormedRows n rows images) (k : 
   unfolding wordCount madeVariables
   made-room = omega arith
 
-  pub made-few : n + allAuxiliaries (rowsOf n rows images) ≤ 64 * maxWords
-  made-few = omega (arith, all-auxiliaries-most n rows images (f .small), f .few, f .small)
+  pub made-bounded : n + allAuxiliaries (rowsOf n rows images) ≤ 64 * maxWords
+  made-bounded = omega (arith, all-auxiliaries-most n rows images (f .small), f .few, f .small)

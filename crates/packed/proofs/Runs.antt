@@ -46,7 +46,7 @@ module _ {w : Writer} {out : List ℕ} {all : List Bool} {v : Writer} {after : L
           old = room .old;
           holds = ran;
           fits = omega (arith, room .fits, run-size);
-          few = omega (arith, room .few);
+          bounded = omega (arith, room .bounded);
         }
 
 -- the last of them

@@ -143,16 +143,16 @@ holds-none out = record { count = refl; begun = refl; size = refl; whole = λ i 
 
 pub room-for : {values : List Bool} {w : Writer} {old out : List ℕ} → WriterHolds values w old out → (more : ℕ)
     → length values + more ≤ 64 * length old → length values + more ≤ 64 * maxWords → WriterRoom w more out
-room-for {values} {old = old} h more fits few = record {
+room-for {values} {old = old} h more fits bounded = record {
   values = values;
   old = old;
   holds = h;
   fits = omega (arith, h .count, h .size);
-  few = omega (arith, h .count);
+  bounded = omega (arith, h .count);
 }
 
 pub less-room : {w : Writer} {more : ℕ} {out : List ℕ} → WriterRoom w more out → (k : ℕ) → k ≤ more → WriterRoom w k out
-less-room r k h = record { values = r .values; old = r .old; holds = r .holds; fits = omega (arith, r .fits); few = omega (arith, r .few) }
+less-room r k h = record { values = r .values; old = r .old; holds = r .holds; fits = omega (arith, r .fits); bounded = omega (arith, r .bounded) }
 
 module _ {values : List Bool} {w : Writer} {old out : List ℕ} (h : WriterHolds values w old out) (room : w .taken ≤ 64 * length out) where
   pub finished-whole : w .taken % 64 ≡ 0 → out ≡ wordsOf values ++ drop (wordCount (length values)) old

@@ -21,7 +21,7 @@ pub record WriterRoom (w : Writer) (more : ℕ) (out : List ℕ) : Type 0 where
   pub old : List ℕ
   pub holds : WriterHolds values w old out
   pub fits : w .taken + more ≤ 64 * length out
-  pub few : w .taken + more ≤ 64 * maxWords
+  pub bounded : w .taken + more ≤ 64 * maxWords
 
 -- from a writer and its buffer to another: behind whatever values the first holds, the second holds more
 abbrev pub Appends : Writer → List Bool → List ℕ → Writer → List ℕ → Type 0

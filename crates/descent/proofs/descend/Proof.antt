@@ -7,9 +7,9 @@ use lib.ListN.{length}
 use Rattle.packed.specs.Words.{bitsOf, wordCount}
 use Rattle.packed.proofs.Form.{form-count, form-room}
 use Rattle.store.specs.Stores.{rowsOf, rowAt}
+use Rattle.store.proofs.RowParts.{part-room, part-size, part-row}
 use Rattle.lexleader.specs.Rows.{moved}
 use Rattle.valuation.specs.Tables.{maxTable, bitsIn}
-use Rattle.valuation.proofs.RowLaws.{part-room, part-size, part-row}
 use Rattle.descent.proofs.DescentLaws.{Reached, reached-none, reached-more, ends-settled, ends-spent}
 use Rattle.descent.proofs.descend.Statement.{statement}
 use Rattle.descent.proofs.descend.Tie as tie

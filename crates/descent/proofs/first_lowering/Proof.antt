@@ -3,10 +3,10 @@ use mathlib.Core.Path.{_≡_, sym, _∙_}
 use Prim.Native.Nat.{_-_, _≤_}
 use native.Mathlib.Omega.{arith}
 use Rattle.store.specs.Stores.{rowsOf, rowsFrom, rowAt}
+use Rattle.store.proofs.RowParts.{part-room, part-size, part-row}
 use Rattle.lexleader.specs.Rows.{lowers}
 use Rattle.lexleader.specs.Descent.{stepBy}
 use Rattle.valuation.specs.Tables.{bitsIn}
-use Rattle.valuation.proofs.RowLaws.{part-room, part-size, part-row}
 use Rattle.descent.proofs.DescentLaws.{step-all, step-here, step-on, step-end}
 use Rattle.descent.proofs.first_lowering.Statement.{statement}
 use Rattle.descent.proofs.first_lowering.Tie as tie

@@ -13,7 +13,7 @@ use Rattle.store.specs.Stores.{rowsOf}
 use Rattle.lexleader.specs.Made.{allAuxiliaries, filledIn, madeVariables}
 use Rattle.valuation.proofs.TableLaws.{length-in}
 use Rattle.filling.specs.Written.{filledWords}
-use Rattle.filling.proofs.Runs.{length-filled, filled-holds, plain-room, made-room, made-few}
+use Rattle.filling.proofs.Runs.{length-filled, filled-holds, plain-room, made-room, made-bounded}
 use Rattle.filling.proofs.fill.Statement.{statement}
 use Rattle.filling.proofs.fill.Tie as tie
 
@@ -62,7 +62,7 @@ fill-rows-requires c κs =
     let size = length-in (s .args .n) (t .tabulate .last .1 .1 .0) in (
       s .pre .0,
       t .tabulate .ensures .0,
-      room-for (w .write .ensures) (allAuxiliaries (held s)) (omega (arith, size, made-room (s .pre .0) _ (s .pre .2))) (omega (arith, size, made-few (s .pre .0) _ (s .pre .2))),
+      room-for (w .write .ensures) (allAuxiliaries (held s)) (omega (arith, size, made-room (s .pre .0) _ (s .pre .2))) (omega (arith, size, made-bounded (s .pre .0) _ (s .pre .2))),
     )
 
 finish-requires : tie.Need-finish-requires
@@ -71,7 +71,7 @@ finish-requires c κs =
     let r = c .before .before .before in
     let s = r .before .before .before .before .before .before .before .before .before .before .before .before .before .before in
     let size = length-filled (s .args .n) (held s) (s .args .a .now) in
-    room-for (holds r) 0 (omega (arith, size, made-room (s .pre .0) _ (s .pre .2))) (omega (arith, size, made-few (s .pre .0) _ (s .pre .2)))
+    room-for (holds r) 0 (omega (arith, size, made-room (s .pre .0) _ (s .pre .2))) (omega (arith, size, made-bounded (s .pre .0) _ (s .pre .2)))
 
 same-length : tie.Need-same-length
 same-length c = search needs

@@ -6,10 +6,10 @@ use lib.ListN.{length-append}
 use Rattle.packed.proofs.Runs.{WriterRun, run-start, run-more, run-end, run-size, run-room}
 use Rattle.store.specs.Stores.{rowsOf, rowsFrom, rowAt}
 use Rattle.store.proofs.RowLaws.{from-first}
+use Rattle.store.proofs.RowParts.{part-room, part-size, part-row}
 use Rattle.lexleader.specs.Made.{auxiliaries, rowSettings, settings}
 use Rattle.lexleader.proofs.Settings.{length-row, length-settings}
 use Rattle.valuation.specs.Tables.{bitsIn}
-use Rattle.valuation.proofs.RowLaws.{part-room, part-size, part-row}
 use Rattle.filling.proofs.Runs.{over-end, over-more}
 use Rattle.filling.proofs.fill_rows.Statement.{statement}
 use Rattle.filling.proofs.fill_rows.Tie as tie

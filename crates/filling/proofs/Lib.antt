@@ -1,4 +1,3 @@
-pub mod Writing
 pub mod Values
 pub mod Runs
 pub mod Examples

@@ -1,8 +1,8 @@
--- A loop that appends values: those taken and those left make up all of them. What is left along a row and over the rows, and what all of it comes to.
+-- The settings of a row's auxiliaries as two runs, how far its variables agree with their images, and what the settings of all rows come to.
 -- Assumes nothing.
 use mathlib.Core.Path.{_≡_, refl, sym, ap, _∙_}
 use mathlib.Core.Bool.{Bool, true, false, not, cond, Bool·beq}
-use mathlib.Core.List.{List, [], _∷_, _++_, append-nil, append-assoc}
+use mathlib.Core.List.{List, [], _∷_, _++_}
 use Prim.Native.Nat.{ℕ, suc, _+_, _-_, _*_, _≤_, _<_}
 use native.Mathlib.Omega.{arith}
 use borrow.Author.Tests.{eqb-true, eqb-false}
@@ -10,10 +10,12 @@ use mir.Val.{boolByte}
 use lib.ListN.{length, getD, replicate, length-append}
 use lib.Dec.{eqb}
 use Rattle.lists.proofs.Cases.{never}
-use Rattle.packed.specs.Words.{bitsOf, wordCount}
+use Rattle.packed.specs.Words.{maxWords, bitsOf, wordCount}
 use Rattle.packed.specs.Order.{valueOf}
+use Rattle.packed.specs.Writing.{WriterHolds, Appends}
+use Rattle.packed.specs.declared.writer.Writer.{Writer}
 use Rattle.packed.proofs.Bits.{length-bits}
-use Rattle.store.specs.Stores.{rowsOf, rowsFrom, rowAt}
+use Rattle.store.specs.Stores.{rowsOf, rowsFrom, rowAt, FormedRows}
 use Rattle.store.proofs.RowLaws.{from-here, from-end}
 use Rattle.lexleader.specs.Models.{literalValue}
 use Rattle.lexleader.specs.Rows.{Pair, pairsOf}
@@ -22,55 +24,11 @@ use Rattle.lexleader.specs.Made.{agrees, settingsAfter, rowSettings, settings, 
 use Rattle.lexleader.proofs.Settings.{length-settings}
 use Rattle.lexleader.proofs.Walk.{walk-past, walk-moved, walk-end}
 use Rattle.lexleader.proofs.Bounds.{all-auxiliaries-most}
-use Rattle.filling.specs.declared.Writer.{Writer}
-use Rattle.valuation.specs.Ready.{Ready}
-use Rattle.filling.specs.Written.{Holds, Some, Room, Appends, agreeing}
+use Rattle.filling.specs.Written.{agreeing}
 
 beq-refl : (b : Bool) → Bool·beq b b ≡ true
 beq-refl true = refl
 beq-refl false = refl
-
--- from a writer and its buffer to another: of all values some are taken, and the rest are left
-pub record Run (w : Writer) (out : List ℕ) (all rest : List Bool) (v : Writer) (after : List ℕ) : Type 0 where
-  pub done : List Bool
-  pub so : all ≡ done ++ rest
-  pub held : Appends w done out v after
-
-pub run-start : (w : Writer) (out : List ℕ) (all : List Bool) → Run w out all all w out
-run-start w out all = record { done = []; so = refl; held = λ values old h. rw (append-nil values) h }
-
-module _ {w : Writer} {out : List ℕ} {all : List Bool} {v : Writer} {after : List ℕ} where
-  pub run-more : {some rest : List Bool} {u : Writer} {last : List ℕ} → Run w out all (some ++ rest) v after → Appends v some after u last → Run w out all rest u last
-  run-more {some} {rest} r f = record {
-    done = r .done ++ some;
-    so = r .so ∙ sym (append-assoc (r .done) some rest);
-    held = λ values old h. rw (← append-assoc values (r .done) some) (f (values ++ r .done) old (r .held values old h));
-  }
-
-  pub run-end : Run w out all [] v after → Appends w all out v after
-  run-end r = rw (r .so, append-nil (r .done)) (r .held)
-
-  module _ {rest : List Bool} (s : Some w out) (r : Run w out all rest v after) where
-    ran : Holds (s .values ++ r .done) v (s .old) after
-    ran = r .held (s .values) (s .old) (s .holds)
-
-    pub run-some : Some v after
-    run-some = record { values = s .values ++ r .done; old = s .old; holds = ran }
-
-    pub run-size : length after ≡ length out
-    run-size = ran .size ∙ sym (s .holds .size)
-
-    -- room for all values is room for those that are left
-    pub run-room : (more : ℕ) → more ≤ length rest → Room w (length all) out → Room v more after
-    run-room more h room =
-        let last : v .taken + length rest ≡ w .taken + length all =
-        omega (arith, ran .count, s .holds .count, length-append (s .values) (r .done), ap length (r .so), length-append (r .done) rest) in
-        record { fits = omega (arith, room .fits, run-size); few = omega (arith, room .few) }
-
--- the last of them
-pub run-last : {w : Writer} {out : List ℕ} {all some : List Bool} {v u : Writer} {after last : List ℕ}
-    → Run w out all some v after → Appends v some after u last → Appends w all out u last
-run-last {some = some} r f = run-end (run-more (rw (append-nil some) r) f)
 
 -- ---- the auxiliaries of a row: a run of true, then one of false
 
@@ -134,10 +92,10 @@ module _ (v : ℕ → Bool) (row : List ℕ) (i : ℕ) where
     unfolding agreeing
     agreeing-stops differ = rw (walk-moved row i h (λ e. never (sym differ ∙ same (e ∙ sym is))), differ)
 
-    pub agreeing-goes : agrees v (pairAt row i) ≡ true
+    pub agreeing-on : agrees v (pairAt row i) ≡ true
         → (agreeing v (pairsAt i row) ≡ boolByte (not (eqb (getD row i 0) own)) + agreeing v (pairsAt (i + 1) row)) × (boolByte (not (eqb (getD row i 0) own)) ≤ 1)
     unfolding agreeing
-    agreeing-goes agree = go (eqb (getD row i 0) own) refl
+    agreeing-on agree = go (eqb (getD row i 0) own) refl
       where
         go : (b : Bool) → eqb (getD row i 0) own ≡ b
             → (agreeing v (pairsAt i row) ≡ boolByte (not b) + agreeing v (pairsAt (i + 1) row)) × (boolByte (not b) ≤ 1)
@@ -168,20 +126,20 @@ module _ (n : ℕ) (rows : List (List ℕ)) (words : List ℕ) where
         length-settings rows (bitsOf n words),
       )
 
-  pub filled-holds : {w v : Writer} {out between after : List ℕ} → Holds (bitsOf n words) w out between
-      → Appends w (settings rows (bitsOf n words)) between v after → Holds (filledIn rows (bitsOf n words)) v out after
+  pub filled-holds : {w v : Writer} {out between after : List ℕ} → WriterHolds (bitsOf n words) w out between
+      → Appends w (settings rows (bitsOf n words)) between v after → WriterHolds (filledIn rows (bitsOf n words)) v out after
   unfolding filledIn
   filled-holds {out = out} h f = f (bitsOf n words) out h
 
 -- there is room for the assignment itself, and then for the auxiliaries
-pub plain-room : (n : ℕ) (rows : List (List ℕ)) (k : ℕ) → wordCount (madeVariables n rows) ≤ k → wordCount n ≤ k
-unfolding wordCount madeVariables
-plain-room n rows k h = omega arith
+module _ {n rows : ℕ} {images : List ℕ} (f : FormedRows n rows images) (k : ℕ) (room : wordCount (madeVariables n (rowsOf n rows images)) ≤ k) where
+  pub plain-room : wordCount n ≤ k
+  unfolding wordCount madeVariables
+  plain-room = omega arith
 
-pub rows-room : {n rows : ℕ} {images words : List ℕ} {w : Writer} {out after : List ℕ} → Ready n rows images words → Holds (bitsOf n words) w out after
-    → wordCount (madeVariables n (rowsOf n rows images)) ≤ length out → Room w (allAuxiliaries (rowsOf n rows images)) after
-unfolding wordCount madeVariables
-rows-room {n} {rows} {images} {words} r h room = record {
-  fits = omega (arith, h .count, h .size, length-bits n words);
-  few = omega (arith, h .count, length-bits n words, all-auxiliaries-most n rows images (r .small), r .few);
-}
+  pub made-room : n + allAuxiliaries (rowsOf n rows images) ≤ 64 * k
+  unfolding wordCount madeVariables
+  made-room = omega arith
+
+  pub made-bounded : n + allAuxiliaries (rowsOf n rows images) ≤ 64 * maxWords
+  made-bounded = omega (arith, all-auxiliaries-most n rows images (f .small), f .few, f .small)

@@ -1,52 +1,45 @@
-// Filling in (document 01, "Assignments, filling in and descent"): the assignment itself, and each auxiliary true exactly when the assignment agrees with
-// itself moved on the moved variables so far. A writer takes runs of equal values and puts whole words into the lent buffer. What carries the proofs: what a
-// writer holds is a list of values (specs/Written.antt), and each function appends to it; a row's settings are a run of true and one of false.
+// Filling in (document 01, "Assignments, filling in and descent"): "Filling in writes an assignment of 1..N: A itself, and ej true
+// exactly when A agrees with A moved by p on x1 .. xj. Words after it stay."
+//
+// The auxiliaries of a row stand for its moved variables but the last, in their order, and agreement as far as xj is agreement as far as
+// x(j-1) and at xj. So along a row the auxiliaries are a run of true, as long as the moved variables agree with their images, and then a
+// run of false: once two values differ, nothing behind them is looked at. Variables that stay agree with themselves and have no
+// auxiliary. Hence a row costs one walk that counts the moved variables and one, mostly short, that counts how many agree (`agreeing`),
+// and then two runs, which a writer takes up to 32 values at a time (`packed::writer`). Values are read from a table by code
+// (`valuation::tabulate`), not from the words.
+//
+// What makes the proof go: `settings-alike` and `settings-apart` (proofs/Runs.antt) say that the definition, which carries agreement
+// along the pairs, is these two runs; each function's contract is that it appends its values to whatever the writer holds (`Appends`),
+// so the loop over the rows needs only that the rows passed and the rows left make up all of them.
+use packed::writer;
+use packed::writer::Writer;
 ghost use mathlib.Core.Path.{_≡_};
-ghost use mathlib.Core.Bool.{Bool, true, cond};
-ghost use mathlib.Core.List.{List, _++_};
-ghost use Prim.Native.Nat.{ℕ, _+_, _-_, _*_, _%_, _^_, _≤_};
-ghost use lib.ListN.{length, drop, replicate};
-ghost use Rattle.lists.specs.Tests.{allOf};
-ghost use Rattle.packed.specs.Words.{bitsOf, wordCount, wordsOf};
+ghost use mathlib.Core.Bool.{true};
+ghost use mathlib.Core.List.{_++_};
+ghost use Prim.Native.Nat.{_≤_};
+ghost use lib.ListN.{length, drop};
+ghost use Rattle.packed.specs.Words.{wordCount, isAssignment};
 ghost use Rattle.packed.specs.Order.{valueOf};
-ghost use Rattle.store.specs.Stores.{maxVariables, isRow, rowsOf};
+ghost use Rattle.packed.specs.Writing.{WriterRoom, Appends};
+ghost use Rattle.store.specs.Stores.{maxVariables, isRow, rowsOf, FormedRows};
 ghost use Rattle.lexleader.specs.Rows.{pairsOf};
 ghost use Rattle.lexleader.specs.Made.{auxiliaries, allAuxiliaries, madeVariables, rowSettings, settings};
-ghost use Rattle.valuation.specs.Ready.{Ready};
-ghost use Rattle.valuation.specs.Tables.{Tabled, Table};
-ghost use Rattle.filling.specs.Written.{Holds, Some, Room, Appends, agreeing, filledWords};
-
-// How many values a writer has taken, and those of the word that is begun.
-pub struct Writer {
-    pub taken: usize,
-    pub word: u64,
-}
+ghost use Rattle.valuation.specs.Tables.{bitsIn, Table};
+ghost use Rattle.filling.specs.Written.{agreeing, filledWords};
 
 // Writes the assignment of 1..N that an assignment of 1..n fills in as, and answers how many words it has.
 pub fn fill(images: &[u16], rows: usize, n: usize, a: &[u64], out: &mut [u64]) -> usize
-    requires { ⌜ Ready n rows (now images) (now a) × (wordCount (madeVariables n (rowsOf n rows (now images))) ≤ length (now out)) ⌝ }
+    requires { let needed = wordCount (madeVariables n (rowsOf n rows (now images))) in
+        ⌜ FormedRows n rows (now images) × (isAssignment n (now a) ≡ true) × (needed ≤ length (now out)) ⌝ }
     ensures words { λ r. ⌜ r ≡ wordCount (madeVariables n (rowsOf n rows (now (images .entry)))) ⌝ }
-    ensures buffer { λ _. ⌜ now (out .exit) ≡ filledWords n (rowsOf n rows (now (images .entry))) (now (a .entry)) ++ drop (wordCount (madeVariables n (rowsOf n rows (now (images .entry))))) (now (out .entry)) ⌝ }
+    ensures buffer { λ _. let held = rowsOf n rows (now (images .entry)) in
+        ⌜ now (out .exit) ≡ filledWords n held (now (a .entry)) ++ drop (wordCount (madeVariables n held)) (now (out .entry)) ⌝ }
 {
     let mut values = [false; valuation::TABLE];
     valuation::tabulate(a, n, &mut values);
-    let plain = fill_plain(n, a, out);
+    let plain = valuation::write(&values, n, out);
     let all = fill_rows(images, rows, n, &values, out, plain);
-    finish(out, all)
-}
-
-// The values of the assignment itself.
-fn fill_plain(n: usize, a: &[u64], out: &mut [u64]) -> Writer
-    requires { ⌜ (n ≤ maxVariables) × (n ≤ 64 * length (now a)) × (wordCount n ≤ length (now out)) ⌝ }
-    ensures { λ r. ⌜ Holds (bitsOf n (now (a .entry))) r (now (out .entry)) (now (out .exit)) ⌝ }
-{
-    let mut w = Writer { taken: 0, word: 0 };
-    let mut i = 0;
-    while i < n {
-        w = push(out, w, packed::value(a, i + 1), 1);
-        i += 1;
-    }
-    w
+    writer::finish(out, all)
 }
 
 // The values of the auxiliaries of all rows, for the assignment of a table.
@@ -58,39 +51,44 @@ fn fill_rows(
     out: &mut [u64],
     w: Writer,
 ) -> Writer
-    requires { ⌜ (n ≤ maxVariables) × (rows * n ≤ length (now images)) × (allOf (isRow n) (rowsOf n rows (now images)) ≡ true) × Table n (now values) × Some w (now out) × Room w (allAuxiliaries (rowsOf n rows (now images))) (now out) ⌝ }
-    ensures { λ r. ⌜ ((bits : List Bool) → Tabled n bits (now (values .entry)) → Appends w (settings (rowsOf n rows (now (images .entry))) bits) (now (out .entry)) r (now (out .exit))) ⌝ }
+    requires { let held = rowsOf n rows (now images) in
+        ⌜ FormedRows n rows (now images) × Table n (now values) × WriterRoom w (allAuxiliaries held) (now out) ⌝ }
+    ensures { λ r. let held = rowsOf n rows (now (images .entry)) in
+        ⌜ Appends w (settings held (bitsIn n (now (values .entry)))) (now (out .entry)) r (now (out .exit)) ⌝ }
 {
     let mut taken = w;
     let mut r = 0;
     while r < rows {
-        let from = r * n;
-        let to = from + n;
-        taken = fill_row(&images[from..to], values, out, taken);
+        taken = fill_row(store::rows::row(images, n, r), values, out, taken);
         r += 1;
     }
     taken
 }
 
-// The values of a row's auxiliaries, one for each moved variable but the last: true as far as the variables agree with their images, false from there on.
+// The values of a row's auxiliaries, one for each moved variable but the last: true as far as the variables agree with their images,
+// false from there on.
 fn fill_row(row: &[u16], values: &[bool], out: &mut [u64], w: Writer) -> Writer
-    requires { ⌜ (length (now row) ≤ maxVariables) × (isRow (length (now row)) (now row) ≡ true) × Table (length (now row)) (now values) × Some w (now out) × Room w (auxiliaries (now row)) (now out) ⌝ }
-    ensures { λ r. ⌜ ((bits : List Bool) → Tabled (length (now (row .entry))) bits (now (values .entry)) → Appends w (rowSettings (now (row .entry)) bits) (now (out .entry)) r (now (out .exit))) ⌝ }
+    requires { let n = length (now row) in
+        ⌜ (n ≤ maxVariables) × (isRow n (now row) ≡ true) × Table n (now values)
+        × WriterRoom w (auxiliaries (now row)) (now out) ⌝ }
+    ensures { λ r. let bits = bitsIn (length (now (row .entry))) (now (values .entry)) in
+        ⌜ Appends w (rowSettings (now (row .entry)) bits) (now (out .entry)) r (now (out .exit)) ⌝ }
 {
     let added = lexleader::added_by(row);
     let all = added.auxiliaries;
     let agreed = agreeing(row, values);
     if all <= agreed {
-        return push_run(out, w, true, all);
+        return writer::push_run(out, w, true, all);
     }
-    let begun = push_run(out, w, true, agreed);
-    push_run(out, begun, false, all - agreed)
+    let begun = writer::push_run(out, w, true, agreed);
+    writer::push_run(out, begun, false, all - agreed)
 }
 
 // How many moved variables agree with their images before the first that does not.
 fn agreeing(row: &[u16], values: &[bool]) -> usize
-    requires { ⌜ (length (now row) ≤ maxVariables) × (isRow (length (now row)) (now row) ≡ true) × (2 * length (now row) + 2 ≤ length (now values)) ⌝ }
-    ensures { λ r. ⌜ ((bits : List Bool) → Tabled (length (now (row .entry))) bits (now (values .entry)) → r ≡ agreeing (valueOf bits) (pairsOf (now (row .entry)))) ⌝ }
+    requires { let n = length (now row) in ⌜ (n ≤ maxVariables) × (isRow n (now row) ≡ true) × Table n (now values) ⌝ }
+    ensures { λ r. let bits = bitsIn (length (now (row .entry))) (now (values .entry)) in
+        ⌜ r ≡ agreeing (valueOf bits) (pairsOf (now (row .entry))) ⌝ }
 {
     let mut count: usize = 0;
     let mut own: u16 = 2;
@@ -104,85 +102,4 @@ fn agreeing(row: &[u16], values: &[bool]) -> usize
         i += 1;
     }
     count
-}
-
-// Takes a run of k equal values.
-fn push_run(out: &mut [u64], w: Writer, value: bool, k: usize) -> Writer
-    requires { ⌜ Some w (now out) × Room w k (now out) ⌝ }
-    ensures { λ r. ⌜ Appends w (replicate k value) (now (out .entry)) r (now (out .exit)) ⌝ }
-{
-    let mut taken = w;
-    let mut left = k;
-    while 0 < left {
-        let here = at_once(taken.taken, left);
-        taken = push(out, taken, value, here);
-        left -= here;
-    }
-    taken
-}
-
-// How many of some values go at once behind those taken: no more than the begun word has room for, and no more than 32.
-fn at_once(taken: usize, left: usize) -> usize
-    requires { ⌜ 1 ≤ left ⌝ }
-    ensures { λ r. ⌜ (1 ≤ r) × (r ≤ left) × (r ≤ 32) × (taken % 64 + r ≤ 64) ⌝ }
-{
-    let room = 64 - taken % 64;
-    let most = min(left, room);
-    min(most, 32)
-}
-
-fn min(a: usize, b: usize) -> usize
-    ensures { λ r. ⌜ (r ≤ a) × (r ≤ b) × ((k : ℕ) → k ≤ a → k ≤ b → k ≤ r) ⌝ }
-{
-    if a < b {
-        return a;
-    }
-    b
-}
-
-// Takes k equal values that the begun word has room for; a word that is whole goes into the buffer.
-fn push(out: &mut [u64], w: Writer, value: bool, k: usize) -> Writer
-    requires { ⌜ Some w (now out) × Room w k (now out) × (1 ≤ k) × (k ≤ 32) × (w .taken % 64 + k ≤ 64) ⌝ }
-    ensures { λ r. ⌜ Appends w (replicate k value) (now (out .entry)) r (now (out .exit)) ⌝ }
-{
-    let word = (w.word << k) + digits(value, k);
-    let taken = w.taken + k;
-    if taken % 64 == 0 {
-        let i = w.taken / 64;
-        out[i] = word;
-        return Writer {
-            taken: taken,
-            word: 0,
-        };
-    }
-    Writer {
-        taken: taken,
-        word: word,
-    }
-}
-
-// The number of k equal binary digits.
-fn digits(value: bool, k: usize) -> u64
-    requires { ⌜ k ≤ 32 ⌝ }
-    ensures { λ r. ⌜ r ≡ cond value (2 ^ k - 1) 0 ⌝ }
-{
-    if value {
-        return (1u64 << k) - 1;
-    }
-    0
-}
-
-// Puts the begun word into the buffer, its spare bits 0, and answers how many words there are.
-fn finish(out: &mut [u64], w: Writer) -> usize
-    requires { ⌜ Some w (now out) × (w .taken ≤ 64 * length (now out)) ⌝ }
-    ensures words { λ r. ⌜ r ≡ wordCount (w .taken) ⌝ }
-    ensures buffer { λ _. ⌜ ((values : List Bool) (old : List ℕ) → Holds values w old (now (out .entry)) → now (out .exit) ≡ wordsOf values ++ drop (wordCount (length values)) old) ⌝ }
-{
-    let whole = w.taken / 64;
-    let rest = w.taken % 64;
-    if rest == 0 {
-        return whole;
-    }
-    out[whole] = w.word << (64 - rest);
-    whole + 1
 }

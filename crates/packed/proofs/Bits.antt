@@ -4,7 +4,7 @@ use mathlib.Core.Bool.{Bool, false, cond}
 use mathlib.Core.List.{List}
 use Prim.Native.Nat.{ℕ, zero, suc, _+_, _-_, _*_, _/_, _%_, _^_, _≤_, _<_}
 use native.Mathlib.Omega.{arith}
-use native.Mathlib.Nat.{mod-eq-of-lt, zero-mod, zero-div}
+use native.Mathlib.Nat.{zero-mod, zero-div}
 use lib.ListN.{length, getD}
 use lib.Dec.{eqb}
 use lib.Bits.{bitAnd, and-mask}
@@ -49,10 +49,6 @@ low-zero w m p h l e =
     let r : w % 2 ^ (1 + t) ≡ 0 =
     sym (mod-mod-pow w (m - (1 + t)) (1 + t)) ∙ ap (λ (k : ℕ). k % 2 ^ (1 + t)) (ap (λ (k : ℕ). w % 2 ^ k) s ∙ e) ∙ zero-mod (2 ^ (1 + t)) in
     ap (λ (k : ℕ). eqb k 1) (sym (field w 1 t) ∙ ap (λ (k : ℕ). k / 2 ^ t) r ∙ zero-div (2 ^ t))
-
--- words of the same 64 bits are one word
-pub word-ext : (x y : ℕ) → x < 2 ^ 64 → y < 2 ^ 64 → ((p : ℕ) → p < 64 → bitIn x p ≡ bitIn y p) → x ≡ y
-word-ext x y hx hy s = sym (mod-eq-of-lt hx) ∙ low-same x y 64 (omega arith) (λ p l g. s p l) ∙ mod-eq-of-lt hy
 
 -- ---- a list of words
 

@@ -1,8 +1,7 @@
--- From bits to words and back, and from words to bits and back. Assumes nothing.
+-- From bits to words and back. Assumes nothing.
 use mathlib.Core.Path.{_≡_, refl, sym, ap, _∙_}
 use mathlib.Core.Bool.{Bool, true, false, cond}
 use mathlib.Core.List.{List}
-use mathlib.Core.Logic.{⊎-elim}
 use Prim.Native.Nat.{ℕ, zero, suc, _+_, _-_, _*_, _/_, _%_, _^_, _≤_, _<_}
 use native.Mathlib.Omega.{arith}
 use native.Mathlib.Nat.{pow-suc}
@@ -10,15 +9,14 @@ use lib.ListN.{length, getD, List·getD-eq-default}
 use lib.Dec.{eqb}
 use lib.Pow.{shr-shr}
 use lib.Seq.{ext-getD}
-use Rattle.lists.proofs.Cases.{lt-or-le}
 use Rattle.lists.proofs.TableLaws.{length-table, getD-table}
 use Rattle.packed.specs.Words.{bitIn, bitAt, bitsOf, binary, wordCount, wordsOf, isAssignment}
-use Rattle.packed.proofs.Bits.{word-ext, bitAt-in, length-bits, getD-bits}
-use Rattle.packed.proofs.Form.{form-of, of-form, form-count}
+use Rattle.packed.proofs.Bits.{bitAt-in, length-bits, getD-bits}
+use Rattle.packed.proofs.Form.{of-form}
 
 -- ---- a number and its digits
 
-pub digit-lt : (b : Bool) → cond b 1 0 < 2
+digit-lt : (b : Bool) → cond b 1 0 < 2
 digit-lt true = omega arith
 digit-lt false = omega arith
 
@@ -70,7 +68,7 @@ count-holds : (n : ℕ) → n ≤ 64 * wordCount n
 unfolding wordCount
 count-holds n = omega arith
 
--- ---- the round trips
+-- ---- the round trip
 
 pub bits-words : (n : ℕ) (bs : List Bool) → length bs ≡ n → bitsOf n (wordsOf bs) ≡ bs
 bits-words n bs e =
@@ -83,24 +81,3 @@ words-form bs = of-form (length bs) (wordsOf bs) (record {
   count = length-words bs;
   spare = λ j h l. bit-words bs j (omega (arith, length-words bs)) ∙ List·getD-eq-default bs false h;
 })
-
-pub words-bits : (n : ℕ) (ws : List ℕ) → isAssignment n ws ≡ true → ((j : ℕ) → getD ws j 0 < 2 ^ 64) → wordsOf (bitsOf n ws) ≡ ws
-words-bits n ws t fits =
-    ext-getD 0 (wordsOf (bitsOf n ws)) ws (length-words (bitsOf n ws) ∙ held ∙ sym (form-count n ws t))
-    (λ j h. word j (omega (arith, length-words (bitsOf n ws))))
-  where
-    held : wordCount (length (bitsOf n ws)) ≡ wordCount n
-    held = ap wordCount (length-bits n ws)
-
-    value : (k : ℕ) → k < 64 * wordCount n → getD (bitsOf n ws) k false ≡ bitAt ws k
-    value k h =
-        ⊎-elim (λ (l : k < n). getD-bits n ws k l)
-        (λ (l : n ≤ k).
-        List·getD-eq-default (bitsOf n ws) false (omega (arith, length-bits n ws))
-        ∙ sym (form-of n ws t .spare k l (omega (arith, form-count n ws t))))
-        (lt-or-le k n)
-
-    word : (j : ℕ) → j < wordCount (length (bitsOf n ws)) → getD (wordsOf (bitsOf n ws)) j 0 ≡ getD ws j 0
-    word j h =
-        word-ext _ _ (rw (getD-words (bitsOf n ws) j h) (binary-lt 64 _)) (fits j)
-        (λ p l. word-bit (bitsOf n ws) j p h l ∙ value (j * 64 + p) (omega (arith, held)) ∙ bitAt-in ws j p l)

@@ -1,11 +1,13 @@
-// Assignments of the variables 1..n, lent as 64-bit words (document 01, "Assignments, filling in and descent"). Here words become values and
-// values words; every definition above is over lists of values. The idea of the proofs: a list of words is the table of its bits, and two
-// tables first differ where the exclusive or of their first unequal words has its highest bit.
+// Assignments of the variables 1..n, lent as 64-bit words (document 01, "Assignments, filling in and descent"). Here words become values
+// and values words; every definition above is over lists of values. The idea of the proofs: a list of words is the table of its bits,
+// and two tables first differ where the exclusive or of their first unequal words has its highest bit.
+pub mod writer;
+
 ghost use mathlib.Core.Path.{_≡_};
 ghost use mathlib.Core.Bool.{false};
-ghost use Prim.Native.Nat.{_-_, _*_, _≤_};
+ghost use Prim.Native.Nat.{_+_, _-_, _*_, _≤_};
 ghost use lib.ListN.{length};
-ghost use Rattle.packed.specs.Words.{maxWords, bitAt, isAssignment};
+ghost use Rattle.packed.specs.Words.{maxWords, bitAt, wordCount, isAssignment};
 ghost use Rattle.packed.specs.Order.{allBits, firstDifference, part, lesserOf};
 
 // The most words that a comparison takes: as many as hold the variables of the largest made formula.
@@ -20,6 +22,14 @@ pub fn value(words: &[u64], i: usize) -> bool
     let w = words[j / 64];
     let s = 63 - j % 64;
     (w >> s) & 1 == 1
+}
+
+// How many words are just enough for n variables.
+pub fn word_count(n: usize) -> usize
+    requires { ⌜ n ≤ 64 * maxWords ⌝ }
+    ensures { λ r. ⌜ r ≡ wordCount n ⌝ }
+{
+    (n + 63) / 64
 }
 
 // Whether words are an assignment of 1..n in the right form.

@@ -1,5 +1,6 @@
 pub mod FormLaws
 pub mod RowLaws
+pub mod RowParts
 pub mod Demands
 pub mod Formed
 pub mod Cuts

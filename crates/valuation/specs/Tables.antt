@@ -13,17 +13,11 @@ use Rattle.lexleader.specs.Models.{literalValue}
 abbrev pub maxTable : ℕ
 maxTable = 2 * maxVariables + 2
 
--- the table is that of an assignment of 1..n: at the code of each literal its value
-pub record Tabled (n : ℕ) (bits values : List Bool) : Type 0 where
-  pub size : length bits ≡ n
-  pub value : (code : ℕ) → 1 ≤ code / 2 → code / 2 ≤ n → getD values code false ≡ literalValue (valueOf bits) code
-
--- the table is that of some assignment of 1..n, and has room for all its literals
-pub record Table (n : ℕ) (values : List Bool) : Type 0 where
-  pub room : 2 * n + 2 ≤ length values
-  pub bits : List Bool
-  pub is : Tabled n bits values
-
 -- the values of the variables 1..n in a table
 unfoldable pub bitsIn : ℕ → List Bool → List Bool
 bitsIn n values = table n (λ i. getD values (2 * i + 2) false)
+
+-- the table is that of this assignment: it has a place for each literal of 1..n, and there the literal's value
+pub record Table (n : ℕ) (values : List Bool) : Type 0 where
+  pub room : 2 * n + 2 ≤ length values
+  pub value : (code : ℕ) → 1 ≤ code / 2 → code / 2 ≤ n → getD values code false ≡ literalValue (valueOf (bitsIn n values)) code

@@ -1,12 +1,16 @@
-// The value of a literal under an assignment lent as words (document 01, "Assignments, filling in and descent"): what filling in and checking read; and the
-// values of all literals in a table by code, which descent reads many times before the assignment changes.
+// The value of a literal under an assignment lent as words (document 01, "Assignments, filling in and descent"), which checking reads;
+// and the values of all literals in a table by code, which descent and filling in read many times before the assignment changes.
+use packed::writer;
+use packed::writer::Writer;
 ghost use mathlib.Core.Path.{_≡_};
 ghost use Prim.Native.Nat.{ℕ, _+_, _*_, _/_, _≤_};
 ghost use lib.ListN.{length};
-ghost use Rattle.packed.specs.Words.{bitsOf};
+ghost use Rattle.packed.specs.Words.{bitsOf, wordCount};
 ghost use Rattle.packed.specs.Order.{valueOf};
+ghost use Rattle.packed.specs.Writing.{WriterHolds};
+ghost use Rattle.store.specs.Stores.{maxVariables};
 ghost use Rattle.lexleader.specs.Models.{literalValue};
-ghost use Rattle.valuation.specs.Tables.{Tabled};
+ghost use Rattle.valuation.specs.Tables.{bitsIn, Table};
 
 // The places of a table of the literals of as many variables as a store can have, by code from 0.
 pub const TABLE: usize = 1026;
@@ -26,7 +30,8 @@ pub fn literal_value(a: &[u64], code: u32) -> bool
 // Makes the table of the assignment of 1..n that the words hold.
 pub fn tabulate(a: &[u64], n: usize, values: &mut [bool])
     requires { ⌜ (n ≤ 64 * length (now a)) × (2 * n + 2 ≤ length (now values)) ⌝ }
-    ensures { λ _. ⌜ Tabled n (bitsOf n (now (a .entry))) (now (values .exit)) ⌝ }
+    ensures table { λ _. ⌜ Table n (now (values .exit)) ⌝ }
+    ensures bits { λ _. ⌜ bitsIn n (now (values .exit)) ≡ bitsOf n (now (a .entry)) ⌝ }
 {
     let mut i = 1;
     while i <= n {
@@ -35,4 +40,18 @@ pub fn tabulate(a: &[u64], n: usize, values: &mut [bool])
         values[2 * i + 1] = !value;
         i += 1;
     }
+}
+
+// Writes the assignment of 1..n in a table as words, the begun one left to the writer.
+pub fn write(values: &[bool], n: usize, out: &mut [u64]) -> Writer
+    requires { ⌜ (n ≤ maxVariables) × Table n (now values) × (wordCount n ≤ length (now out)) ⌝ }
+    ensures { λ w. ⌜ WriterHolds (bitsIn n (now (values .entry))) w (now (out .entry)) (now (out .exit)) ⌝ }
+{
+    let mut w = writer::begin();
+    let mut i = 0;
+    while i < n {
+        w = writer::push(out, w, values[2 * i + 2], 1);
+        i += 1;
+    }
+    w
 }

@@ -1,26 +1,24 @@
 -- `descent::move_by` meets its contract. The invariant: the table being made has the values of the moved assignment at variables before i. Assumes nothing.
 use mathlib.Core.Path.{_≡_, refl, sym}
-use mathlib.Core.Bool.{Bool}
-use mathlib.Core.List.{List}
 use Prim.Native.Nat.{_+_, _-_, _≤_, _<_}
 use native.Mathlib.Omega.{arith}
 use lib.ListN.{length, getD, length-set}
 use Rattle.lexleader.specs.Rows.{moved}
-use Rattle.valuation.specs.Tables.{maxTable, Tabled}
-use Rattle.valuation.proofs.TableLaws.{Begun, begun-none, begun-more}
-use Rattle.descent.proofs.MoveLaws.{image-in, image-is, table-moved}
+use Rattle.valuation.specs.Tables.{maxTable, bitsIn}
+use Rattle.valuation.proofs.TableLaws.{TableBegun, begun-none, begun-more}
+use Rattle.descent.proofs.MoveLaws.{image-in, image-is, moved-table, moved-bits}
 use Rattle.descent.proofs.move_by.Statement.{statement}
 use Rattle.descent.proofs.move_by.Tie as tie
 
 abbrev Inv-loop : tie.InvT-loop
 Inv-loop row values next₀ i₀ next i =
-    (1 ≤ i) × (i ≤ length row + 1) × (length next ≡ maxTable) × ((bits : List Bool) → Tabled (length row) bits values → Begun (moved row bits) next i)
+    (1 ≤ i) × (i ≤ length row + 1) × (length next ≡ maxTable) × TableBegun (moved row (bitsIn (length row) values)) next i
 
 abbrev μ-loop : tie.MeasureT-loop
 μ-loop row values next₀ i₀ next i = length row + 1 - i
 
 loop-holds : tie.Need-loop-holds Inv-loop μ-loop
-loop-holds c = (omega arith, omega arith, refl, λ bits tabled. begun-none _ _)
+loop-holds c = (omega arith, omega arith, refl, begun-none _ _)
 
 mul-own : tie.Need-mul-own Inv-loop μ-loop
 mul-own c = omega arith
@@ -44,7 +42,7 @@ image-here : (c : tie.After-slice-known2 Inv-loop μ-loop) → let l = c .before
 image-here c =
     let l = c .before .before .before in
     let s = l .before .before .before in
-    image-in (s .args .row .now) (s .args .values .now) (s .pre .0, s .pre .1) (l .loop .i - 1) (omega arith)
+    image-in (s .args .row .now) (s .args .values .now) (s .pre .0) (s .pre .1) (l .loop .i - 1) (omega arith)
 
 slice-read-value : tie.Need-slice-read-value Inv-loop μ-loop
 slice-read-value c = omega (arith, image-here c)
@@ -71,9 +69,8 @@ loop-again c =
       omega arith,
       omega arith,
       simp length-set (l .loop .inv .2),
-      λ bits tabled.
-          begun-more _ _ (l .loop .i) (l .loop .inv .3 bits tabled) (omega (arith, l .loop .inv .2)) _
-          (sym (image-is (s .args .row .now) bits (s .args .values .now) tabled (s .pre .0) (l .loop .i - 1) (omega arith))),
+      begun-more _ _ (l .loop .i) (l .loop .inv .3) (omega (arith, l .loop .inv .2)) _
+          (sym (image-is (s .args .row .now) (s .args .values .now) (s .pre .0) (s .pre .1) (l .loop .i - 1) (omega arith))),
     )
 
 slice-aggregate-copy : tie.Need-slice-aggregate-copy Inv-loop μ-loop
@@ -89,12 +86,16 @@ same-length : tie.Need-same-length Inv-loop μ-loop
 same-length c = c .before .before .copy .kept .1 .0
 
 returns : tie.Need-returns Inv-loop μ-loop
-returns c bits tabled =
+returns c =
     let t = c .before .before in
     let l = t .before .before .before .before in
     let s = l .before .before .before in
-    table-moved (s .args .row .now) bits (s .args .values .now) (l .loop .next) (t .copy .last .1 .0) (l .loop .i) (omega arith) (l .loop .inv .3 bits tabled)
-    (t .copy .ensures) (s .pre .1)
+    let row = s .args .row .now in
+    let values = s .args .values .now in
+    let long : length values ≤ length (l .loop .next) = omega (arith, s .pre .2, l .loop .inv .2) in (
+      moved-table row values (s .pre .0) (s .pre .1) (l .loop .next) (t .copy .last .1 .0) (l .loop .i) (omega arith) (l .loop .inv .3) long (t .copy .ensures),
+      moved-bits row values (s .pre .0) (s .pre .1) (l .loop .next) (t .copy .last .1 .0) (l .loop .i) (omega arith) (l .loop .inv .3) long (t .copy .ensures),
+    )
 
 pub move-by-spec : {M : Type 1} → statement M
 move-by-spec =

@@ -1,38 +1,38 @@
 -- `filling::fill` meets its contract: the values of the assignment and those of all auxiliaries are those of filling in. Assumes nothing.
 use mathlib.Core.Path.{refl, ap, _∙_}
+use mathlib.Core.Bool.{Bool}
 use mathlib.Core.List.{List}
 use Prim.Native.Nat.{ℕ}
 use native.Mathlib.Omega.{arith}
 use borrow.Author.Needs.{needs}
 use Rattle.packed.specs.Words.{bitsOf, wordCount}
+use Rattle.packed.specs.Writing.{WriterHolds}
 use Rattle.packed.proofs.Form.{form-room}
+use Rattle.packed.proofs.Writing.{room-for}
 use Rattle.store.specs.Stores.{rowsOf}
-use Rattle.lexleader.specs.Made.{filledIn}
-use Rattle.valuation.specs.Tables.{Table}
-use Rattle.filling.specs.Written.{Holds, filledWords}
-use Rattle.filling.proofs.Runs.{length-filled, filled-holds, plain-room, rows-room}
+use Rattle.lexleader.specs.Made.{allAuxiliaries, filledIn, madeVariables}
+use Rattle.valuation.proofs.TableLaws.{length-in}
+use Rattle.filling.specs.Written.{filledWords}
+use Rattle.filling.proofs.Runs.{length-filled, filled-holds, plain-room, made-room, made-bounded}
 use Rattle.filling.proofs.fill.Statement.{statement}
 use Rattle.filling.proofs.fill.Tie as tie
 
--- the table
-known : (c : tie.After-tabulate) → let a = c .before .before .before .before .before .args in Table (a .n) (c .tabulate .last .1 .1 .0)
-known c =
-    let s = c .before .before .before .before .before in
-    record {
-      room = omega (arith, s .pre .0 .small, c .tabulate .kept .1 .1 .0);
-      bits = bitsOf (s .args .n) (s .args .a .now);
-      is = c .tabulate .ensures;
-    }
+-- the rows, and the assignment filled in
+abbrev held : tie.Start → List (List ℕ)
+held s = rowsOf (s .args .n) (s .args .rows) (s .args .images .now)
+
+abbrev filled : tie.Start → List Bool
+filled s = filledIn (held s) (bitsOf (s .args .n) (s .args .a .now))
 
 -- the writer holds all values
-held : (c : tie.After-fill-rows) → let a = c .before .before .before .before .before .before .before .before .before .before .before .before .before .args in
-    Holds (filledIn (rowsOf (a .n) (a .rows) (a .images .now)) (bitsOf (a .n) (a .a .now))) (c .fill-rows .result) (a .out .now) (c .fill-rows .last .1 .1 .1 .1 .0)
-held c =
-    let f = c .before .before .before .before .before in
-    let t = f .before .before .before in
-    let a = t .before .before .before .before .before .args in
-    filled-holds (a .n) (rowsOf (a .n) (a .rows) (a .images .now)) (a .a .now) (f .fill-plain .ensures)
-    (c .fill-rows .ensures (bitsOf (a .n) (a .a .now)) (t .tabulate .ensures))
+holds : (c : tie.After-fill-rows) → let s = c .before .before .before .before .before .before .before .before .before .before .before .before .before .before in
+    WriterHolds (filled s) (c .fill-rows .result) (s .args .out .now) (c .fill-rows .last .1 .1 .1 .1 .0)
+holds c =
+    let w = c .before .before .before .before .before in
+    let t = w .before .before .before .before in
+    let s = t .before .before .before .before .before in
+    let bits = t .tabulate .ensures .1 in
+    filled-holds (s .args .n) (held s) (s .args .a .now) (rw bits at (w .write .ensures)) (rw bits at (c .fill-rows .ensures))
 
 slice-aggregate-tabulate : tie.Need-slice-aggregate-tabulate
 slice-aggregate-tabulate c = refl
@@ -40,39 +40,38 @@ slice-aggregate-tabulate c = refl
 tabulate-requires : tie.Need-tabulate-requires
 tabulate-requires c κs =
     let s = c .before .before .before .before in
-    (form-room (s .args .n) (s .args .a .now) (s .pre .0 .form), omega (arith, s .pre .0 .small))
+    (form-room (s .args .n) (s .args .a .now) (s .pre .1), omega (arith, s .pre .0 .small))
 
-fill-plain-requires : tie.Need-fill-plain-requires
-fill-plain-requires c κs =
-    let s = c .before .before .before .before .before .before .before in
-    let a = s .args in
-    (s .pre .0 .small, form-room (a .n) (a .a .now) (s .pre .0 .form), plain-room (a .n) (rowsOf (a .n) (a .rows) (a .images .now)) _ (s .pre .1))
+slice-aggregate-write : tie.Need-slice-aggregate-write
+slice-aggregate-write c = search needs
+
+write-requires : tie.Need-write-requires
+write-requires c κs =
+    let t = c .before .before .before in
+    let s = t .before .before .before .before .before in
+    (s .pre .0 .small, t .tabulate .ensures .0, plain-room (s .pre .0) _ (s .pre .2))
 
 slice-aggregate-fill-rows : tie.Need-slice-aggregate-fill-rows
 slice-aggregate-fill-rows c = search needs
 
 fill-rows-requires : tie.Need-fill-rows-requires
 fill-rows-requires c κs =
-    let f = c .before .before .before .before in
-    let s = f .before .before .before .before .before .before .before .before in
-    let h = f .fill-plain .ensures in (
-      s .pre .0 .small,
-      s .pre .0 .fits,
-      s .pre .0 .good,
-      known (f .before .before .before),
-      record { values = bitsOf (s .args .n) (s .args .a .now); old = s .args .out .now; holds = h },
-      rows-room (s .pre .0) h (s .pre .1),
+    let w = c .before .before .before .before in
+    let t = w .before .before .before .before in
+    let s = t .before .before .before .before .before in
+    let size = length-in (s .args .n) (t .tabulate .last .1 .1 .0) in (
+      s .pre .0,
+      t .tabulate .ensures .0,
+      room-for (w .write .ensures) (allAuxiliaries (held s)) (omega (arith, size, made-room (s .pre .0) _ (s .pre .2))) (omega (arith, size, made-bounded (s .pre .0) _ (s .pre .2))),
     )
 
 finish-requires : tie.Need-finish-requires
-unfolding wordCount
+unfolding madeVariables
 finish-requires c κs =
     let r = c .before .before .before in
-    let s = r .before .before .before .before .before .before .before .before .before .before .before .before .before in
-    let a = s .args in
-    let rows : List (List ℕ) = rowsOf (a .n) (a .rows) (a .images .now) in
-    let h = held r in
-    (record { values = filledIn rows (bitsOf (a .n) (a .a .now)); old = a .out .now; holds = h }, omega (arith, h .count, h .size, length-filled (a .n) rows (a .a .now), s .pre .1))
+    let s = r .before .before .before .before .before .before .before .before .before .before .before .before .before .before in
+    let size = length-filled (s .args .n) (held s) (s .args .a .now) in
+    room-for (holds r) 0 (omega (arith, size, made-room (s .pre .0) _ (s .pre .2))) (omega (arith, size, made-bounded (s .pre .0) _ (s .pre .2)))
 
 same-length : tie.Need-same-length
 same-length c = search needs
@@ -81,12 +80,11 @@ returns : tie.Need-returns
 unfolding filledWords
 returns c =
     let r = c .before .before .before .before .before .before in
-    let a = r .before .before .before .before .before .before .before .before .before .before .before .before .before .args in
-    let rows : List (List ℕ) = rowsOf (a .n) (a .rows) (a .images .now) in
-    let h = held r in
-    let size = length-filled (a .n) rows (a .a .now) in
+    let s = r .before .before .before .before .before .before .before .before .before .before .before .before .before .before in
+    let h = holds r in
+    let size = length-filled (s .args .n) (held s) (s .args .a .now) in
     let end = c .before .before .finish .ensures in
-    (end .0 ∙ ap wordCount (h .count ∙ size), end .1 (filledIn rows (bitsOf (a .n) (a .a .now))) (a .out .now) h ∙ rw size)
+    (end .0 ∙ ap wordCount (h .count ∙ size), end .1 (filled s) (s .args .out .now) h ∙ rw size)
 
 pub fill-spec : {M : Type 1} → statement M
 fill-spec =
@@ -94,7 +92,8 @@ fill-spec =
     (tie.spec
     slice-aggregate-tabulate
     tabulate-requires
-    fill-plain-requires
+    slice-aggregate-write
+    write-requires
     slice-aggregate-fill-rows
     fill-rows-requires
     finish-requires

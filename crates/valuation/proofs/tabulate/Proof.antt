@@ -1,4 +1,4 @@
--- `valuation::tabulate` meets its contract. The invariant: the table has the values of the literals whose variables are before i (`Begun`).
+-- `valuation::tabulate` meets its contract. The invariant: the table has the values of the literals whose variables are before i (`TableBegun`).
 -- Assumes nothing.
 use mathlib.Core.Path.{_≡_, refl, _∙_}
 use Prim.Native.Nat.{_+_, _-_, _≤_}
@@ -7,12 +7,12 @@ use borrow.Author.Needs.{needs}
 use lib.ListN.{length, length-set}
 use Rattle.packed.specs.Words.{bitsOf}
 use Rattle.packed.proofs.Bits.{length-bits, value-is}
-use Rattle.valuation.proofs.TableLaws.{Begun, begun-none, begun-more, begun-all}
+use Rattle.valuation.proofs.TableLaws.{TableBegun, begun-none, begun-more, begun-bits, begun-table}
 use Rattle.valuation.proofs.tabulate.Statement.{statement}
 use Rattle.valuation.proofs.tabulate.Tie as tie
 
 abbrev Inv-loop : tie.InvT-loop
-Inv-loop a n values₀ i₀ values i = (1 ≤ i) × (i ≤ n + 1) × (length values ≡ length values₀) × Begun (bitsOf n a) values i
+Inv-loop a n values₀ i₀ values i = (1 ≤ i) × (i ≤ n + 1) × (length values ≡ length values₀) × TableBegun (bitsOf n a) values i
 
 abbrev μ-loop : tie.MeasureT-loop
 μ-loop a n values₀ i₀ values i = n + 1 - i
@@ -55,7 +55,10 @@ same-length : tie.Need-same-length Inv-loop μ-loop
 same-length c = c .before .loop .inv .2
 
 returns : tie.Need-returns Inv-loop μ-loop
-returns c = begun-all _ _ _ _ (length-bits _ _) (omega arith) (c .before .loop .inv .3)
+returns c =
+    let l = c .before .loop in
+    let size = length-bits _ _ in
+    (begun-table _ _ _ _ size (omega arith) (l .inv .3) (omega arith), begun-bits _ _ _ _ size (omega arith) (l .inv .3))
 
 pub tabulate-spec : {M : Type 1} → statement M
 tabulate-spec =

@@ -1,10 +1,10 @@
--- `filling::finish` meets its contract: the begun word with its digits shifted up is the last word of the values. Assumes nothing.
+-- `packed::writer::finish` meets its contract: the begun word with its digits shifted up is the last word of the values. Assumes nothing.
 use native.Mathlib.Omega.{arith}
 use borrow.Author.Needs.{needs}
 use Rattle.packed.specs.Words.{wordCount}
-use Rattle.filling.proofs.Writing.{finished-whole, finished-begun}
-use Rattle.filling.proofs.finish.Statement.{statement}
-use Rattle.filling.proofs.finish.Tie as tie
+use Rattle.packed.proofs.Writing.{finished-whole, finished-begun}
+use Rattle.packed.proofs.writer.finish.Statement.{statement}
+use Rattle.packed.proofs.writer.finish.Tie as tie
 
 returns : tie.Need-returns
 unfolding wordCount

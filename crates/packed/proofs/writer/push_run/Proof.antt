@@ -1,16 +1,16 @@
--- `filling::push_run` meets its contract. The invariant: the values left to take are `left` of them. Assumes nothing.
+-- `packed::writer::push_run` meets its contract. The invariant: the values left to take are `left` of them. Assumes nothing.
 use mathlib.Core.Path.{_≡_, sym, ap, _∙_}
 use mathlib.Core.List.{_++_}
 use Prim.Native.Nat.{ℕ, _+_, _-_}
 use native.Mathlib.Omega.{arith}
 use borrow.Author.Needs.{needs}
 use lib.ListN.{replicate, length-replicate, replicate-append-replicate}
-use Rattle.filling.proofs.Runs.{Run, run-start, run-more, run-end, run-some, run-size, run-room}
-use Rattle.filling.proofs.push_run.Statement.{statement}
-use Rattle.filling.proofs.push_run.Tie as tie
+use Rattle.packed.proofs.Runs.{WriterRun, run-start, run-more, run-end, run-size, run-room}
+use Rattle.packed.proofs.writer.push_run.Statement.{statement}
+use Rattle.packed.proofs.writer.push_run.Tie as tie
 
 abbrev Inv-loop : tie.InvT-loop
-Inv-loop out₀ value k taken₀ left₀ out taken left = Run taken₀ out₀ (replicate k value) (replicate left value) taken out
+Inv-loop out₀ value k taken₀ left₀ out taken left = WriterRun taken₀ out₀ (replicate k value) (replicate left value) taken out
 
 abbrev μ-loop : tie.MeasureT-loop
 μ-loop out₀ value k taken₀ left₀ out taken left = left
@@ -27,8 +27,7 @@ push-requires c κs =
     let l = c .before .before .before in
     let s = l .before .before in
     let v = s .args .value in (
-      run-some (s .pre .0) (l .loop .inv),
-      run-room (s .pre .0) (l .loop .inv) _ (omega (arith, o .1, length-replicate (l .loop .left) v)) (rw (length-replicate (s .args .k) v) (s .pre .1)),
+      run-room (s .pre) (l .loop .inv) (sym (length-replicate (s .args .k) v)) _ (omega (arith, o .1, length-replicate (l .loop .left) v)),
       o .0,
       o .2,
       o .3,
@@ -51,7 +50,7 @@ loop-again c =
     run-more (rw split at (l .loop .inv)) (c .before .before .push .ensures)
 
 same-length : tie.Need-same-length Inv-loop μ-loop
-same-length c = let l = c .before in run-size (l .before .before .pre .0) (l .loop .inv)
+same-length c = let l = c .before in run-size (l .before .before .pre) (l .loop .inv)
 
 returns : tie.Need-returns Inv-loop μ-loop
 returns c =

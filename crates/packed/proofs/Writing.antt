@@ -9,13 +9,11 @@ use native.Mathlib.Omega.{arith}
 use lib.ListN.{length, getD, take, drop, set, replicate, length-append, length-replicate, getD-replicate, length-set, take-append-drop, List·getD-append, List·getD-eq-default}
 use lib.Pow.{pow-pos, pow-mono, shl-exact}
 use lib.Seq.{length-take-le, getD-take, getD-set-same, getD-set-other, getD-append-add, drop-set-lt, drop-drop, ext-getD}
-use Rattle.lists.specs.Tables.{table}
 use Rattle.lists.proofs.Cases.{eq-or-ne}
-use Rattle.lists.proofs.TableLaws.{length-table, getD-table}
-use Rattle.packed.specs.Words.{binary, wordCount, wordsOf}
-use Rattle.packed.proofs.Trips.{binary-lt}
-use Rattle.filling.specs.declared.Writer.{Writer}
-use Rattle.filling.specs.Written.{Holds}
+use Rattle.packed.specs.Words.{maxWords, binary, wordCount, wordsOf}
+use Rattle.packed.proofs.Trips.{binary-lt, length-words, getD-words}
+use Rattle.packed.specs.declared.writer.Writer.{Writer}
+use Rattle.packed.specs.Writing.{WriterHolds, WriterRoom}
 
 -- ---- binary numbers
 
@@ -47,11 +45,11 @@ abbrev word : List Bool → ℕ → ℕ
 word values i = binary 64 (λ p. getD values (i * 64 + p) false)
 
 -- the first k words are in the buffer
-abbrev Filled : List Bool → ℕ → List ℕ → Type 0
-Filled values k out = (i : ℕ) → i < k → getD out i 0 ≡ word values i
+abbrev WordsIn : List Bool → ℕ → List ℕ → Type 0
+WordsIn values k out = (i : ℕ) → i < k → getD out i 0 ≡ word values i
 
-filled-more : (values : List Bool) (k v : ℕ) (out : List ℕ) → k < length out → Filled values k out → v ≡ word values k → Filled values (k + 1) (set out k v)
-filled-more values k v out h f e i l =
+words-more : (values : List Bool) (k v : ℕ) (out : List ℕ) → k < length out → WordsIn values k out → v ≡ word values k → WordsIn values (k + 1) (set out k v)
+words-more values k v out h f e i l =
     ⊎-elim
     (λ (q : i ≡ k). rw q (getD-set-same out k v 0 h ∙ e))
     (λ (q : i ≡ k → ⊥). getD-set-other out k i v 0 q ∙ f i (omega arith))
@@ -62,14 +60,13 @@ past-more k v out old e =
     drop-set-lt (k + 1) out k v (omega arith) ∙ sym (drop-drop 1 k out) ∙ ap (drop 1) e ∙ drop-drop 1 k old
 
 -- a buffer whose first words are those of the values, the rest as it was
-filled-all : (values : List Bool) (k : ℕ) (out old : List ℕ) → k ≡ wordCount (length values) → k ≤ length out
-    → Filled values k out → drop k out ≡ drop k old → out ≡ wordsOf values ++ drop (wordCount (length values)) old
-unfolding wordsOf
-filled-all values k out old e h f past =
+words-all : (values : List Bool) (k : ℕ) (out old : List ℕ) → k ≡ wordCount (length values) → k ≤ length out
+    → WordsIn values k out → drop k out ≡ drop k old → out ≡ wordsOf values ++ drop (wordCount (length values)) old
+words-all values k out old e h f past =
     let size : length (take k out) ≡ k = length-take-le k out h in
-    let front : take k out ≡ table k (word values) =
-    ext-getD 0 (take k out) (table k (word values)) (size ∙ sym (length-table k (word values)))
-    (λ i l. getD-take k out i 0 (omega arith) ∙ f i (omega arith) ∙ sym (getD-table k (word values) i 0 (omega arith))) in
+    let front : take k out ≡ wordsOf values =
+    ext-getD 0 (take k out) (wordsOf values) (size ∙ e ∙ sym (length-words values))
+    (λ i l. getD-take k out i 0 (omega arith) ∙ f i (omega arith) ∙ sym (getD-words values i (omega (arith, e)))) in
     sym (take-append-drop k out) ∙ rw (front, past, e)
 
 -- ---- a run of values more: the word goes on, or is whole
@@ -78,12 +75,12 @@ filled-all values k out old e h f past =
 abbrev pub longer : ℕ → ℕ → Bool → ℕ
 longer word k v = word * 2 ^ k + cond v (2 ^ k - 1) 0
 
-module _ {values : List Bool} {w : Writer} {old out : List ℕ} (h : Holds values w old out) where
+module _ {values : List Bool} {w : Writer} {old out : List ℕ} (h : WriterHolds values w old out) where
   begun-lt : w .word < 2 ^ (w .taken % 64)
   begun-lt = rw (h .begun) (binary-lt (w .taken % 64) _)
 
   -- whole words stay as they are when values follow
-  stay : (more : List Bool) → Filled (values ++ more) (w .taken / 64) out
+  stay : (more : List Bool) → WordsIn (values ++ more) (w .taken / 64) out
   stay more i l =
       h .whole i l
       ∙ binary-same 64 _ _ (λ p q. sym (List·getD-append values more false (i * 64 + p) (omega (arith, h .count))))
@@ -112,7 +109,7 @@ module _ {values : List Bool} {w : Writer} {old out : List ℕ} (h : Holds value
     shifted room = shl-exact (w .taken % 64) k 64 begun-lt room
 
     module _ (word : ℕ) (is : word ≡ longer (w .word) k v) (room : w .taken % 64 + k ≤ 64) where
-      pub begun-more : ((w .taken + k) % 64 ≡ 0 → ⊥) → Holds (values ++ replicate k v) (record { taken = w .taken + k; word = word }) old out
+      pub begun-more : ((w .taken + k) % 64 ≡ 0 → ⊥) → WriterHolds (values ++ replicate k v) (record { taken = w .taken + k; word = word }) old out
       begun-more r =
           let same : (w .taken + k) / 64 ≡ w .taken / 64 = omega arith in
           let next : (w .taken + k) % 64 ≡ w .taken % 64 + k = omega arith in
@@ -125,7 +122,7 @@ module _ {values : List Bool} {w : Writer} {old out : List ℕ} (h : Holds value
           }
 
       pub whole-more : 1 ≤ k → (w .taken + k) % 64 ≡ 0 → w .taken < 64 * length out
-          → Holds (values ++ replicate k v) (record { taken = w .taken + k; word = 0 }) old (set out (w .taken / 64) word)
+          → WriterHolds (values ++ replicate k v) (record { taken = w .taken + k; word = 0 }) old (set out (w .taken / 64) word)
       unfolding binary
       whole-more some r l =
           let next : (w .taken + k) / 64 ≡ w .taken / 64 + 1 = omega arith in
@@ -134,20 +131,33 @@ module _ {values : List Bool} {w : Writer} {old out : List ℕ} (h : Holds value
             count = taken-more;
             begun = rw r;
             size = length-set out (w .taken / 64) word ∙ h .size;
-            whole = rw next (filled-more (values ++ replicate k v) (w .taken / 64) word out (omega arith) (stay (replicate k v)) (rw all at (is ∙ word-more)));
+            whole = rw next (words-more (values ++ replicate k v) (w .taken / 64) word out (omega arith) (stay (replicate k v)) (rw all at (is ∙ word-more)));
             past = rw next (past-more (w .taken / 64) word out old (h .past));
           }
 
--- ---- the start and the end
+-- ---- the start, what comes next, and the end
 
-pub holds-none : (out : List ℕ) → Holds [] (record { taken = 0; word = 0 }) out out
+pub holds-none : (out : List ℕ) → WriterHolds [] (record { taken = 0; word = 0 }) out out
 unfolding binary
 holds-none out = record { count = refl; begun = refl; size = refl; whole = λ i l. absurd (omega arith); past = refl }
 
-module _ {values : List Bool} {w : Writer} {old out : List ℕ} (h : Holds values w old out) (room : w .taken ≤ 64 * length out) where
+pub room-for : {values : List Bool} {w : Writer} {old out : List ℕ} → WriterHolds values w old out → (more : ℕ)
+    → length values + more ≤ 64 * length old → length values + more ≤ 64 * maxWords → WriterRoom w more out
+room-for {values} {old = old} h more fits bounded = record {
+  values = values;
+  old = old;
+  holds = h;
+  fits = omega (arith, h .count, h .size);
+  bounded = omega (arith, h .count);
+}
+
+pub less-room : {w : Writer} {more : ℕ} {out : List ℕ} → WriterRoom w more out → (k : ℕ) → k ≤ more → WriterRoom w k out
+less-room r k h = record { values = r .values; old = r .old; holds = r .holds; fits = omega (arith, r .fits); bounded = omega (arith, r .bounded) }
+
+module _ {values : List Bool} {w : Writer} {old out : List ℕ} (h : WriterHolds values w old out) (room : w .taken ≤ 64 * length out) where
   pub finished-whole : w .taken % 64 ≡ 0 → out ≡ wordsOf values ++ drop (wordCount (length values)) old
   unfolding wordCount
-  finished-whole r = filled-all values (w .taken / 64) out old (omega (arith, h .count)) (omega arith) (h .whole) (h .past)
+  finished-whole r = words-all values (w .taken / 64) out old (omega (arith, h .count)) (omega arith) (h .whole) (h .past)
 
   pub finished-begun : (w .taken % 64 ≡ 0 → ⊥)
       → set out (w .taken / 64) ((w .word * 2 ^ (64 - w .taken % 64)) % 2 ^ 64) ≡ wordsOf values ++ drop (wordCount (length values)) old
@@ -162,5 +172,5 @@ module _ {values : List Bool} {w : Writer} {old out : List ℕ} (h : Holds value
       let spare = binary-run rest (64 - rest) f false (λ p l q. List·getD-eq-default values false (omega (arith, h .count))) in
       let whole : w .word * 2 ^ (64 - rest) ≡ binary (rest + (64 - rest)) f = omega (arith, ap (λ (m : ℕ). m * 2 ^ (64 - rest)) (h .begun), spare) in
       let last : v ≡ word values k = exact ∙ whole ∙ ap (λ (m : ℕ). binary m f) all in
-      filled-all values (k + 1) (set out k v) old (omega (arith, h .count)) (omega (arith, length-set out k v))
-      (filled-more values k v out (omega arith) (h .whole) last) (past-more k v out old (h .past))
+      words-all values (k + 1) (set out k v) old (omega (arith, h .count)) (omega (arith, length-set out k v))
+      (words-more values k v out (omega arith) (h .whole) last) (past-more k v out old (h .past))

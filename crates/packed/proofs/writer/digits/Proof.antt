@@ -1,11 +1,11 @@
--- `filling::digits` meets its contract. Assumes nothing.
+-- `packed::writer::digits` meets its contract. Assumes nothing.
 use mathlib.Core.Path.{ap}
 use Prim.Native.Nat.{ℕ, _-_}
 use native.Mathlib.Omega.{arith}
 use borrow.Author.Needs.{needs}
 use Rattle.packed.proofs.Form.{one-shl, mask-fits}
-use Rattle.filling.proofs.digits.Statement.{statement}
-use Rattle.filling.proofs.digits.Tie as tie
+use Rattle.packed.proofs.writer.digits.Statement.{statement}
+use Rattle.packed.proofs.writer.digits.Tie as tie
 
 shl-result : tie.Need-shl-result
 shl-result c = search needs

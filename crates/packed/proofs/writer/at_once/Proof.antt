@@ -1,8 +1,8 @@
--- `filling::at_once` meets its contract. Assumes nothing.
+-- `packed::writer::at_once` meets its contract. Assumes nothing.
 use native.Mathlib.Omega.{arith}
 use borrow.Author.Needs.{needs}
-use Rattle.filling.proofs.at_once.Statement.{statement}
-use Rattle.filling.proofs.at_once.Tie as tie
+use Rattle.packed.proofs.writer.at_once.Statement.{statement}
+use Rattle.packed.proofs.writer.at_once.Tie as tie
 
 sub-room : tie.Need-sub-room
 sub-room c = search needs

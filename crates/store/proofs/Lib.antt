@@ -3,6 +3,7 @@ pub mod RowLaws
 pub mod Demands
 pub mod Formed
 pub mod Cuts
+pub mod Within
 pub mod Append
 pub mod StandingLaws
 pub mod Examples

@@ -12,7 +12,7 @@ use lib.ListN.{length, getD, set, length-set, replicate, length-replicate, getD-
 use lib.Seq.{getD-set-same, getD-set-other}
 use lib.Dec.{eqb}
 use Rattle.lists.proofs.Cases.{eq-or-ne}
-use Rattle.buckets.specs.Buckets.{lastIn, Holds}
+use Rattle.buckets.specs.Buckets.{lastIn, IndexHolds}
 
 module _ (bucketOf : ℕ → ℕ) where
   last-here : (k b : ℕ) → bucketOf k ≡ b → lastIn bucketOf (k + 1) b ≡ k + 1
@@ -56,15 +56,15 @@ module _ (bucketOf : ℕ → ℕ) where
           (eq-or-ne i k)
 
   -- so the walk of a bucket falls
-  pub next-below : (k c : ℕ) (heads nexts : List ℕ) → Holds bucketOf k heads nexts → c < k → getD nexts c 0 ≤ c
+  pub next-below : (k c : ℕ) (heads nexts : List ℕ) → IndexHolds bucketOf k heads nexts → c < k → getD nexts c 0 ≤ c
   next-below k c heads nexts r h = omega (arith, r .next c h, last-most c (bucketOf c))
 
-  pub holds-none : (n : ℕ) (nexts : List ℕ) → Holds bucketOf 0 (replicate n 0) nexts
+  pub holds-none : (n : ℕ) (nexts : List ℕ) → IndexHolds bucketOf 0 (replicate n 0) nexts
   unfolding lastIn
   holds-none n nexts = record { head = λ b h. getD-replicate n b 0 0 (omega (arith, length-replicate {A = ℕ} n 0)); next = λ c h. absurd (not-suc-le-zero h) }
 
-  pub holds-more : (k b : ℕ) (heads nexts : List ℕ) → b < length heads → k < length nexts → bucketOf k ≡ b → Holds bucketOf k heads nexts
-      → Holds bucketOf (k + 1) (set heads b (k + 1)) (set nexts k (getD heads b 0))
+  pub holds-more : (k b : ℕ) (heads nexts : List ℕ) → b < length heads → k < length nexts → bucketOf k ≡ b → IndexHolds bucketOf k heads nexts
+      → IndexHolds bucketOf (k + 1) (set heads b (k + 1)) (set nexts k (getD heads b 0))
   holds-more k b heads nexts h l e r = record {
     head = λ a g. ⊎-elim
         (λ s. rw s (getD-set-same heads b (k + 1) 0 h ∙ sym (last-here k b e)))

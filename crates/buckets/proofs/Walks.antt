@@ -11,7 +11,7 @@ use lib.Seq.{length-take-le, getD-take, take-length}
 use Rattle.lists.specs.Tests.{anyOf}
 use Rattle.lists.proofs.Cases.{never, bool-ext, lt-or-le, eq-or-ne}
 use Rattle.lists.proofs.Members.{any-at, any-in}
-use Rattle.buckets.specs.Buckets.{lastIn, Holds}
+use Rattle.buckets.specs.Buckets.{lastIn, IndexHolds}
 use Rattle.buckets.proofs.Index.{last-most, last-in, none-after}
 
 module _ {A : Type 0} (q : A → Bool) (l : List A) (d : A) where
@@ -39,40 +39,40 @@ module _ {A : Type 0} (q : A → Bool) (l : List A) (d : A) where
           passes (r .0) k m (omega arith) (rw (getD-take j l (r .0) d f) at (r .2))
 
   module _ (bucketOf : ℕ → ℕ) (b : ℕ) where
-    -- left, from 1, is the place that comes next, 0 at the end: what passes, if anything does, is not after it
-    pub record Walk (left : ℕ) : Type 0 where
-      pub rest : anyOf q l ≡ anyOf q (take left l)
-      pub within : left ≤ length l
-      pub inside : (c : ℕ) → left ≡ c + 1 → bucketOf c ≡ b
+    -- `number`, from 1, is the place that comes next, 0 at the end: what passes, if anything does, is not after it
+    pub record Walk (number : ℕ) : Type 0 where
+      pub rest : anyOf q l ≡ anyOf q (take number l)
+      pub within : number ≤ length l
+      pub inside : (c : ℕ) → number ≡ c + 1 → bucketOf c ≡ b
 
-    module _ (heads nexts : List ℕ) (index : Holds bucketOf (length l) heads nexts) (own : (c : ℕ) → c < length l → q (getD l c d) ≡ true → bucketOf c ≡ b) where
-      pub begin : b < length heads → (left : ℕ) → left ≡ getD heads b 0 → Walk left
-      begin h left e =
+    module _ (heads nexts : List ℕ) (index : IndexHolds bucketOf (length l) heads nexts) (own : (c : ℕ) → c < length l → q (getD l c d) ≡ true → bucketOf c ≡ b) where
+      pub begin : b < length heads → (number : ℕ) → number ≡ getD heads b 0 → Walk number
+      begin h number e =
           let k : ℕ = length l in
-          let at : left ≡ lastIn bucketOf k b = e ∙ index .head b h in
-          let most : left ≤ k = omega (arith, last-most bucketOf k b) in
+          let at : number ≡ lastIn bucketOf k b = e ∙ index .head b h in
+          let most : number ≤ k = omega (arith, last-most bucketOf k b) in
           record {
-            rest = ap (anyOf q) (sym (take-length l)) ∙ any-front left k most (omega arith) (λ i f g p. none-after bucketOf k b i (omega arith) g (own i g p));
+            rest = ap (anyOf q) (sym (take-length l)) ∙ any-front number k most (omega arith) (λ i f g p. none-after bucketOf k b i (omega arith) g (own i g p));
             within = most;
             inside = λ c f. last-in bucketOf k b c (sym at ∙ f);
           }
 
-      pub go-on : (left c : ℕ) → Walk left → left ≡ c + 1 → q (getD l c d) ≡ false → (then : ℕ) → then ≡ getD nexts c 0 → Walk then
-      go-on left c w e miss then f =
+      pub go-on : (number c : ℕ) → Walk number → number ≡ c + 1 → q (getD l c d) ≡ false → (then : ℕ) → then ≡ getD nexts c 0 → Walk then
+      go-on number c w e miss then f =
           let here : bucketOf c ≡ b = w .inside c e in
           let low : c < length l = omega (arith, w .within) in
           let at : then ≡ lastIn bucketOf c b = f ∙ index .next c low ∙ ap (lastIn bucketOf c) here in
           let most : then ≤ c = omega (arith, last-most bucketOf c b) in
           record {
-            rest = w .rest ∙ any-front then left (omega arith) (w .within) (λ i g h p.
+            rest = w .rest ∙ any-front then number (omega arith) (w .within) (λ i g h p.
                 ⊎-elim (λ s. never (sym miss ∙ rw s at p)) (λ n. none-after bucketOf c b i (omega arith) (omega arith) (own i (omega (arith, w .within)) p)) (eq-or-ne i c));
             within = omega arith;
             inside = λ k g. last-in bucketOf c b k (sym at ∙ g);
           }
 
-    pub hit : (left c : ℕ) → Walk left → left ≡ c + 1 → q (getD l c d) ≡ true → anyOf q l ≡ true
-    hit left c w e p = any-in q l d c (omega (arith, w .within)) p
+    pub hit : (number c : ℕ) → Walk number → number ≡ c + 1 → q (getD l c d) ≡ true → anyOf q l ≡ true
+    hit number c w e p = any-in q l d c (omega (arith, w .within)) p
 
-    pub end : (left : ℕ) → Walk left → left ≡ 0 → anyOf q l ≡ false
+    pub end : (number : ℕ) → Walk number → number ≡ 0 → anyOf q l ≡ false
     unfolding anyOf
-    end left w e = w .rest ∙ rw e
+    end number w e = w .rest ∙ rw e

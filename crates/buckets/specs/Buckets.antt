@@ -12,6 +12,6 @@ lastIn bucketOf zero b = 0
 lastIn bucketOf (suc k) b = cond (eqb (bucketOf k) b) (suc k) (lastIn bucketOf k b)
 
 -- an index of 0, .., k - 1: the last in each bucket, and for each the last before it in its own
-pub record Holds (bucketOf : ℕ → ℕ) (k : ℕ) (heads nexts : List ℕ) : Type 0 where
+pub record IndexHolds (bucketOf : ℕ → ℕ) (k : ℕ) (heads nexts : List ℕ) : Type 0 where
   pub head : (b : ℕ) → b < length heads → getD heads b 0 ≡ lastIn bucketOf k b
   pub next : (c : ℕ) → c < k → getD nexts c 0 ≡ lastIn bucketOf c (bucketOf c)

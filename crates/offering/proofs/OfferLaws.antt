@@ -1,4 +1,4 @@
--- What an offer answers: one law for each way out, and what the row and the formula are that it checks. Assumes nothing.
+-- What an offer answers: one law for each way out, and what the row is that it checks. Assumes nothing.
 use mathlib.Core.Path.{_≡_, _∙_}
 use mathlib.Core.List.{List, _++_}
 use Prim.Native.Nat.{ℕ, _+_, _≤_, _<_}
@@ -6,15 +6,12 @@ use native.Mathlib.Omega.{arith}
 use borrow.Author.Tests.{eq-eqb, ne-eqb, le-leb, lt-leb}
 use lib.ListN.{length, take, drop, length-append, length-drop}
 use lib.Seq.{take-at}
-use Rattle.store.specs.Stores.{Store, cut, plainOf}
+use Rattle.store.specs.Stores.{Store, plainOf}
 use Rattle.store.specs.declared.refusal.Refusal.{Refusal}
-use Rattle.store.proofs.Demands.{used}
-use Rattle.store.proofs.Formed.{Formed}
 use Rattle.permutation.specs.Stated.{statedBy, rowStated}
 use Rattle.permutation.specs.declared.Stated.{Stated}
 use Rattle.permutation.proofs.RowLaws.{row-length}
 use Rattle.symmetry.specs.Symmetry.{firstMissing}
-use Rattle.symmetry.proofs.Facts.{cut-used}
 use Rattle.offering.specs.Offering.{rowFor, imagesNeeded, ifRoom, ifSymmetry, offeredBy}
 use Rattle.offering.specs.declared.Offered.{Offered}
 
@@ -30,11 +27,6 @@ module _ (s : Store) (names values : List ℕ) where
   pub not-stated : (r : Refusal) → statedBy (s .counts .variables) names values ≡ Stated.Refused r → offeredBy s names values ≡ Offered.Refused r
   unfolding offeredBy
   not-stated r e = rw e
-
-  -- the first clause of the entries in use whose image is missing is that of the plain formula
-  pub missing-plain : Formed s → (row : List ℕ) (k : ℕ) → row ≡ rowFor s names values → k ≡ used s
-      → firstMissing row (cut 0 (take k (s .literals)) (take (s .counts .clauses) (s .ends))) ≡ firstMissing (rowFor s names values) (plainOf s)
-  missing-plain f row k e q = rw (e, q, cut-used s f)
 
   module _ (stated : statedBy (s .counts .variables) names values ≡ Stated.Permutation) (missing : ℕ)
       (is : missing ≡ firstMissing (rowFor s names values) (plainOf s)) where

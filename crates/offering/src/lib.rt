@@ -1,14 +1,12 @@
-// An offer: two lines are read as a permutation, which is checked to be a symmetry of the plain formula and then held as a row (document 01,
-// "Permutations"). The row is made in scratch memory, so that a refused offer writes nothing.
+// An offer: two lines are read as a permutation, which is checked to be a symmetry of the plain formula and then held as a row (document
+// 01, "Permutations"). The row is made in scratch memory, so that a refused offer writes nothing.
 use permutation::Stated;
 use store::record::Record;
 use store::refusal::Refusal;
 ghost use mathlib.Core.Path.{_≡_};
 ghost use mathlib.Core.Bool.{true};
-ghost use mathlib.Core.List.{_++_};
-ghost use Prim.Native.Nat.{_+_, _*_, _≤_, _<_};
-ghost use lib.ListN.{length, take, drop};
-ghost use Rattle.store.specs.Stores.{lent, wellFormed, maxVariables, maxRows};
+ghost use Prim.Native.Nat.{_<_};
+ghost use Rattle.store.specs.Stores.{stored, wellFormed, maxRows};
 ghost use Rattle.offering.specs.Offering.{offeredBy, imagesAfter, rowFor};
 
 pub enum Offered {
@@ -25,12 +23,13 @@ pub fn offer(
     names: &[u8],
     values: &[u8],
 ) -> Offered
-    requires { ⌜ (wellFormed (lent counts (now literals) (now ends) (now images)) ≡ true) × (counts .rows < maxRows) ⌝ }
-    ensures answer { λ r. ⌜ r ≡ offeredBy (lent counts (now (literals .entry)) (now (ends .entry)) (now (images .entry))) (now (names .entry)) (now (values .entry)) ⌝ }
-    ensures images { λ r. ⌜ now (images .exit) ≡ imagesAfter r (lent counts (now (literals .entry)) (now (ends .entry)) (now (images .entry))) (rowFor (lent counts (now (literals .entry)) (now (ends .entry)) (now (images .entry))) (now (names .entry)) (now (values .entry))) ⌝ }
+    requires { ⌜ (wellFormed (stored counts literals ends images) ≡ true) × (counts .rows < maxRows) ⌝ }
+    ensures answer { λ r. let s = stored counts (literals .entry) (ends .entry) (images .entry) in
+        ⌜ r ≡ offeredBy s (now (names .entry)) (now (values .entry)) ⌝ }
+    ensures images { λ r. let s = stored counts (literals .entry) (ends .entry) (images .entry) in
+        ⌜ now (images .exit) ≡ imagesAfter r s (rowFor s (now (names .entry)) (now (values .entry))) ⌝ }
 {
     let n = counts.variables;
-    let m = counts.clauses;
     let rows = counts.rows;
     let stated = permutation::check(names, values, n);
     if let Stated::Refused(refusal) = stated {
@@ -38,8 +37,7 @@ pub fn offer(
     }
     let mut row = [0u16; 512];
     permutation::fill_row(names, values, n, &mut row);
-    let used = store::clauses::literal_count(ends, m);
-    let missing = symmetry::first_missing(&literals[..used], &ends[..m], &row[..n]);
+    let missing = symmetry::first_missing(literals, ends, counts.clauses, &row[..n]);
     if missing != 0 {
         return Offered::Refused(Refusal::NoSymmetry(missing));
     }

@@ -6,7 +6,7 @@ use mathlib.Core.Logic.{_⊎_, inl, inr, ⊎-elim}
 use Prim.Native.Nat.{ℕ, _%_, _≤_, _<_}
 use native.Mathlib.Omega.{arith}
 use native.Mathlib.Decide.{ℕ-discrete}
-use borrow.Author.Tests.{ne-eqb, not-true, le-leb}
+use borrow.Author.Tests.{eq-eqb, ne-eqb, not-true, le-leb}
 use Rattle.lists.proofs.Cases.{and-r, not-so}
 use Rattle.dimacs.specs.declared.Number.{Number}
 use Rattle.dimacs.proofs.WordLaws.{pieceAt}
@@ -27,13 +27,13 @@ unfolding isImage isLiteral
 is-image n code low high even = rw (le-leb 1 (variableOf code) low, le-leb (variableOf code) n high, ne-eqb (code % 2) 1 (λ e. omega arith))
 
 pub no-image : (n code : ℕ) → code ≡ 0 → isImage n code ≡ false
-no-image n code e = image-positive n code (λ o. omega arith) ∙ literal-zero n code (omega arith)
+no-image n code e = image-positive n code (ne-eqb (code % 2) 1 (λ o. omega arith)) ∙ literal-zero n code (omega arith)
 
 -- ---- the ways out of `name_of`
 
 module _ (n s : ℕ) where
   pub name-negative : 0 ≡ cond (isImage n (codeOf s true)) s 0
-  name-negative = rw (image-negative n (codeOf s true) (omega arith))
+  name-negative = rw (image-negative n (codeOf s true) (eq-eqb (codeOf s true % 2) 1 (omega arith)))
 
   pub name-beyond : n < s → 0 ≡ cond (isImage n (codeOf s false)) s 0
   name-beyond h = rw (not-so (isImage n (codeOf s false)) (λ i. omega (arith, literal-high n (codeOf s false) (image-literal n (codeOf s false) i))))

@@ -6,7 +6,7 @@ use mathlib.Core.List.{List, [], _∷_, _++_, map, append-nil, append-assoc}
 use mathlib.Core.Logic.{_⊎_, inl, inr}
 use Prim.Native.Nat.{ℕ, _+_, _-_, _*_, _/_, _%_, _^_, _≤_, _<_}
 use native.Mathlib.Omega.{arith}
-use borrow.Author.Tests.{eqb-true, leb-true, le-leb, not-true}
+use borrow.Author.Tests.{eq-eqb, ne-eqb, eqb-true, leb-true, le-leb, not-true}
 use lib.Dec.{eqb, leb}
 use lib.ListN.{length}
 use Rattle.lists.specs.Tests.{allOf}
@@ -102,8 +102,7 @@ plain-read ds is = go (sizeOf ds) refl is
   where
     go : (s : Size) → sizeOf ds ≡ s → isNumeral (positive s) ≡ true → literalText (numeralCode (positive s)) ≡ ds
     go (Size.Is v) e is =
-        let half : (2 * v + 0) / 2 ≡ v = omega arith in
-        text-plain (2 * v + 0) (λ odd. omega arith) ∙ ap decimal half ∙ digits-written ds v (digits-of ds v e)
+        text-plain (2 * v + 0) v (omega arith) (ne-eqb ((2 * v + 0) % 2) 1 (λ odd. omega arith)) ∙ digits-written ds v (digits-of ds v e)
     go Size.Not e is = never is
 
 minus-read : (ds : List ℕ) → isNumeral (negated (sizeOf ds)) ≡ true → literalText (numeralCode (negated (sizeOf ds))) ≡ 45 ∷ ds
@@ -116,8 +115,8 @@ minus-read ds is = go (sizeOf ds) refl is
             → literalText (numeralCode (cond zero Numeral.Not (Numeral.Is (record { negative = true; size = v })))) ≡ 45 ∷ ds
         by true is = never is
         by false is =
-            let half : (2 * v + 1) / 2 ≡ v = omega arith in
-            text-negative (2 * v + 1) (omega arith) ∙ ap (λ (x : ℕ). 45 ∷ decimal x) half ∙ ap (λ (l : List ℕ). 45 ∷ l) (digits-written ds v (digits-of ds v e))
+            text-negative (2 * v + 1) v (omega arith) (eq-eqb ((2 * v + 1) % 2) 1 (omega arith))
+            ∙ ap (λ (l : List ℕ). 45 ∷ l) (digits-written ds v (digits-of ds v e))
     go Size.Not e is = never is
 
 bytes-read : (bytes : List ℕ) → isNumeral (numberOf bytes) ≡ true → literalText (numeralCode (numberOf bytes)) ≡ bytes
@@ -147,7 +146,7 @@ pub clause-as-read : (words : List Piece) (closing : Piece) → allOf isNumber w
     → clauseLine (map codeIn words) ≡ spaced words closing
 unfolding clauseLine spaced allOf
 clause-as-read [] closing all is zero =
-    ap (λ (l : List ℕ). l ++ 10 ∷ []) (sym (text-plain 0 (λ odd. omega arith) ∙ decimal-one 0 (omega arith)) ∙ ap literalText (sym zero) ∙ literal-as-read closing is)
+    ap (λ (l : List ℕ). l ++ 10 ∷ []) (sym (text-plain 0 0 refl refl ∙ decimal-one 0 (omega arith)) ∙ ap literalText (sym zero) ∙ literal-as-read closing is)
 clause-as-read (w ∷ words) closing all is zero =
     ap₂ (λ (a b : List ℕ). a ++ 32 ∷ b) (literal-as-read w (and-l (isNumber w) (allOf isNumber words) all))
     (clause-as-read words closing (and-r (isNumber w) (allOf isNumber words) all) is zero)

@@ -1,14 +1,13 @@
 -- Literals, clauses and the header as bytes: their lengths, and how a loop over a clause measures and writes its line. Assumes nothing.
 use mathlib.Core.Path.{_≡_, refl, sym, ap, _∙_}
+use mathlib.Core.Bool.{Bool, true, false}
 use mathlib.Core.List.{List, [], _∷_, _++_, append-assoc}
-use mathlib.Core.Logic.{⊎-elim}
-use Prim.Native.Nat.{ℕ, suc, _+_, _*_, _/_, _%_, _^_, _≤_, _<_, zero-le, suc-le-suc}
+use Prim.Native.Nat.{ℕ, suc, _+_, _*_, _^_, _≤_, _<_, zero-le, suc-le-suc}
 use native.Mathlib.Nat.{mul-suc}
 use native.Mathlib.Omega.{arith}
-use borrow.Author.Tests.{eq-eqb, ne-eqb}
 use lib.ListN.{length, getD, drop, length-append, drop-of-length-le}
-use Rattle.lists.proofs.Cases.{eq-or-ne}
 use Rattle.lists.proofs.Steps.{drop-step}
+use Rattle.store.specs.Literals.{variableOf, isNegative}
 use Rattle.store.specs.Stores.{maxLiterals}
 use Rattle.render.specs.Text.{maxDigits, decimal, literalText, clauseLine, twoNumbers, headerLine, refusalLine, writtenAt}
 use Rattle.render.proofs.DigitLaws.{digits-most, digits-below}
@@ -16,17 +15,21 @@ use Rattle.render.proofs.Writing.{Wrote, length-written, written-writte
 
 -- ---- a literal
 
-pub text-negative : (code : ℕ) → code % 2 ≡ 1 → literalText code ≡ 45 ∷ decimal (code / 2)
-unfolding literalText
-text-negative code h = rw (eq-eqb (code % 2) 1 h)
+module _ (code v : ℕ) (is : v ≡ variableOf code) where
+  pub text-negative : isNegative code ≡ true → literalText code ≡ 45 ∷ decimal v
+  unfolding literalText
+  text-negative e = rw (e, is)
 
-pub text-plain : (code : ℕ) → (code % 2 ≡ 1 → ⊥) → literalText code ≡ decimal (code / 2)
-unfolding literalText
-text-plain code h = rw (ne-eqb (code % 2) 1 h)
+  pub text-plain : isNegative code ≡ false → literalText code ≡ decimal v
+  unfolding literalText
+  text-plain e = rw (e, is)
 
-pub length-text : (code : ℕ) → length (literalText code) ≡ length (decimal (code / 2)) + code % 2
-length-text code =
-    ⊎-elim (λ h. omega (arith, ap length (text-negative code h))) (λ h. omega (arith, ap length (text-plain code h))) (eq-or-ne (code % 2) 1)
+text-most : (code : ℕ) → length (literalText code) ≤ length (decimal (variableOf code)) + 1
+text-most code = by (isNegative code) refl
+  where
+    by : (b : Bool) → isNegative code ≡ b → length (literalText code) ≤ length (decimal (variableOf code)) + 1
+    by true e = omega (arith, ap length (text-negative code _ refl e))
+    by false e = omega (arith, ap length (text-plain code _ refl e))
 
 -- ---- lines of two numbers
 
@@ -86,11 +89,11 @@ line-some (code ∷ clause) = omega (arith, length-append (literalText code) (32
 
 -- a literal of any variable has a sign and the digits of a number
 pub line-short : (clause : List ℕ) → length (clauseLine clause) ≤ (maxDigits + 2) * length clause + 2
-line-short clause = line-most (maxDigits + 1) clause (λ k _. omega (arith, length-text (getD clause k 0), digits-most (getD clause k 0 / 2)))
+line-short clause = line-most (maxDigits + 1) clause (λ k _. omega (arith, text-most (getD clause k 0), digits-most (variableOf (getD clause k 0))))
 
 -- one of a variable below 100,000 has at most 6 bytes
-pub line-within : (clause : List ℕ) → ((i : ℕ) → i < length clause → getD clause i 0 / 2 < 10 ^ 5) → length (clauseLine clause) ≤ 7 * length clause + 2
-line-within clause f = line-most 6 clause (λ i h. omega (arith, length-text (getD clause i 0), digits-below 4 (getD clause i 0 / 2) (f i h)))
+pub line-within : (clause : List ℕ) → ((i : ℕ) → i < length clause → variableOf (getD clause i 0) < 10 ^ 5) → length (clauseLine clause) ≤ 7 * length clause + 2
+line-within clause f = line-most 6 clause (λ i h. omega (arith, text-most (getD clause i 0), digits-below 4 (variableOf (getD clause i 0)) (f i h)))
 
 -- ---- a clause's line measured: n bytes for the literals before i and the line's end
 

@@ -1,5 +1,6 @@
-// Numbers, literals, clauses and the header as bytes in a lent buffer (document 01, "Made formula"). Each `put_` writes from a place on and answers the
-// place after what it wrote; each `_length` says beforehand how many bytes that is.
+// Numbers, literals, clauses and the header as bytes in a lent buffer (document 01, "Made formula"). Each `put_` writes from a place on and
+// answers the place after what it wrote; each `_length` says beforehand how many bytes that is.
+use store::literal;
 ghost use mathlib.Core.Path.{_≡_};
 ghost use mathlib.Core.List.{[], _∷_, _++_};
 ghost use Prim.Native.Nat.{_+_, _≤_};
@@ -54,7 +55,7 @@ pub fn stored_length(clause: &[u16]) -> usize
     let mut length = 2;
     let mut i = 0;
     while i < clause.len() {
-        length += literal_length(store::literal::wide(clause[i])) + 1;
+        length += literal_length(literal::wide(clause[i])) + 1;
         i += 1;
     }
     length
@@ -68,7 +69,7 @@ pub fn put_stored(out: &mut [u8], at: usize, clause: &[u16]) -> usize
     let mut next = at;
     let mut i = 0;
     while i < clause.len() {
-        next = put_word(out, next, store::literal::wide(clause[i]));
+        next = put_word(out, next, literal::wide(clause[i]));
         i += 1;
     }
     put_end(out, next)
@@ -143,7 +144,11 @@ fn put_word(out: &mut [u8], at: usize, code: u32) -> usize
 fn literal_length(code: u32) -> usize
     ensures { λ r. ⌜ r ≡ length (literalText code) ⌝ }
 {
-    digit_count((code / 2) as u64) + (code % 2) as usize
+    let digits = digit_count(literal::variable(code) as u64);
+    if literal::is_negative(code) {
+        return digits + 1;
+    }
+    digits
 }
 
 fn put_literal(out: &mut [u8], at: usize, code: u32) -> usize
@@ -151,11 +156,12 @@ fn put_literal(out: &mut [u8], at: usize, code: u32) -> usize
     ensures next { λ r. ⌜ r ≡ at + length (literalText code) ⌝ }
     ensures bytes { λ _. ⌜ now (out .exit) ≡ writtenAt at (literalText code) (now (out .entry)) ⌝ }
 {
-    if code % 2 == 1 {
+    let variable = literal::variable(code) as u64;
+    if literal::is_negative(code) {
         out[at] = b'-';
-        return put_number(out, at + 1, (code / 2) as u64);
+        return put_number(out, at + 1, variable);
     }
-    put_number(out, at, (code / 2) as u64)
+    put_number(out, at, variable)
 }
 
 // A number: its digits are counted, and then written from the last one on.

@@ -1,48 +1,52 @@
 -- The test of a store's form: one law for each way out of the functions that make it. Assumes nothing.
 use mathlib.Core.Path.{_≡_, refl, sym, _∙_}
 use mathlib.Core.Bool.{Bool, true, false, not, _&&_, _||_, and-false, and-true, or-true, or-false}
-use mathlib.Core.List.{List, _∷_, map}
-use Prim.Native.Nat.{ℕ, suc, _+_, _-_, _/_, _%_, _≤_, _<_}
+use mathlib.Core.List.{List, map}
+use Prim.Native.Nat.{ℕ, _+_, _-_, _≤_, _<_}
 use native.Mathlib.Decide.{ℕ-discrete}
 use native.Mathlib.Omega.{arith}
 use borrow.Author.Tests.{eq-eqb, ne-eqb, lt-leb, le-leb, leb-true}
 use lib.ListN.{length, getD, take, drop, set, drop-of-length-le, length-map, length-set, List·getD-map, replicate, length-replicate, getD-replicate}
-use lib.Seq.{drop-drop, getD-set-same, getD-set-other, take-all}
+use lib.Seq.{getD-set-same, getD-set-other, take-all}
 use lib.Dec.{eqb, leb}
 use Rattle.lists.specs.Tests.{allOf, anyOf, has, distinct}
-use Rattle.lists.proofs.Cases.{and-l, and-r}
+use Rattle.lists.proofs.Cases.{and-l, and-r, and-both}
 use Rattle.lists.proofs.Members.{all-in, all-not}
 use Rattle.lists.proofs.Steps.{drop-step}
 use Rattle.lists.proofs.Distinct.{has-more, distinct-more, distinct-twice}
 use Rattle.store.specs.Literals.{variableOf, isNegative, isLiteral}
-use Rattle.store.specs.Stores.{rising, literalCount, rowsOf, isImage, isRow}
+use Rattle.store.specs.Stores.{rising, literalCount, isImage, isRow}
 
 -- ---- codes
 
 module _ (n code : ℕ) where
-  pub literal-zero : code / 2 ≡ 0 → isLiteral n code ≡ false
+  pub literal-zero : variableOf code ≡ 0 → isLiteral n code ≡ false
   unfolding isLiteral
-  literal-zero h = rw (lt-leb 1 (code / 2) (omega arith))
+  literal-zero h = rw (lt-leb 1 (variableOf code) (omega arith))
 
-  pub literal-most : (code / 2 ≡ 0 → ⊥) → isLiteral n code ≡ leb (code / 2) n
+  pub literal-most : (variableOf code ≡ 0 → ⊥) → isLiteral n code ≡ leb (variableOf code) n
   unfolding isLiteral
-  literal-most h = rw (le-leb 1 (code / 2) (omega arith))
+  literal-most h = rw (le-leb 1 (variableOf code) (omega arith))
 
-  pub image-negative : code % 2 ≡ 1 → isImage n code ≡ false
+  pub image-negative : isNegative code ≡ true → isImage n code ≡ false
   unfolding isImage
-  image-negative h = rw (eq-eqb (code % 2) 1 h, and-false (isLiteral n code))
+  image-negative e = rw (e, and-false (isLiteral n code))
 
-  pub image-positive : (code % 2 ≡ 1 → ⊥) → isImage n code ≡ isLiteral n code
+  pub image-positive : isNegative code ≡ false → isImage n code ≡ isLiteral n code
   unfolding isImage
-  image-positive h = rw (ne-eqb (code % 2) 1 h) (and-true (isLiteral n code))
+  image-positive e = rw e (and-true (isLiteral n code))
 
-  pub literal-low : isLiteral n code ≡ true → 1 ≤ code / 2
+  pub literal-low : isLiteral n code ≡ true → 1 ≤ variableOf code
   unfolding isLiteral
-  literal-low e = leb-true 1 (code / 2) (and-l (leb 1 (code / 2)) (leb (code / 2) n) e)
+  literal-low e = leb-true 1 (variableOf code) (and-l (leb 1 (variableOf code)) (leb (variableOf code) n) e)
 
-  pub literal-high : isLiteral n code ≡ true → code / 2 ≤ n
+  pub literal-high : isLiteral n code ≡ true → variableOf code ≤ n
   unfolding isLiteral
-  literal-high e = leb-true (code / 2) n (and-r (leb 1 (code / 2)) (leb (code / 2) n) e)
+  literal-high e = leb-true (variableOf code) n (and-r (leb 1 (variableOf code)) (leb (variableOf code) n) e)
+
+  pub literal-within : 1 ≤ variableOf code → variableOf code ≤ n → isLiteral n code ≡ true
+  unfolding isLiteral
+  literal-within low high = and-both (le-leb 1 (variableOf code) low) (le-leb (variableOf code) n high)
 
   pub image-literal : isImage n code ≡ true → isLiteral n code ≡ true
   unfolding isImage
@@ -77,7 +81,7 @@ count-last m ends e = rw (ne-eqb m 0 e)
 abbrev pub variables : List ℕ → List ℕ
 variables row = map variableOf row
 
-pub variable-at : (row : List ℕ) (i : ℕ) → getD (variables row) i 0 ≡ getD row i 0 / 2
+pub variable-at : (row : List ℕ) (i : ℕ) → getD (variables row) i 0 ≡ variableOf (getD row i 0)
 variable-at row i = List·getD-map variableOf row i 0
 
 -- The loop at index i: the codes before it are images with different variables, and `seen` marks these variables.
@@ -105,42 +109,36 @@ module _ (n : ℕ) (row : List ℕ) where
   unfolding isRow
   row-image i h e = rw (all-not (isImage n) row 0 i h e, and-false (eqb (length row) n))
 
-  module _ (seen : List Bool) (i : ℕ) (p : Passed n row seen i) (h : i < length row) where
+  -- v is the variable of the code at i
+  module _ (seen : List Bool) (i v : ℕ) (p : Passed n row seen i) (h : i < length row) (is : v ≡ variableOf (getD row i 0)) (low : v < 513) where
     inside : i < length (variables row)
     inside = rw (length-map row variableOf) h
 
-    seen-is : (b : Bool) → getD row i 0 / 2 < 513 → getD seen (getD row i 0 / 2) false ≡ b → has (take i (variables row)) (getD (variables row) i 0) ≡ b
-    seen-is b low e = rw (variable-at row i, ← (p .marked (getD row i 0 / 2) low)) e
+    here : getD (variables row) i 0 ≡ v
+    here = variable-at row i ∙ sym is
 
-    pub row-twice : getD row i 0 / 2 < 513 → getD seen (getD row i 0 / 2) false ≡ true → isRow n row ≡ false
+    seen-is : (b : Bool) → getD seen v false ≡ b → has (take i (variables row)) (getD (variables row) i 0) ≡ b
+    seen-is b e = rw (here, ← (p .marked v low)) e
+
+    pub row-twice : getD seen v false ≡ true → isRow n row ≡ false
     unfolding isRow
-    row-twice low e =
-        rw (distinct-twice (variables row) i inside (seen-is true low e), and-false (eqb (length row) n && allOf (isImage n) row))
+    row-twice e = rw (distinct-twice (variables row) i inside (seen-is true e), and-false (eqb (length row) n && allOf (isImage n) row))
 
-    pub passed-more : isImage n (getD row i 0) ≡ true → getD row i 0 / 2 < 513 → getD seen (getD row i 0 / 2) false ≡ false
-        → Passed n row (set seen (getD row i 0 / 2) true) (i + 1)
-    passed-more image low e = record {
-      room = length-set-is;
+    pub passed-more : isImage n (getD row i 0) ≡ true → getD seen v false ≡ false → Passed n row (set seen v true) (i + 1)
+    passed-more image e = record {
+      room = simp length-set (p .room);
       images = λ k l. more k (ℕ-discrete k i) l;
-      different = distinct-more (variables row) i inside (p .different) (seen-is false low e);
-      marked = λ v l. rw (has-more (variables row) i v inside, variable-at row i) (mark v l (ℕ-discrete v (getD row i 0 / 2)));
+      different = distinct-more (variables row) i inside (p .different) (seen-is false e);
+      marked = λ w l. rw (has-more (variables row) i w inside, here) (mark w l (ℕ-discrete w v));
     }
       where
-        length-set-is : length (set seen (getD row i 0 / 2) true) ≡ 513
-        length-set-is = simp length-set (p .room)
-
         more : (k : ℕ) → Dec (k ≡ i) → k < i + 1 → isImage n (getD row k 0) ≡ true
         more k (yes q) l = rw q image
         more k (no q) l = p .images k (omega arith)
 
-        mark : (v : ℕ) → v < 513 → Dec (v ≡ getD row i 0 / 2)
-            → getD (set seen (getD row i 0 / 2) true) v false ≡ (has (take i (variables row)) v || eqb (getD row i 0 / 2) v)
-        mark v l (yes q) =
-            rw (eq-eqb (getD row i 0 / 2) v (sym q), or-true (has (take i (variables row)) v), q)
-            (getD-set-same seen (getD row i 0 / 2) true false (omega (arith, p .room)))
-        mark v l (no q) =
-            rw (ne-eqb (getD row i 0 / 2) v (λ r. q (sym r)), or-false (has (take i (variables row)) v))
-            (getD-set-other seen (getD row i 0 / 2) v true false q ∙ p .marked v l)
+        mark : (w : ℕ) → w < 513 → Dec (w ≡ v) → getD (set seen v true) w false ≡ (has (take i (variables row)) w || eqb v w)
+        mark w l (yes q) = rw (eq-eqb v w (sym q), or-true (has (take i (variables row)) w), q) (getD-set-same seen v true false (omega (arith, p .room)))
+        mark w l (no q) = rw (ne-eqb v w (λ r. q (sym r)), or-false (has (take i (variables row)) w)) (getD-set-other seen v w true false q ∙ p .marked w l)
 
   pub row-all : (seen : List Bool) (i : ℕ) → Passed n row seen i → length row ≡ n → length row ≤ i → isRow n row ≡ true
   unfolding isRow

@@ -2,12 +2,12 @@
 use mathlib.Core.Path.{_≡_, refl, sym, ap, _∙_}
 use mathlib.Core.Bool.{true, not, _&&_}
 use mathlib.Core.List.{List, [], _∷_}
-use Prim.Native.Nat.{ℕ, zero, suc, _+_, _-_, _*_, _/_, _%_, _≤_, _<_}
+use Prim.Native.Nat.{ℕ, zero, suc, _+_, _-_, _*_, _%_, _≤_, _<_}
 use native.Mathlib.Nat.{not-suc-le-zero, le-of-suc-le-suc}
 use native.Mathlib.Omega.{arith}
 use borrow.Author.Tests.{leb-true, eqb-true, eqb-false, not-true}
-use lib.ListN.{length, getD, take, drop, length-map}
-use lib.Seq.{drop-drop, getD-take, length-take-le}
+use lib.ListN.{length, getD, take, length-map}
+use lib.Seq.{getD-take, length-take-le}
 use lib.Dec.{eqb, leb}
 use Rattle.lists.specs.Tests.{allOf, distinct}
 use Rattle.lists.proofs.Cases.{and-l, and-r}
@@ -17,16 +17,17 @@ use Rattle.store.specs.Literals.{variableOf, isNegative, isLiteral}
 use Rattle.store.specs.Stores.{Store, maxVariables, maxClauses, maxLiterals, maxRows, rising, literalCount, rowAt, heldRows, isImage, isRow, FormedRows, FormedClauses, wellFormed}
 use Rattle.store.proofs.FormLaws.{variables, variable-at, literal-low, literal-high, image-literal, count-none, count-last}
 use Rattle.store.proofs.RowLaws.{rows-at}
+use Rattle.store.proofs.Cuts.{end-is}
 use Rattle.store.proofs.Demands.{used, rest-of, rows-of}
 
 -- ---- a row
 
 pub record Row (n : ℕ) (row : List ℕ) : Type 0 where
   pub size : length row ≡ n
-  pub low : (i : ℕ) → i < n → 1 ≤ getD row i 0 / 2
-  pub high : (i : ℕ) → i < n → getD row i 0 / 2 ≤ n
+  pub low : (i : ℕ) → i < n → 1 ≤ variableOf (getD row i 0)
+  pub high : (i : ℕ) → i < n → variableOf (getD row i 0) ≤ n
   pub positive : (i : ℕ) → i < n → getD row i 0 % 2 ≡ 0
-  pub one-place : (i j : ℕ) → i < n → j < n → getD row i 0 / 2 ≡ getD row j 0 / 2 → i ≡ j
+  pub one-place : (i j : ℕ) → i < n → j < n → variableOf (getD row i 0) ≡ variableOf (getD row j 0) → i ≡ j
 
 image-positive : (n code : ℕ) → isImage n code ≡ true → code % 2 ≡ 0
 unfolding isImage
@@ -86,8 +87,8 @@ pub record Formed (s : Store) : Type 0 where
   pub images-long : s .counts .rows * s .counts .variables ≤ length (s .images)
   pub ends-rise : (i j : ℕ) → i ≤ j → j < s .counts .clauses → getD (s .ends) i 0 ≤ getD (s .ends) j 0
   pub end-within : (j : ℕ) → j < s .counts .clauses → getD (s .ends) j 0 ≤ used s
-  pub literal-low : (i : ℕ) → i < used s → 1 ≤ getD (s .literals) i 0 / 2
-  pub literal-high : (i : ℕ) → i < used s → getD (s .literals) i 0 / 2 ≤ s .counts .variables
+  pub literal-low : (i : ℕ) → i < used s → 1 ≤ variableOf (getD (s .literals) i 0)
+  pub literal-high : (i : ℕ) → i < used s → variableOf (getD (s .literals) i 0) ≤ s .counts .variables
   pub row : (r : ℕ) → r < s .counts .rows → Row (s .counts .variables) (rowAt (s .counts .variables) r (s .images))
 
 pub formed : (s : Store) → wellFormed s ≡ true → Formed s
@@ -126,15 +127,12 @@ pub formed-clauses : (s : Store) → Formed s → FormedClauses (s .counts .clau
 formed-clauses s f = record {
   known = f .ends-long;
   rise = rise;
-  within = λ c h. omega (arith, own c, f .end-within c h, f .literals-long);
-  few = λ c h. omega (arith, own c, f .end-within c h, f .literals-fit);
+  within = λ c h. omega (arith, end-is c (s .ends), f .end-within c h, f .literals-long);
+  few = λ c h. omega (arith, end-is c (s .ends), f .end-within c h, f .literals-fit);
 }
   where
-    own : (c : ℕ) → literalCount (c + 1) (s .ends) ≡ getD (s .ends) c 0
-    own c = let same : c + 1 - 1 ≡ c = omega arith in count-last (c + 1) (s .ends) (λ e. omega arith) ∙ rw same
-
     rise : (c : ℕ) → c < s .counts .clauses → literalCount c (s .ends) ≤ literalCount (c + 1) (s .ends)
     rise zero h = omega (arith, count-none 0 (s .ends) refl)
     rise (suc c) h =
         let last : suc c - 1 ≡ c = omega arith in
-        omega (arith, own (suc c), count-last (suc c) (s .ends) (λ e. omega arith), ap (λ (k : ℕ). getD (s .ends) k 0) last, f .ends-rise c (suc c) (omega arith) h)
+        omega (arith, end-is (suc c) (s .ends), count-last (suc c) (s .ends) (λ e. omega arith), ap (λ (k : ℕ). getD (s .ends) k 0) last, f .ends-rise c (suc c) (omega arith) h)

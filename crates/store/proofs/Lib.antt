@@ -4,6 +4,7 @@ pub mod RowParts
 pub mod Demands
 pub mod Formed
 pub mod Cuts
+pub mod Within
 pub mod Append
 pub mod StandingLaws
 pub mod Examples

@@ -80,9 +80,13 @@ unfoldable pub cut : ℕ → List ℕ → List ℕ → List (List ℕ)
 cut from literals [] = []
 cut from literals (e ∷ ends) = slice from e literals ∷ cut e literals ends
 
+-- m clauses: the literals cut at the first m ends
+abbrev pub clausesIn : ℕ → List ℕ → List ℕ → List (List ℕ)
+clausesIn m literals ends = cut 0 literals (take m ends)
+
 -- the plain formula that a store holds, and its rows
 unfoldable pub plainOf : Store → List (List ℕ)
-plainOf s = cut 0 (s .literals) (take (s .counts .clauses) (s .ends))
+plainOf s = clausesIn (s .counts .clauses) (s .literals) (s .ends)
 
 unfoldable pub heldRows : Store → List (List ℕ)
 heldRows s = rowsOf (s .counts .variables) (s .counts .rows) (s .images)

@@ -1,12 +1,13 @@
-// The one test of a store's form, the opposite of refusal 21: every call that needs an open store makes it first, and the functions below the
-// public calls rely on it. It looks only at the entries in use.
+// The one test of a store's form, the opposite of refusal 21: every call that needs an open store makes it first, and the functions below
+// the public calls rely on it. It looks only at the entries in use.
 ghost use mathlib.Core.Path.{_≡_};
 ghost use Prim.Native.Nat.{_*_, _≤_};
 ghost use lib.ListN.{length};
 ghost use Rattle.lists.specs.Tests.{allOf};
 ghost use Rattle.store.specs.Literals.{isLiteral};
-ghost use Rattle.store.specs.Stores.{stored, wellFormed, standingOf, rising, literalCount, isImage, isRow, rowsOf, maxVariables};
+ghost use Rattle.store.specs.Stores.{stored, wellFormed, standingOf, rising, isImage, isRow, rowsOf, maxVariables};
 use crate::clauses;
+use crate::literal;
 use crate::record::Record;
 use crate::refusal::Refusal;
 use crate::rows;
@@ -78,11 +79,11 @@ pub fn is_row(row: &[u16], n: usize) -> bool
     let mut seen = [false; 513];
     let mut i = 0;
     while i < row.len() {
-        let code = row[i];
+        let code = literal::wide(row[i]);
         if !is_image(code, n) {
             return false;
         }
-        let v = (code / 2) as usize;
+        let v = literal::variable(code);
         if seen[v] {
             return false;
         }
@@ -128,7 +129,7 @@ fn literals_within(literals: &[u16], n: usize) -> bool
 {
     let mut i = 0;
     while i < literals.len() {
-        if !is_literal(literals[i], n) {
+        if !is_literal(literal::wide(literals[i]), n) {
             return false;
         }
         i += 1;
@@ -137,10 +138,10 @@ fn literals_within(literals: &[u16], n: usize) -> bool
 }
 
 // Whether a code is that of a literal of 1..n.
-fn is_literal(code: u16, n: usize) -> bool
+fn is_literal(code: u32, n: usize) -> bool
     ensures { λ r. ⌜ r ≡ isLiteral n code ⌝ }
 {
-    let v = (code / 2) as usize;
+    let v = literal::variable(code);
     if v == 0 {
         return false;
     }
@@ -148,10 +149,10 @@ fn is_literal(code: u16, n: usize) -> bool
 }
 
 // Whether a code can stand in a row: that of one of the variables 1..n itself.
-fn is_image(code: u16, n: usize) -> bool
+fn is_image(code: u32, n: usize) -> bool
     ensures { λ r. ⌜ r ≡ isImage n code ⌝ }
 {
-    if code % 2 == 1 {
+    if literal::is_negative(code) {
         return false;
     }
     is_literal(code, n)

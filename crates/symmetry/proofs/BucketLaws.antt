@@ -1,17 +1,15 @@
--- Buckets: clauses with the same literals have one, and a loop over a range of codes finds it. Assumes nothing.
+-- Buckets: clauses with the same literals have one, and a loop over codes finds it. Assumes nothing.
 use mathlib.Core.Path.{_≡_, refl, _∙_}
 use mathlib.Core.Bool.{true}
 use mathlib.Core.Logic.{_⊎_, inl, inr, ⊎-elim}
 use mathlib.Core.List.{List, [], _∷_, foldl, List·Memᴰ, List·Memᴰ·head, List·Memᴰ·tail}
 use Prim.Native.Nat.{ℕ, _+_, _≤_, _<_, min, max}
 use native.Mathlib.Nat.{le-refl, min-le-left, min-le-right, le-max-left, le-max-right, min-eq-left, min-eq-right, max-eq-left, max-eq-right}
-use native.Mathlib.Numerals.{add-one}
 use native.Mathlib.Omega.{arith}
-use lib.ListN.{length, getD, take, drop-of-length-le}
-use lib.Seq.{slice, slice-cons, length-take-le}
+use lib.ListN.{length, getD, drop, drop-of-length-le}
 use Rattle.lists.proofs.Cases.{lt-or-le}
+use Rattle.lists.proofs.Steps.{drop-step}
 use Rattle.symmetry.specs.Sets.{sameSet, SameSet}
-use Rattle.symmetry.specs.Symmetry.{imageOf, clauseImage}
 use Rattle.symmetry.specs.Bucket.{bucketCount, bucketAt, bucketFrom, bucketOf}
 use Rattle.symmetry.proofs.SetLaws.{sameSet-iff}
 
@@ -66,28 +64,14 @@ pub bucket-low : (codes : List ℕ) → bucketOf codes < bucketCount
 unfolding bucketFrom
 bucket-low codes = omega arith
 
--- ---- a range of the literals, from i on: a code more, and no more code
+-- ---- the codes from i on: a code more, and no more code
 
-module _ (l : List ℕ) (i t : ℕ) (k : t ≤ length l) where
-  none-left : t ≤ i → slice i t l ≡ []
-  none-left h = drop-of-length-le (take t l) {i = i} (omega (arith, length-take-le t l k))
+module _ (codes : List ℕ) (i least greatest : ℕ) where
+  pub bucket-more : i < length codes → (a b x : ℕ) → x ≡ getD codes i 0 → a ≡ min least x → b ≡ max greatest x
+      → bucketFrom least greatest (drop i codes) ≡ bucketFrom a b (drop (i + 1) codes)
+  unfolding bucketFrom
+  bucket-more h a b x is e f = rw (drop-step codes i 0 h, e, f, is)
 
-  module _ (least greatest : ℕ) where
-    pub clause-more : i < t → (a b : ℕ) → a ≡ min least (getD l i 0) → b ≡ max greatest (getD l i 0)
-        → bucketFrom least greatest (slice i t l) ≡ bucketFrom a b (slice (i + 1) t l)
-    unfolding bucketFrom
-    clause-more h a b e f = rw (add-one i, slice-cons i t l 0 h k, e, f)
-
-    pub clause-end : t ≤ i → bucketFrom least greatest (slice i t l) ≡ bucketAt least greatest
-    unfolding bucketFrom
-    clause-end h = rw (none-left h)
-
-    module _ (row : List ℕ) where
-      pub image-more : i < t → (a b : ℕ) → a ≡ min least (imageOf row (getD l i 0)) → b ≡ max greatest (imageOf row (getD l i 0))
-          → bucketFrom least greatest (clauseImage row (slice i t l)) ≡ bucketFrom a b (clauseImage row (slice (i + 1) t l))
-      unfolding bucketFrom clauseImage
-      image-more h a b e f = rw (add-one i, slice-cons i t l 0 h k, e, f)
-
-      pub image-end : t ≤ i → bucketFrom least greatest (clauseImage row (slice i t l)) ≡ bucketAt least greatest
-      unfolding bucketFrom clauseImage
-      image-end h = rw (none-left h)
+  pub bucket-end : length codes ≤ i → bucketFrom least greatest (drop i codes) ≡ bucketAt least greatest
+  unfolding bucketFrom
+  bucket-end h = rw (drop-of-length-le codes {i = i} h)

@@ -1,28 +1,43 @@
 -- The image of a literal: its variable and its sign, and that a row sends different literals to different literals. Assumes nothing.
-use mathlib.Core.Path.{_≡_, refl, sym, ap}
+use mathlib.Core.Path.{_≡_, refl, sym, ap, _∙_}
 use mathlib.Core.Bool.{Bool, true, false, cond}
 use mathlib.Core.List.{List, List·Memᴰ, Memᴰ·map, Memᴰ·of-map, Memᴰ·cast}
-use Prim.Native.Nat.{ℕ, _+_, _-_, _/_, _%_}
+use Prim.Native.Nat.{ℕ, _+_, _-_, _/_, _%_, _<_}
 use native.Mathlib.Omega.{arith}
 use borrow.Author.Tests.{eqb-true, eqb-false}
-use lib.ListN.{getD}
+use lib.ListN.{length, getD, length-map}
 use Rattle.lists.specs.Tests.{allOf}
-use Rattle.lists.proofs.Members.{all-has}
-use Rattle.store.specs.Literals.{isNegative, oppositeOf, isLiteral}
+use Rattle.lists.proofs.Members.{all-at, map-at, all-has}
+use Rattle.store.specs.Literals.{variableOf, isNegative, oppositeOf, isLiteral}
 use Rattle.store.proofs.FormLaws.{literal-low, literal-high}
 use Rattle.store.proofs.Formed.{Row}
 use Rattle.symmetry.specs.Sets.{SameSet}
 use Rattle.symmetry.specs.Symmetry.{imageOf, clauseImage}
+use Rattle.symmetry.specs.Fitting.{Fitting}
 use Rattle.symmetry.proofs.SetLaws.{has-iff}
 
 module _ (row : List ℕ) (code : ℕ) where
-  pub image-of-negative : isNegative code ≡ true → imageOf row code ≡ oppositeOf (getD row (code / 2 - 1) 0)
+  pub image-of-negative : isNegative code ≡ true → imageOf row code ≡ oppositeOf (getD row (variableOf code - 1) 0)
   unfolding imageOf
   image-of-negative e = rw e
 
-  pub image-of-positive : isNegative code ≡ false → imageOf row code ≡ getD row (code / 2 - 1) 0
+  pub image-of-positive : isNegative code ≡ false → imageOf row code ≡ getD row (variableOf code - 1) 0
   unfolding imageOf
   image-of-positive e = rw e
+
+module _ (row clause : List ℕ) where
+  pub image-length : length (clauseImage row clause) ≡ length clause
+  unfolding clauseImage
+  image-length = length-map clause (imageOf row)
+
+  -- x is the literal at i
+  module _ (i x : ℕ) (h : i < length clause) (is : x ≡ getD clause i 0) where
+    pub image-at : (y : ℕ) → y ≡ imageOf row x → y ≡ getD (clauseImage row clause) i 0
+    unfolding clauseImage
+    image-at y e = e ∙ ap (imageOf row) is ∙ sym (map-at (imageOf row) clause i 0 0 h)
+
+    pub fitting-at : Fitting clause row → isLiteral (length row) x ≡ true
+    fitting-at f = rw is (all-at (isLiteral (length row)) clause 0 f i h)
 
 -- a literal or its opposite, by a sign: the variable is kept, and the signs add up
 turned : (code a : ℕ) → let r = cond (isNegative code) (oppositeOf a) a in
@@ -43,9 +58,9 @@ module _ (n : ℕ) (row : List ℕ) (r : Row n row) where
       let hx = literal-high n x gx in
       let ly = literal-low n y gy in
       let hy = literal-high n y gy in
-      let tx = turned x (getD row (x / 2 - 1) 0) in
-      let ty = turned y (getD row (y / 2 - 1) 0) in
-      let same : x / 2 - 1 ≡ y / 2 - 1 = r .one-place (x / 2 - 1) (y / 2 - 1) (omega arith) (omega arith) (omega arith) in
+      let tx = turned x (getD row (variableOf x - 1) 0) in
+      let ty = turned y (getD row (variableOf y - 1) 0) in
+      let same : variableOf x - 1 ≡ variableOf y - 1 = r .one-place (variableOf x - 1) (variableOf y - 1) (omega arith) (omega arith) (omega arith) in
       signs _ _ _ _ x y (tx .1) (ty .1) e (ap (λ (i : ℕ). getD row i 0) same) (omega arith)
     where
       signs : (r s a b x y : ℕ) → (r + x + a) % 2 ≡ 0 → (s + y + b) % 2 ≡ 0 → r ≡ s → a ≡ b → x / 2 ≡ y / 2 → x ≡ y

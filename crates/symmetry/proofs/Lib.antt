@@ -1,7 +1,6 @@
 pub mod SetLaws
 pub mod ImageLaws
-pub mod Ranges
-pub mod Cuts
+pub mod Missing
 pub mod BucketLaws
 pub mod Looking
 pub mod Finite

@@ -16,28 +16,28 @@ module _ (row clause : List ℕ) (formula : List (List ℕ)) where
   abbrev image : List ℕ
   image = clauseImage row clause
 
-  -- the clauses up to number `left`, from 1, are still to be compared
+  -- the clauses up to number `number`, from 1, are still to be compared
   abbrev pub Looking : ℕ → Type 0
-  Looking left = Walk (sameSet image) formula [] (clauseBucket formula) (bucketOf image) left
+  Looking number = Walk (sameSet image) formula [] (clauseBucket formula) (bucketOf image) number
 
-  pub look-hit : (left c : ℕ) → Looking left → left ≡ c + 1 → sameSet image (getD formula c []) ≡ true → hasImage row formula clause ≡ true
+  pub look-hit : (number c : ℕ) → Looking number → number ≡ c + 1 → sameSet image (getD formula c []) ≡ true → hasImage row formula clause ≡ true
   unfolding hasImage
-  look-hit left c w e t = hit (sameSet image) formula [] (clauseBucket formula) (bucketOf image) left c w e t
+  look-hit number c w e t = hit (sameSet image) formula [] (clauseBucket formula) (bucketOf image) number c w e t
 
-  pub look-end : (left : ℕ) → Looking left → left ≡ 0 → hasImage row formula clause ≡ false
+  pub look-end : (number : ℕ) → Looking number → number ≡ 0 → hasImage row formula clause ≡ false
   unfolding hasImage
-  look-end left w e = end (sameSet image) formula [] (clauseBucket formula) (bucketOf image) left w e
+  look-end number w e = end (sameSet image) formula [] (clauseBucket formula) (bucketOf image) number w e
 
   module _ (heads nexts : List ℕ) (index : Indexed formula heads nexts) where
     own : (c : ℕ) → c < length formula → sameSet image (getD formula c []) ≡ true → clauseBucket formula c ≡ bucketOf image
     own c h t = same-bucket image (getD formula c []) t
 
-    pub look-begin : (b left : ℕ) → b ≡ bucketOf image → left ≡ getD heads b 0 → Looking left
-    look-begin b left e f =
-        begin (sameSet image) formula [] (clauseBucket formula) (bucketOf image) heads nexts (index .holds) own (omega (arith, bucket-low image, index .heads-long)) left (f ∙ ap (λ (k : ℕ). getD heads k 0) e)
+    pub look-begin : (b number : ℕ) → b ≡ bucketOf image → number ≡ getD heads b 0 → Looking number
+    look-begin b number e f =
+        begin (sameSet image) formula [] (clauseBucket formula) (bucketOf image) heads nexts (index .holds) own (omega (arith, bucket-low image, index .heads-long)) number (f ∙ ap (λ (k : ℕ). getD heads k 0) e)
 
-    pub look-on : (left c then : ℕ) → Looking left → left ≡ c + 1 → sameSet image (getD formula c []) ≡ false → then ≡ getD nexts c 0 → Looking then
-    look-on left c then w e t f = go-on (sameSet image) formula [] (clauseBucket formula) (bucketOf image) heads nexts (index .holds) own left c w e t then f
+    pub look-on : (number c then : ℕ) → Looking number → number ≡ c + 1 → sameSet image (getD formula c []) ≡ false → then ≡ getD nexts c 0 → Looking then
+    look-on number c then w e t f = go-on (sameSet image) formula [] (clauseBucket formula) (bucketOf image) heads nexts (index .holds) own number c w e t then f
 
-    pub look-falls : (left c : ℕ) → Looking left → left ≡ c + 1 → getD nexts c 0 ≤ c
-    look-falls left c w e = next-below (clauseBucket formula) (length formula) c heads nexts (index .holds) (omega (arith, w .within))
+    pub look-falls : (number c : ℕ) → Looking number → number ≡ c + 1 → getD nexts c 0 ≤ c
+    look-falls number c w e = next-below (clauseBucket formula) (length formula) c heads nexts (index .holds) (omega (arith, w .within))

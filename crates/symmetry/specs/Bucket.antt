@@ -4,7 +4,7 @@ use Prim.Native.Nat.{ℕ, _+_, _*_, _%_, _≤_, min, max}
 use mathlib.Core.Path.{_≡_}
 use mathlib.Core.List.{List, [], foldl}
 use lib.ListN.{length, getD}
-use Rattle.buckets.specs.Buckets.{Holds}
+use Rattle.buckets.specs.Buckets.{IndexHolds}
 
 -- how many there are
 abbrev pub bucketCount : ℕ
@@ -28,6 +28,6 @@ clauseBucket formula c = bucketOf (getD formula c [])
 
 -- an index of all clauses of a formula
 pub record Indexed (formula : List (List ℕ)) (heads nexts : List ℕ) : Type 0 where
-  pub holds : Holds (clauseBucket formula) (length formula) heads nexts
+  pub holds : IndexHolds (clauseBucket formula) (length formula) heads nexts
   pub heads-long : length heads ≡ bucketCount
   pub nexts-long : length formula ≤ length nexts

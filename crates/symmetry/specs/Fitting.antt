@@ -1,13 +1,19 @@
--- What the loops rely on, and every well formed store gives (`fitting`, proofs/Facts.antt). Assumes nothing.
-use Prim.Native.Nat.{ℕ, _+_, _*_, _≤_, _<_}
+-- What the functions rely on, and every well formed store gives with a row of its variables (`row-fits`, proofs/Facts.antt). Assumes nothing.
+use mathlib.Core.Path.{_≡_}
+use mathlib.Core.Bool.{true}
 use mathlib.Core.List.{List}
-use lib.ListN.{length, getD}
+use Prim.Native.Nat.{ℕ, _≤_}
+use lib.ListN.{length}
+use Rattle.lists.specs.Tests.{allOf}
+use Rattle.store.specs.Literals.{isLiteral}
+use Rattle.store.specs.Stores.{clausesIn, FormedClauses, maxClauses}
 
--- each literal is of a variable that the row has
-pub record Fitting (literals row : List ℕ) : Type 0 where
-  pub low : (i : ℕ) → i < length literals → 2 ≤ getD literals i 0
-  pub high : (i : ℕ) → i < length literals → getD literals i 0 ≤ 2 * length row + 1
+-- each literal of a clause is of a variable that the row has
+abbrev pub Fitting : List ℕ → List ℕ → Type 0
+Fitting clause row = allOf (isLiteral (length row)) clause ≡ true
 
--- no end passes the literals
-abbrev pub EndsWithin : List ℕ → List ℕ → Type 0
-EndsWithin literals ends = (j : ℕ) → j < length ends → getD ends j 0 ≤ length literals
+-- m clauses, and a row that fits each
+pub record RowFits (m : ℕ) (literals ends row : List ℕ) : Type 0 where
+  pub clauses : FormedClauses m literals ends
+  pub clauses-fit : m ≤ maxClauses
+  pub literals-fit : allOf (allOf (isLiteral (length row))) (clausesIn m literals ends) ≡ true

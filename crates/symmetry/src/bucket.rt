@@ -1,22 +1,20 @@
-// The bucket of a clause, by which its image is looked for: it comes from the least and the greatest of the clause's codes, and so from their set alone.
+// The bucket of a clause, by which its image is looked for: it comes from the least and the greatest of the clause's codes, and so from
+// their set alone.
 ghost use mathlib.Core.Path.{_≡_};
-ghost use Prim.Native.Nat.{_≤_, min, max};
-ghost use lib.ListN.{length};
-ghost use lib.Seq.{slice};
+ghost use Prim.Native.Nat.{min, max};
 ghost use Rattle.symmetry.specs.Symmetry.{clauseImage};
 ghost use Rattle.symmetry.specs.Fitting.{Fitting};
 ghost use Rattle.symmetry.specs.Bucket.{bucketAt, bucketOf};
+use store::literal;
 
-// The bucket of literals[from..to].
-pub fn of_clause(literals: &[u16], from: usize, to: usize) -> usize
-    requires { ⌜ to ≤ length (now literals) ⌝ }
-    ensures { λ r. ⌜ r ≡ bucketOf (slice from to (now (literals .entry))) ⌝ }
+pub fn of_clause(clause: &[u16]) -> usize
+    ensures { λ r. ⌜ r ≡ bucketOf (now (clause .entry)) ⌝ }
 {
     let mut least = 65535;
     let mut greatest = 0;
-    let mut i = from;
-    while i < to {
-        let code = literals[i];
+    let mut i = 0;
+    while i < clause.len() {
+        let code = literal::wide(clause[i]);
         least = lesser(least, code);
         greatest = greater(greatest, code);
         i += 1;
@@ -24,16 +22,16 @@ pub fn of_clause(literals: &[u16], from: usize, to: usize) -> usize
     number(least, greatest)
 }
 
-// The bucket of the image of literals[from..to].
-pub fn of_image(literals: &[u16], row: &[u16], from: usize, to: usize) -> usize
-    requires { ⌜ (to ≤ length (now literals)) × Fitting (now literals) (now row) ⌝ }
-    ensures { λ r. ⌜ r ≡ bucketOf (clauseImage (now (row .entry)) (slice from to (now (literals .entry)))) ⌝ }
+// The bucket of a clause's image.
+pub fn of_image(clause: &[u16], row: &[u16]) -> usize
+    requires { ⌜ Fitting (now clause) (now row) ⌝ }
+    ensures { λ r. ⌜ r ≡ bucketOf (clauseImage (now (row .entry)) (now (clause .entry))) ⌝ }
 {
     let mut least = 65535;
     let mut greatest = 0;
-    let mut i = from;
-    while i < to {
-        let image = crate::image(row, literals[i]);
+    let mut i = 0;
+    while i < clause.len() {
+        let image = crate::image(row, literal::wide(clause[i]));
         least = lesser(least, image);
         greatest = greater(greatest, image);
         i += 1;
@@ -41,7 +39,7 @@ pub fn of_image(literals: &[u16], row: &[u16], from: usize, to: usize) -> usize
     number(least, greatest)
 }
 
-fn lesser(a: u16, b: u16) -> u16
+fn lesser(a: u32, b: u32) -> u32
     ensures { λ r. ⌜ r ≡ min a b ⌝ }
 {
     if b < a {
@@ -50,7 +48,7 @@ fn lesser(a: u16, b: u16) -> u16
     a
 }
 
-fn greater(a: u16, b: u16) -> u16
+fn greater(a: u32, b: u32) -> u32
     ensures { λ r. ⌜ r ≡ max a b ⌝ }
 {
     if a < b {
@@ -59,7 +57,7 @@ fn greater(a: u16, b: u16) -> u16
     a
 }
 
-fn number(least: u16, greatest: u16) -> usize
+fn number(least: u32, greatest: u32) -> usize
     ensures { λ r. ⌜ r ≡ bucketAt least greatest ⌝ }
 {
     (least as usize * 61 + greatest as usize) % 4096

@@ -1,53 +1,51 @@
--- `symmetry::contains` meets its contract. The invariant: the code is in the range if it is in what is left of it. Assumes nothing.
+-- `symmetry::contains` meets its contract. The invariant: the code is in the clause if it is in what is left of it. Assumes nothing.
 use mathlib.Core.Path.{_≡_, refl, sym, _∙_}
 use Prim.Native.Nat.{_-_}
 use borrow.Author.Tests.{eq-eqb, ne-eqb}
-use lib.Seq.{slice}
+use lib.ListN.{length, drop}
 use Rattle.lists.specs.Tests.{has}
-use Rattle.symmetry.proofs.Ranges.{any-hit, any-miss, any-end}
+use Rattle.lists.proofs.Steps.{any-drop-hit, any-drop-miss, any-drop-end}
 use borrow.Author.Needs.{needs}
 use native.Mathlib.Omega.{arith}
 use Rattle.symmetry.proofs.contains.Statement.{statement}
 use Rattle.symmetry.proofs.contains.Tie as tie
 
 abbrev Inv-loop : tie.InvT-loop
-Inv-loop literals from to code i₀ i = has (slice from to literals) code ≡ has (slice i to literals) code
+Inv-loop clause code place₀ place = has clause code ≡ has (drop place clause) code
 
 abbrev μ-loop : tie.MeasureT-loop
-μ-loop literals from to code i₀ i = to - i
+μ-loop clause code place₀ place = length clause - place
 
 loop-holds : tie.Need-loop-holds Inv-loop μ-loop
 loop-holds c = refl
 
-mul-if1 : tie.Need-mul-if1 Inv-loop μ-loop
-mul-if1 c = omega arith
+mul-wide : tie.Need-mul-wide Inv-loop μ-loop
+mul-wide c = omega arith
 
-shared-slice-read-if1 : tie.Need-shared-slice-read-if1 Inv-loop μ-loop
-shared-slice-read-if1 c = omega arith
+shared-slice-read-wide : tie.Need-shared-slice-read-wide Inv-loop μ-loop
+shared-slice-read-wide c = omega arith
+
+wide-requires : tie.Need-wide-requires Inv-loop μ-loop
+wide-requires c κs = search needs
 
 returns : tie.Need-returns Inv-loop μ-loop
 returns c =
-    let at = c .before .before .before in
-    let a = at .before .args in
-    sym (at .loop .inv ∙ any-hit _ (a .literals .now) (at .loop .i) (a .to) (at .before .pre) 0 (search needs) (eq-eqb _ _ (c .if1 .taken)))
+    let at = c .before .before .before .before in
+    sym (at .loop .inv ∙ any-drop-hit _ _ (at .loop .place) 0 (search needs) (eq-eqb _ _ (sym (c .before .wide .ensures .0) ∙ c .if1 .taken)))
 
-add-i : tie.Need-add-i Inv-loop μ-loop
-add-i c = omega arith
+add-place : tie.Need-add-place Inv-loop μ-loop
+add-place c = omega arith
 
 loop-less : tie.Need-loop-less Inv-loop μ-loop
 loop-less c = omega arith
 
 loop-again : tie.Need-loop-again Inv-loop μ-loop
 loop-again c =
-    let at = c .before .before .before in
-    let a = at .before .args in
-    at .loop .inv ∙ any-miss _ (a .literals .now) (at .loop .i) (a .to) (at .before .pre) 0 (search needs) (ne-eqb _ _ (c .if1 .left))
+    let at = c .before .before .before .before in
+    at .loop .inv ∙ any-drop-miss _ _ (at .loop .place) 0 (search needs) (ne-eqb _ _ (λ e. c .if1 .left (c .before .wide .ensures .0 ∙ e)))
 
 returns-2 : tie.Need-returns-2 Inv-loop μ-loop
-returns-2 c =
-    let at = c .before in
-    let a = at .before .args in
-    sym (at .loop .inv ∙ any-end _ (a .literals .now) (at .loop .i) (a .to) (at .before .pre) (search needs))
+returns-2 c = let at = c .before in sym (at .loop .inv ∙ any-drop-end _ _ (at .loop .place) (search needs))
 
 pub contains-spec : {M : Type 1} → statement M
 contains-spec =
@@ -56,10 +54,11 @@ contains-spec =
     Inv-loop
     μ-loop
     loop-holds
-    mul-if1
-    shared-slice-read-if1
+    mul-wide
+    shared-slice-read-wide
+    wide-requires
     returns
-    add-i
+    add-place
     loop-less
     loop-again
     returns-2)

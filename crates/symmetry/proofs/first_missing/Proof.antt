@@ -11,19 +11,19 @@ slice-aggregate-index-clauses-2 : tie.Need-slice-aggregate-index-clauses-2
 slice-aggregate-index-clauses-2 c = search needs
 
 index-clauses-requires : tie.Need-index-clauses-requires
-index-clauses-requires c κs = let s = c .before .before .before .before .before in (s .pre .1, refl, s .pre .2, s .pre .2)
+index-clauses-requires c κs = let s = c .before .before .before .before .before in (s .pre .clauses, s .pre .clauses-fit, refl, s .pre .clauses-fit)
 
 slice-aggregate-first-missing-by : tie.Need-slice-aggregate-first-missing-by
-slice-aggregate-first-missing-by c = sym (c .before .before .before .index-clauses .kept .1 .1 .0)
+slice-aggregate-first-missing-by c = sym (c .before .before .before .index-clauses .kept .1 .1 .1 .0)
 
 slice-aggregate-first-missing-by-2 : tie.Need-slice-aggregate-first-missing-by-2
-slice-aggregate-first-missing-by-2 c = sym (c .before .before .before .before .index-clauses .kept .1 .1 .1 .0)
+slice-aggregate-first-missing-by-2 c = sym (c .before .before .before .before .index-clauses .kept .1 .1 .1 .1 .0)
 
 first-missing-by-requires : tie.Need-first-missing-by-requires
 first-missing-by-requires c κs =
     let made = c .before .before .before .before in
     let s = made .before .before .before .before .before .before in
-    (s .pre .0, s .pre .1, made .index-clauses .ensures)
+    (s .pre, made .index-clauses .ensures)
 
 returns : tie.Need-returns
 returns c = c .first-missing-by .ensures

@@ -1,40 +1,53 @@
--- `symmetry::first_missing_by` meets its contract. The invariant: the answer is that for the clauses from clause c on, the first from `from` on.
--- Assumes nothing.
+-- `symmetry::first_missing_by` meets its contract. The invariant: the answer is that for the clauses from clause c on. Assumes nothing.
 use mathlib.Core.Path.{_≡_, refl, sym, _∙_}
-use Prim.Native.Nat.{_+_, _-_}
+use mathlib.Core.List.{List, []}
+use Prim.Native.Nat.{ℕ, _+_, _-_, _<_}
 use borrow.Author.Tests.{not-true, not-false}
-use lib.ListN.{length, drop}
-use Rattle.store.specs.Stores.{cut}
+use lib.ListN.{length, getD, drop}
+use Rattle.lists.specs.Tests.{allOf}
+use Rattle.lists.proofs.Members.{all-at}
+use Rattle.store.specs.Literals.{isLiteral}
+use Rattle.store.specs.Stores.{clausesIn}
+use Rattle.store.proofs.Cuts.{clauses-count, clause-is}
 use Rattle.symmetry.specs.Symmetry.{missingFrom, firstMissing}
-use Rattle.symmetry.proofs.Cuts.{missing-here, missing-later, missing-end}
-use borrow.Author.Needs.{needs}
+use Rattle.symmetry.proofs.Missing.{missing-here, missing-later, missing-end}
 use native.Mathlib.Omega.{arith}
 use Rattle.symmetry.proofs.first_missing_by.Statement.{statement}
 use Rattle.symmetry.proofs.first_missing_by.Tie as tie
 
 abbrev Inv-loop : tie.InvT-loop
-Inv-loop literals ends row heads nexts c₀ from₀ c from = firstMissing row (cut 0 literals ends) ≡ missingFrom row (cut 0 literals ends) (c + 1) (cut from literals (drop c ends))
+Inv-loop literals ends m row heads nexts c₀ c = firstMissing row (clausesIn m literals ends) ≡ missingFrom row (clausesIn m literals ends) (c + 1) (drop c (clausesIn m literals ends))
 
 abbrev μ-loop : tie.MeasureT-loop
-μ-loop literals ends row heads nexts c₀ from₀ c from = length ends - c
+μ-loop literals ends m row heads nexts c₀ c = m - c
+
+abbrev formula : tie.Start Inv-loop μ-loop → List (List ℕ)
+formula s = clausesIn (s .args .m) (s .args .literals .now) (s .args .ends .now)
+
+count : (s : tie.Start Inv-loop μ-loop) → length (formula s) ≡ s .args .m
+count s = clauses-count (s .args .literals .now) (s .args .ends .now) (s .args .m) (s .pre .0 .clauses .known)
+
+-- the clause at hand is clause c of the formula
+at-hand : (c : tie.After-clause Inv-loop μ-loop) → let at = c .before .before in
+    let s = at .before .before .before .before .before .before in
+    (at .loop .c < length (formula s)) × (c .clause .result .now ≡ getD (formula s) (at .loop .c) [])
+at-hand c =
+    let at = c .before .before in
+    let s = at .before .before .before .before .before .before in
+    (omega (arith, count s), c .clause .ensures ∙ sym (clause-is (s .args .literals .now) (s .args .ends .now) (s .args .m) (at .loop .c) (s .pre .0 .clauses .known) (omega arith)))
 
 loop-holds : tie.Need-loop-holds Inv-loop μ-loop
 loop-holds c = refl
 
-mul-to : tie.Need-mul-to Inv-loop μ-loop
-mul-to c = omega arith
-
-shared-slice-read-to : tie.Need-shared-slice-read-to Inv-loop μ-loop
-shared-slice-read-to c = omega arith
-
-cast-to : tie.Need-cast-to Inv-loop μ-loop
-cast-to c = omega (arith, c .shared-slice-known6 .given (c .before .before .loop .c))
+clause-requires : tie.Need-clause-requires Inv-loop μ-loop
+clause-requires c κs = (c .before .before .before .before .before .before .before .pre .0 .clauses, omega arith)
 
 has-image-requires : tie.Need-has-image-requires Inv-loop μ-loop
 has-image-requires c κs =
     let at = c .before .before in
     let s = at .before .before .before .before .before .before in
-    (s .pre .1 (at .loop .c) (search needs), s .pre .0, s .pre .1, s .pre .2)
+    let h = at-hand c in
+    (rw (h .1) (all-at (allOf (isLiteral _)) (formula s) [] (s .pre .0 .literals-fit) (at .loop .c) (h .0)), s .pre .0 .clauses, s .pre .1)
 
 add-result : tie.Need-add-result Inv-loop μ-loop
 add-result c = omega arith
@@ -42,8 +55,8 @@ add-result c = omega arith
 returns : tie.Need-returns Inv-loop μ-loop
 returns c =
     let at = c .before .before .before .before in
-    let a = at .before .before .before .before .before .before .args in
-    sym (at .loop .inv ∙ missing-here (a .literals .now) (a .ends .now) (at .loop .from) (at .loop .c) _ _ _ (search needs) (sym (c .before .has-image .ensures) ∙ not-true _ (c .if1 .taken)))
+    let h = at-hand (c .before .before) in
+    sym (at .loop .inv ∙ missing-here _ _ _ (at .loop .c) _ (h .1) (h .0) (sym (c .before .has-image .ensures) ∙ not-true _ (c .if1 .taken)))
 
 add-c : tie.Need-add-c Inv-loop μ-loop
 add-c c = omega arith
@@ -54,14 +67,13 @@ loop-less c = omega arith
 loop-again : tie.Need-loop-again Inv-loop μ-loop
 loop-again c =
     let at = c .before .before .before .before in
-    let a = at .before .before .before .before .before .before .args in
-    at .loop .inv ∙ missing-later (a .literals .now) (a .ends .now) (at .loop .from) (at .loop .c) _ _ _ (search needs) (sym (c .before .has-image .ensures) ∙ not-false _ (c .if1 .left))
+    let h = at-hand (c .before .before) in
+    at .loop .inv ∙ missing-later _ _ _ (at .loop .c) _ (h .1) (h .0) (sym (c .before .has-image .ensures) ∙ not-false _ (c .if1 .left))
 
 returns-2 : tie.Need-returns-2 Inv-loop μ-loop
 returns-2 c =
     let at = c .before in
-    let a = at .before .before .before .before .before .before .args in
-    sym (at .loop .inv ∙ missing-end (a .literals .now) (a .ends .now) (at .loop .from) (at .loop .c) _ _ _ (search needs))
+    sym (at .loop .inv ∙ missing-end _ _ _ (at .loop .c) (omega (arith, count (at .before .before .before .before .before .before))))
 
 pub first-missing-by-spec : {M : Type 1} → statement M
 first-missing-by-spec =
@@ -70,9 +82,7 @@ first-missing-by-spec =
     Inv-loop
     μ-loop
     loop-holds
-    mul-to
-    shared-slice-read-to
-    cast-to
+    clause-requires
     has-image-requires
     add-result
     returns

@@ -1,24 +1,40 @@
 -- `symmetry::image` meets its contract: one law for each sign. Assumes nothing.
-use mathlib.Core.Path.{sym, ap, _∙_}
-use Prim.Native.Nat.{ℕ, _-_}
-use lib.ListN.{getD}
-use Rattle.store.specs.Literals.{oppositeOf}
+use mathlib.Core.Path.{_≡_, sym, ap, _∙_}
+use Prim.Native.Nat.{ℕ, _-_, _≤_}
+use lib.ListN.{length, getD}
+use Rattle.store.specs.Literals.{variableOf, oppositeOf}
+use Rattle.store.proofs.FormLaws.{literal-low, literal-high}
 use Rattle.symmetry.proofs.ImageLaws.{image-of-negative, image-of-positive}
 use borrow.Author.Needs.{needs}
+use native.Mathlib.Omega.{arith}
 use Rattle.symmetry.proofs.image.Statement.{statement}
 use Rattle.symmetry.proofs.image.Tie as tie
+
+bounds : (c : tie.After-variable) → let s = c .before .before in (1 ≤ c .variable .result) × (c .variable .result ≤ length (s .args .row .now))
+bounds c =
+    let s = c .before .before in
+    (omega (arith, c .variable .ensures, literal-low _ _ (s .pre)), omega (arith, c .variable .ensures, literal-high _ _ (s .pre)))
+
+-- what was read is the image of the literal's variable
+read : (c : tie.After-wide) → let a = c .before .before .before .before .args in c .wide .result ≡ getD (a .row .now) (variableOf (a .code) - 1) 0
+read c =
+    let a = c .before .before .before .before .args in
+    c .wide .ensures .0 ∙ ap (λ (k : ℕ). getD (a .row .now) (k - 1) 0) (c .before .before .variable .ensures)
 
 variable-requires : tie.Need-variable-requires
 variable-requires c κs = search needs
 
-sub-image : tie.Need-sub-image
-sub-image c = search needs
+sub-wide : tie.Need-sub-wide
+sub-wide c = omega (arith, bounds c)
 
-mul-image : tie.Need-mul-image
-mul-image c = search needs
+mul-wide : tie.Need-mul-wide
+mul-wide c = omega (arith, bounds c)
 
-shared-slice-read-image : tie.Need-shared-slice-read-image
-shared-slice-read-image c = search needs
+shared-slice-read-wide : tie.Need-shared-slice-read-wide
+shared-slice-read-wide c = omega (arith, bounds (c .before))
+
+wide-requires : tie.Need-wide-requires
+wide-requires c κs = search needs
 
 is-negative-requires : tie.Need-is-negative-requires
 is-negative-requires c κs = search needs
@@ -29,28 +45,20 @@ opposite-requires c κs = search needs
 returns : tie.Need-returns
 returns c =
     let at = c .before .before in
-    let v = at .before .before in
-    let a = v .before .before .args in
-    c .opposite .ensures
-    ∙ ap (λ (k : ℕ). oppositeOf (getD (a .row .now) (k - 1) 0)) (v .variable .ensures)
-    ∙ sym (image-of-negative (a .row .now) (a .code) (sym (at .is-negative .ensures) ∙ c .before .if1 .taken))
+    c .opposite .ensures ∙ ap oppositeOf (read (at .before)) ∙ sym (image-of-negative _ _ (sym (at .is-negative .ensures) ∙ c .before .if1 .taken))
 
 returns-2 : tie.Need-returns-2
-returns-2 c =
-    let at = c .before in
-    let v = at .before .before in
-    let a = v .before .before .args in
-    ap (λ (k : ℕ). getD (a .row .now) (k - 1) 0) (v .variable .ensures)
-    ∙ sym (image-of-positive (a .row .now) (a .code) (sym (at .is-negative .ensures) ∙ c .if1 .left))
+returns-2 c = read (c .before .before) ∙ sym (image-of-positive _ _ (sym (c .before .is-negative .ensures) ∙ c .if1 .left))
 
 pub image-spec : {M : Type 1} → statement M
 image-spec =
     tie.close
     (tie.spec
     variable-requires
-    sub-image
-    mul-image
-    shared-slice-read-image
+    sub-wide
+    mul-wide
+    shared-slice-read-wide
+    wide-requires
     is-negative-requires
     opposite-requires
     returns

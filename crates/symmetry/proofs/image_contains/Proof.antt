@@ -1,65 +1,73 @@
--- `symmetry::image_contains` meets its contract. The invariant: the code is an image of the range if it is one of what is left of it. Assumes nothing.
-use mathlib.Core.Path.{_≡_, sym, _∙_}
-use Prim.Native.Nat.{_-_}
+-- `symmetry::image_contains` meets its contract. The invariant: the code is in the image if it is in what is left of it. Assumes nothing.
+use mathlib.Core.Path.{_≡_, refl, sym, _∙_}
+use Prim.Native.Nat.{_-_, _<_}
 use borrow.Author.Tests.{eq-eqb, ne-eqb}
-use lib.Seq.{slice}
-use lib.Dec.{eqb}
-use Rattle.lists.specs.Tests.{has, anyOf}
-use Rattle.symmetry.specs.Symmetry.{imageOf, clauseImage}
-use Rattle.symmetry.proofs.Ranges.{any-map, any-hit, any-miss, any-end}
+use lib.ListN.{length, getD, drop}
+use Rattle.lists.specs.Tests.{has}
+use Rattle.lists.proofs.Steps.{any-drop-hit, any-drop-miss, any-drop-end}
+use Rattle.symmetry.specs.Symmetry.{clauseImage}
+use Rattle.symmetry.proofs.ImageLaws.{image-length, image-at, fitting-at}
 use borrow.Author.Needs.{needs}
 use native.Mathlib.Omega.{arith}
 use Rattle.symmetry.proofs.image_contains.Statement.{statement}
 use Rattle.symmetry.proofs.image_contains.Tie as tie
 
 abbrev Inv-loop : tie.InvT-loop
-Inv-loop literals row from to code i₀ i = has (clauseImage row (slice from to literals)) code ≡ anyOf (λ x. eqb (imageOf row x) code) (slice i to literals)
+Inv-loop clause row code at₀ at = has (clauseImage row clause) code ≡ has (drop at (clauseImage row clause)) code
 
 abbrev μ-loop : tie.MeasureT-loop
-μ-loop literals row from to code i₀ i = to - i
+μ-loop clause row code at₀ at = length clause - at
+
+-- what was compared is the image at `at`
+compared : (c : tie.After-image Inv-loop μ-loop) → let at = c .before .before .before .before in
+    let a = at .before .before .before .args in
+    (at .loop .at < length (clauseImage (a .row .now) (a .clause .now))) × (c .image .result ≡ getD (clauseImage (a .row .now) (a .clause .now)) (at .loop .at) 0)
+compared c =
+    let at = c .before .before .before .before in
+    let a = at .before .before .before .args in
+    (omega (arith, image-length (a .row .now) (a .clause .now)), image-at (a .row .now) (a .clause .now) (at .loop .at) _ (omega arith) (c .before .wide .ensures .0) _ (c .image .ensures))
 
 loop-holds : tie.Need-loop-holds Inv-loop μ-loop
-unfolding clauseImage
-loop-holds c = any-map (λ y. eqb y _) (imageOf _) _
+loop-holds c = refl
 
-mul-image : tie.Need-mul-image Inv-loop μ-loop
-mul-image c = omega arith
+mul-wide : tie.Need-mul-wide Inv-loop μ-loop
+mul-wide c = omega arith
 
-shared-slice-read-image : tie.Need-shared-slice-read-image Inv-loop μ-loop
-shared-slice-read-image c = omega arith
+shared-slice-read-wide : tie.Need-shared-slice-read-wide Inv-loop μ-loop
+shared-slice-read-wide c = omega arith
+
+wide-requires : tie.Need-wide-requires Inv-loop μ-loop
+wide-requires c κs = search needs
 
 image-requires : tie.Need-image-requires Inv-loop μ-loop
 image-requires c κs =
-    let at = c .before .before in
-    let fits = at .before .before .before .pre .1 in
-    (fits .low (at .loop .i) (omega arith), fits .high (at .loop .i) (omega arith))
+    let at = c .before .before .before in
+    let s = at .before .before .before in
+    fitting-at (s .args .row .now) (s .args .clause .now) (at .loop .at) _ (omega arith) (c .wide .ensures .0) (s .pre)
 
 returns : tie.Need-returns Inv-loop μ-loop
 returns c =
-    let at = c .before .before .before .before in
-    let s = at .before .before .before in
-    let a = s .args in
-    sym (at .loop .inv ∙ any-hit _ (a .literals .now) (at .loop .i) (a .to) (s .pre .0) 0 (search needs) (eq-eqb _ _ (sym (c .before .image .ensures) ∙ c .if1 .taken)))
+    let at = c .before .before .before .before .before in
+    let i = compared (c .before) in
+    sym (at .loop .inv ∙ any-drop-hit _ _ (at .loop .at) 0 (i .0) (eq-eqb _ _ (sym (i .1) ∙ c .if1 .taken)))
 
-add-i : tie.Need-add-i Inv-loop μ-loop
-add-i c = omega arith
+add-at : tie.Need-add-at Inv-loop μ-loop
+add-at c = omega arith
 
 loop-less : tie.Need-loop-less Inv-loop μ-loop
 loop-less c = omega arith
 
 loop-again : tie.Need-loop-again Inv-loop μ-loop
 loop-again c =
-    let at = c .before .before .before .before in
-    let s = at .before .before .before in
-    let a = s .args in
-    at .loop .inv ∙ any-miss _ (a .literals .now) (at .loop .i) (a .to) (s .pre .0) 0 (search needs) (ne-eqb _ _ (λ e. c .if1 .left (c .before .image .ensures ∙ e)))
+    let at = c .before .before .before .before .before in
+    let i = compared (c .before) in
+    at .loop .inv ∙ any-drop-miss _ _ (at .loop .at) 0 (i .0) (ne-eqb _ _ (λ e. c .if1 .left (i .1 ∙ e)))
 
 returns-2 : tie.Need-returns-2 Inv-loop μ-loop
 returns-2 c =
     let at = c .before in
-    let s = at .before .before .before in
-    let a = s .args in
-    sym (at .loop .inv ∙ any-end _ (a .literals .now) (at .loop .i) (a .to) (s .pre .0) (search needs))
+    let a = at .before .before .before .args in
+    sym (at .loop .inv ∙ any-drop-end _ _ (at .loop .at) (omega (arith, image-length (a .row .now) (a .clause .now))))
 
 pub image-contains-spec : {M : Type 1} → statement M
 image-contains-spec =
@@ -68,11 +76,12 @@ image-contains-spec =
     Inv-loop
     μ-loop
     loop-holds
-    mul-image
-    shared-slice-read-image
+    mul-wide
+    shared-slice-read-wide
+    wide-requires
     image-requires
     returns
-    add-i
+    add-at
     loop-less
     loop-again
     returns-2)

@@ -1,9 +1,10 @@
 -- `store::form::is_row` meets its contract. The invariant: the codes before i are images of different variables, and `seen` marks them
 -- (`Passed`). Assumes nothing.
-use mathlib.Core.Path.{_≡_, sym, _∙_}
-use Prim.Native.Nat.{_-_, _/_, _≤_}
+use mathlib.Core.Path.{_≡_, sym, ap, _∙_}
+use Prim.Native.Nat.{ℕ, _-_, _<_}
 use mathlib.Core.Bool.{true}
 use lib.ListN.{length, getD}
+use Rattle.store.specs.Literals.{variableOf}
 use Rattle.store.specs.Stores.{isImage}
 use Rattle.store.proofs.FormLaws.{literal-high, image-literal, Passed, passed-none, passed-more, row-length, row-image, row-twice, row-all}
 use borrow.Author.Tests.{not-true, not-false}
@@ -18,14 +19,18 @@ Inv-loop row n seen₀ i₀ seen i = Passed n row seen i
 abbrev μ-loop : tie.MeasureT-loop
 μ-loop row n seen₀ i₀ seen i = length row - i
 
--- where the code is an image
-image : (c : tie.Else2 Inv-loop μ-loop) → let at = c .before .before .before .before in
-    isImage (at .before .before .before .args .n) (getD (at .before .before .before .args .row .now) (at .loop .i) 0) ≡ true
-image c = sym (c .before .is-image .ensures) ∙ not-false _ (c .if2 .left)
+-- the code at i is an image, and its variable
+image : (c : tie.Else2 Inv-loop μ-loop) → let at = c .before .before .before .before .before in
+    let a = at .before .before .before .args in
+    isImage (a .n) (getD (a .row .now) (at .loop .i) 0) ≡ true
+image c = ap (isImage _) (sym (c .before .before .wide .ensures .0)) ∙ sym (c .before .is-image .ensures) ∙ not-false _ (c .if2 .left)
 
-most : (c : tie.Else2 Inv-loop μ-loop) → let at = c .before .before .before .before in
-    getD (at .before .before .before .args .row .now) (at .loop .i) 0 / 2 ≤ at .before .before .before .args .n
-most c = literal-high _ _ (image-literal _ _ (image c))
+its : (c : tie.After-variable Inv-loop μ-loop) → let at = c .before .before .before .before .before .before in
+    c .variable .result ≡ variableOf (getD (at .before .before .before .args .row .now) (at .loop .i) 0)
+its c = c .variable .ensures ∙ ap (λ (k : ℕ). variableOf k) (c .before .before .before .wide .ensures .0)
+
+low : (c : tie.After-variable Inv-loop μ-loop) → c .variable .result < 513
+low c = let s = c .before .before .before .before .before .before .before .before .before in omega (arith, its c, literal-high _ _ (image-literal _ _ (image (c .before))), s .pre)
 
 returns : tie.Need-returns Inv-loop μ-loop
 returns c = sym (row-length _ _ (c .if1 .taken))
@@ -33,29 +38,36 @@ returns c = sym (row-length _ _ (c .if1 .taken))
 loop-holds : tie.Need-loop-holds Inv-loop μ-loop
 loop-holds c = passed-none _ _
 
-mul-code : tie.Need-mul-code Inv-loop μ-loop
-mul-code c = omega arith
+mul-wide : tie.Need-mul-wide Inv-loop μ-loop
+mul-wide c = omega arith
 
-shared-slice-read-code : tie.Need-shared-slice-read-code Inv-loop μ-loop
-shared-slice-read-code c = omega arith
+shared-slice-read-wide : tie.Need-shared-slice-read-wide Inv-loop μ-loop
+shared-slice-read-wide c = omega arith
+
+wide-requires : tie.Need-wide-requires Inv-loop μ-loop
+wide-requires c κs = search needs
 
 is-image-requires : tie.Need-is-image-requires Inv-loop μ-loop
 is-image-requires c κs = search needs
 
 returns-2 : tie.Need-returns-2 Inv-loop μ-loop
-returns-2 c = let at = c .before .before .before .before in sym (row-image _ _ (at .loop .i) (search needs) (sym (c .before .is-image .ensures) ∙ not-true _ (c .if2 .taken)))
+returns-2 c =
+    let at = c .before .before .before .before .before in
+    sym (row-image _ _ (at .loop .i) (search needs) (ap (isImage _) (sym (c .before .before .wide .ensures .0)) ∙ sym (c .before .is-image .ensures) ∙ not-true _ (c .if2 .taken)))
 
-cast-v : tie.Need-cast-v Inv-loop μ-loop
-cast-v c = omega (arith, most c)
+variable-requires : tie.Need-variable-requires Inv-loop μ-loop
+variable-requires c κs = search needs
 
 array-read-if3 : tie.Need-array-read-if3 Inv-loop μ-loop
-array-read-if3 c = omega (arith, most c)
+array-read-if3 c = low c
 
 returns-3 : tie.Need-returns-3 Inv-loop μ-loop
-returns-3 c = let at = c .before .before .before .before .before in sym (row-twice _ _ _ _ (at .loop .inv) (search needs) (omega (arith, most (c .before))) (c .if3 .taken))
+returns-3 c =
+    let at = c .before .before .before .before .before .before .before in
+    sym (row-twice _ _ _ _ _ (at .loop .inv) (search needs) (its (c .before)) (low (c .before)) (c .if3 .taken))
 
 array-write-seen : tie.Need-array-write-seen Inv-loop μ-loop
-array-write-seen c = omega (arith, most (c .before))
+array-write-seen c = low (c .before)
 
 add-i : tie.Need-add-i Inv-loop μ-loop
 add-i c = omega arith
@@ -64,7 +76,9 @@ loop-less : tie.Need-loop-less Inv-loop μ-loop
 loop-less c = omega arith
 
 loop-again : tie.Need-loop-again Inv-loop μ-loop
-loop-again c = let at = c .before .before .before .before .before in passed-more _ _ _ _ (at .loop .inv) (search needs) (image (c .before)) (omega (arith, most (c .before))) (c .if3 .left)
+loop-again c =
+    let at = c .before .before .before .before .before .before .before in
+    passed-more _ _ _ _ _ (at .loop .inv) (search needs) (its (c .before)) (low (c .before)) (image (c .before .before)) (c .if3 .left)
 
 returns-4 : tie.Need-returns-4 Inv-loop μ-loop
 returns-4 c = sym (row-all _ _ _ _ (c .before .loop .inv) (c .before .before .if1 .left) (search needs))
@@ -77,11 +91,12 @@ is-row-spec =
     μ-loop
     returns
     loop-holds
-    mul-code
-    shared-slice-read-code
+    mul-wide
+    shared-slice-read-wide
+    wide-requires
     is-image-requires
     returns-2
-    cast-v
+    variable-requires
     array-read-if3
     returns-3
     array-write-seen

@@ -1,7 +1,7 @@
 -- `store::form::literals_within` meets its contract. The invariant: all are literals of 1..n if those from i on are. Assumes nothing.
-use mathlib.Core.Path.{_≡_, refl, sym, _∙_}
+use mathlib.Core.Path.{_≡_, refl, sym, ap, _∙_}
 use Prim.Native.Nat.{_-_}
-use lib.ListN.{length, drop}
+use lib.ListN.{length, getD, drop}
 use Rattle.lists.specs.Tests.{allOf}
 use Rattle.lists.proofs.Steps.{all-drop-miss, all-drop-hit, all-drop-end}
 use Rattle.store.specs.Literals.{isLiteral}
@@ -17,20 +17,29 @@ Inv-loop literals n i₀ i = allOf (isLiteral n) literals ≡ allOf (isLiteral n
 abbrev μ-loop : tie.MeasureT-loop
 μ-loop literals n i₀ i = length literals - i
 
+-- what was tested is the literal at i
+tested : (c : tie.After-is-literal Inv-loop μ-loop) → let at = c .before .before .before .before in
+    let a = at .before .before .args in
+    c .is-literal .result ≡ isLiteral (a .n) (getD (a .literals .now) (at .loop .i) 0)
+tested c = c .is-literal .ensures ∙ ap (isLiteral _) (c .before .wide .ensures .0)
+
 loop-holds : tie.Need-loop-holds Inv-loop μ-loop
 loop-holds c = refl
 
-mul-is-literal : tie.Need-mul-is-literal Inv-loop μ-loop
-mul-is-literal c = omega arith
+mul-wide : tie.Need-mul-wide Inv-loop μ-loop
+mul-wide c = omega arith
 
-shared-slice-read-is-literal : tie.Need-shared-slice-read-is-literal Inv-loop μ-loop
-shared-slice-read-is-literal c = omega arith
+shared-slice-read-wide : tie.Need-shared-slice-read-wide Inv-loop μ-loop
+shared-slice-read-wide c = omega arith
+
+wide-requires : tie.Need-wide-requires Inv-loop μ-loop
+wide-requires c κs = search needs
 
 is-literal-requires : tie.Need-is-literal-requires Inv-loop μ-loop
 is-literal-requires c κs = search needs
 
 returns : tie.Need-returns Inv-loop μ-loop
-returns c = let at = c .before .before .before .before in sym (at .loop .inv ∙ all-drop-miss (isLiteral _) _ (at .loop .i) 0 (search needs) (sym (c .before .is-literal .ensures) ∙ not-true _ (c .if1 .taken)))
+returns c = let at = c .before .before .before .before .before in sym (at .loop .inv ∙ all-drop-miss (isLiteral _) _ (at .loop .i) 0 (search needs) (sym (tested (c .before)) ∙ not-true _ (c .if1 .taken)))
 
 add-i : tie.Need-add-i Inv-loop μ-loop
 add-i c = omega arith
@@ -39,7 +48,7 @@ loop-less : tie.Need-loop-less Inv-loop μ-loop
 loop-less c = omega arith
 
 loop-again : tie.Need-loop-again Inv-loop μ-loop
-loop-again c = let at = c .before .before .before .before in at .loop .inv ∙ all-drop-hit (isLiteral _) _ (at .loop .i) 0 (search needs) (sym (c .before .is-literal .ensures) ∙ not-false _ (c .if1 .left))
+loop-again c = let at = c .before .before .before .before .before in at .loop .inv ∙ all-drop-hit (isLiteral _) _ (at .loop .i) 0 (search needs) (sym (tested (c .before)) ∙ not-false _ (c .if1 .left))
 
 returns-2 : tie.Need-returns-2 Inv-loop μ-loop
 returns-2 c = sym (c .before .loop .inv ∙ all-drop-end (isLiteral _) _ (c .before .loop .i) (search needs))
@@ -51,8 +60,9 @@ literals-within-spec =
     Inv-loop
     μ-loop
     loop-holds
-    mul-is-literal
-    shared-slice-read-is-literal
+    mul-wide
+    shared-slice-read-wide
+    wide-requires
     is-literal-requires
     returns
     add-i

@@ -2,28 +2,31 @@
 -- before them. Assumes nothing.
 use mathlib.Core.Path.{_≡_, refl, sym, _∙_}
 use Prim.Native.Nat.{_-_}
-use lib.Seq.{slice}
+use lib.ListN.{length, drop}
 use Rattle.symmetry.specs.Bucket.{bucketFrom, bucketOf}
-use Rattle.symmetry.proofs.BucketLaws.{clause-more, clause-end}
+use Rattle.symmetry.proofs.BucketLaws.{bucket-more, bucket-end}
 use borrow.Author.Needs.{needs}
 use native.Mathlib.Omega.{arith}
 use Rattle.symmetry.proofs.bucket.of_clause.Statement.{statement}
 use Rattle.symmetry.proofs.bucket.of_clause.Tie as tie
 
 abbrev Inv-loop : tie.InvT-loop
-Inv-loop literals from to least₀ greatest₀ i₀ least greatest i = bucketOf (slice from to literals) ≡ bucketFrom least greatest (slice i to literals)
+Inv-loop clause least₀ greatest₀ i₀ least greatest i = bucketOf clause ≡ bucketFrom least greatest (drop i clause)
 
 abbrev μ-loop : tie.MeasureT-loop
-μ-loop literals from to least₀ greatest₀ i₀ least greatest i = to - i
+μ-loop clause least₀ greatest₀ i₀ least greatest i = length clause - i
 
 loop-holds : tie.Need-loop-holds Inv-loop μ-loop
 loop-holds c = refl
 
-mul-code : tie.Need-mul-code Inv-loop μ-loop
-mul-code c = omega arith
+mul-wide : tie.Need-mul-wide Inv-loop μ-loop
+mul-wide c = omega arith
 
-shared-slice-read-code : tie.Need-shared-slice-read-code Inv-loop μ-loop
-shared-slice-read-code c = omega arith
+shared-slice-read-wide : tie.Need-shared-slice-read-wide Inv-loop μ-loop
+shared-slice-read-wide c = omega arith
+
+wide-requires : tie.Need-wide-requires Inv-loop μ-loop
+wide-requires c κs = search needs
 
 lesser-requires : tie.Need-lesser-requires Inv-loop μ-loop
 lesser-requires c κs = search needs
@@ -39,18 +42,14 @@ loop-less c = omega arith
 
 loop-again : tie.Need-loop-again Inv-loop μ-loop
 loop-again c =
-    let at = c .before .before .before .before in
-    let s = at .before .before in
-    at .loop .inv ∙ clause-more (s .args .literals .now) (at .loop .i) (s .args .to) (s .pre) _ _ (search needs) _ _ (c .before .lesser .ensures) (c .greater .ensures)
+    let at = c .before .before .before .before .before in
+    at .loop .inv ∙ bucket-more _ (at .loop .i) _ _ (search needs) _ _ _ (c .before .before .wide .ensures .0) (c .before .lesser .ensures) (c .greater .ensures)
 
 number-requires : tie.Need-number-requires Inv-loop μ-loop
 number-requires c κs = search needs
 
 returns : tie.Need-returns Inv-loop μ-loop
-returns c =
-    let at = c .before .before in
-    let s = at .before .before in
-    c .number .ensures ∙ sym (at .loop .inv ∙ clause-end (s .args .literals .now) (at .loop .i) (s .args .to) (s .pre) _ _ (search needs))
+returns c = let at = c .before .before in c .number .ensures ∙ sym (at .loop .inv ∙ bucket-end _ (at .loop .i) _ _ (search needs))
 
 pub of-clause-spec : {M : Type 1} → statement M
 of-clause-spec =
@@ -59,8 +58,9 @@ of-clause-spec =
     Inv-loop
     μ-loop
     loop-holds
-    mul-code
-    shared-slice-read-code
+    mul-wide
+    shared-slice-read-wide
+    wide-requires
     lesser-requires
     greater-requires
     add-i

@@ -2,35 +2,39 @@
 -- before them. Assumes nothing.
 use mathlib.Core.Path.{_≡_, refl, sym, _∙_}
 use Prim.Native.Nat.{_-_}
-use lib.Seq.{slice}
+use lib.ListN.{length, drop}
 use Rattle.symmetry.specs.Symmetry.{clauseImage}
 use Rattle.symmetry.specs.Bucket.{bucketFrom, bucketOf}
-use Rattle.symmetry.proofs.BucketLaws.{image-more, image-end}
+use Rattle.symmetry.proofs.BucketLaws.{bucket-more, bucket-end}
+use Rattle.symmetry.proofs.ImageLaws.{image-length, image-at, fitting-at}
 use borrow.Author.Needs.{needs}
 use native.Mathlib.Omega.{arith}
 use Rattle.symmetry.proofs.bucket.of_image.Statement.{statement}
 use Rattle.symmetry.proofs.bucket.of_image.Tie as tie
 
 abbrev Inv-loop : tie.InvT-loop
-Inv-loop literals row from to least₀ greatest₀ i₀ least greatest i = bucketOf (clauseImage row (slice from to literals)) ≡ bucketFrom least greatest (clauseImage row (slice i to literals))
+Inv-loop clause row least₀ greatest₀ i₀ least greatest i = bucketOf (clauseImage row clause) ≡ bucketFrom least greatest (drop i (clauseImage row clause))
 
 abbrev μ-loop : tie.MeasureT-loop
-μ-loop literals row from to least₀ greatest₀ i₀ least greatest i = to - i
+μ-loop clause row least₀ greatest₀ i₀ least greatest i = length clause - i
 
 loop-holds : tie.Need-loop-holds Inv-loop μ-loop
 loop-holds c = refl
 
-mul-image : tie.Need-mul-image Inv-loop μ-loop
-mul-image c = omega arith
+mul-wide : tie.Need-mul-wide Inv-loop μ-loop
+mul-wide c = omega arith
 
-shared-slice-read-image : tie.Need-shared-slice-read-image Inv-loop μ-loop
-shared-slice-read-image c = omega arith
+shared-slice-read-wide : tie.Need-shared-slice-read-wide Inv-loop μ-loop
+shared-slice-read-wide c = omega arith
+
+wide-requires : tie.Need-wide-requires Inv-loop μ-loop
+wide-requires c κs = search needs
 
 image-requires : tie.Need-image-requires Inv-loop μ-loop
 image-requires c κs =
-    let at = c .before .before in
-    let fits = at .before .before .before .pre .1 in
-    (fits .low (at .loop .i) (omega arith), fits .high (at .loop .i) (omega arith))
+    let at = c .before .before .before in
+    let s = at .before .before .before in
+    fitting-at (s .args .row .now) (s .args .clause .now) (at .loop .i) _ (omega arith) (c .wide .ensures .0) (s .pre)
 
 lesser-requires : tie.Need-lesser-requires Inv-loop μ-loop
 lesser-requires c κs = search needs
@@ -46,11 +50,12 @@ loop-less c = omega arith
 
 loop-again : tie.Need-loop-again Inv-loop μ-loop
 loop-again c =
-    let at = c .before .before .before .before .before in
-    let s = at .before .before .before in
-    let image = c .before .before .image .ensures in
+    let at = c .before .before .before .before .before .before in
+    let a = at .before .before .before .args in
+    let w = c .before .before .before in
     at .loop .inv
-    ∙ image-more (s .args .literals .now) (at .loop .i) (s .args .to) (s .pre .0) _ _ (s .args .row .now) (search needs) _ _ (rw (← image) (c .before .lesser .ensures)) (rw (← image) (c .greater .ensures))
+    ∙ bucket-more _ (at .loop .i) _ _ (omega (arith, image-length (a .row .now) (a .clause .now))) _ _ _
+    (image-at (a .row .now) (a .clause .now) (at .loop .i) _ (omega arith) (w .wide .ensures .0) _ (c .before .before .image .ensures)) (c .before .lesser .ensures) (c .greater .ensures)
 
 number-requires : tie.Need-number-requires Inv-loop μ-loop
 number-requires c κs = search needs
@@ -58,8 +63,8 @@ number-requires c κs = search needs
 returns : tie.Need-returns Inv-loop μ-loop
 returns c =
     let at = c .before .before in
-    let s = at .before .before .before in
-    c .number .ensures ∙ sym (at .loop .inv ∙ image-end (s .args .literals .now) (at .loop .i) (s .args .to) (s .pre .0) _ _ (s .args .row .now) (search needs))
+    let a = at .before .before .before .args in
+    c .number .ensures ∙ sym (at .loop .inv ∙ bucket-end _ (at .loop .i) _ _ (omega (arith, image-length (a .row .now) (a .clause .now))))
 
 pub of-image-spec : {M : Type 1} → statement M
 of-image-spec =
@@ -68,8 +73,9 @@ of-image-spec =
     Inv-loop
     μ-loop
     loop-holds
-    mul-image
-    shared-slice-read-image
+    mul-wide
+    shared-slice-read-wide
+    wide-requires
     image-requires
     lesser-requires
     greater-requires

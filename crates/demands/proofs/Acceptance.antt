@@ -23,7 +23,7 @@ use Rattle.permutation.specs.declared.Stated.{Stated}
 use Rattle.permutation.proofs.RowLaws.{row-length}
 use Rattle.permutation.proofs.Theorem.{stated-row}
 use Rattle.symmetry.specs.Symmetry.{IsSymmetry, firstMissing}
-use Rattle.symmetry.proofs.Facts.{literals-within}
+use Rattle.store.proofs.Within.{literals-within}
 use Rattle.symmetry.proofs.Theorem.{none-missing-iff}
 use Rattle.offering.specs.Offering.{rowFor, imagesNeeded, ifRoom, ifSymmetry, ifStated, offeredBy}
 use Rattle.offering.specs.declared.Offered.{Offered}

@@ -18,7 +18,7 @@ use Rattle.store.specs.Stores.{Store, heldRows, isRow, standingOf}
 use Rattle.store.specs.declared.form.Standing.{Standing}
 use Rattle.store.proofs.Formed.{formed}
 use Rattle.store.proofs.Demands.{rows-of}
-use Rattle.symmetry.proofs.Facts.{literals-within}
+use Rattle.store.proofs.Within.{literals-within}
 use Rattle.lexleader.specs.Made.{made, madeVariables, settings, filledIn}
 use Rattle.lexleader.specs.Models.{Model}
 use Rattle.lexleader.specs.Kept.{Completes, Symmetric}

@@ -14,7 +14,7 @@ use Rattle.store.specs.declared.answer.Answer.{Answer}
 use Rattle.store.specs.declared.refusal.Refusal.{Refusal}
 use Rattle.lexleader.specs.Store.{clausesOf}
 use Rattle.lexleader.specs.Counted.{Counted}
-use Rattle.lexleader.specs.declared.Totals.{Totals}
+use Rattle.lexleader.specs.declared.counting.Totals.{Totals}
 use Rattle.lexleader.proofs.MadeLaws.{counted-variables, counted-clauses}
 use Rattle.render.specs.Text.{headerLine, writtenAt}
 use Rattle.emit.specs.Emit.{headerOf, lineOf, writtenIf, clauseBy}

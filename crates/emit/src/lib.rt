@@ -1,6 +1,6 @@
 // The made formula as text (document 01, "Made formula"): the header, and clause q of a well-formed store, each as one line at the start of a lent buffer. A line is
 // measured before it is written, so that a refusal has written nothing.
-use lexleader::Totals;
+use lexleader::counting::Totals;
 use store::answer::Answer;
 use store::record::Record;
 use store::refusal::Refusal;
@@ -48,7 +48,7 @@ pub fn clause(
     if q == 0 {
         return Answer::Refused(Refusal::NoSuchClause);
     }
-    let total = lexleader::totals_of(counts, images);
+    let total = lexleader::counting::totals_of(counts, images);
     if total.clauses < q {
         return Answer::Refused(Refusal::NoSuchClause);
     }
@@ -71,7 +71,7 @@ fn added(counts: Record, images: &[u16], c: usize, out: &mut [u8]) -> Answer
     ensures buffer { λ r. let rows = rowsOf (counts .variables) (counts .rows) (now (images .entry)) in
         ⌜ now (out .exit) ≡ bufferLeft (said r) (clauseLine (getD (rowsClauses (counts .variables + 1) rows) c [])) (now (out .entry)) ⌝ }
 {
-    let clause = lexleader::added_clause(images, counts.rows, counts.variables, c);
+    let clause = lexleader::numbered::added_clause(images, counts.rows, counts.variables, c);
     let codes = clause.literals;
     let count = clause.count;
     write_codes(&codes[..count], out)

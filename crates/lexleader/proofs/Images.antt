@@ -6,14 +6,13 @@ use Prim.Native.Nat.{ℕ, _-_, _/_}
 use native.Mathlib.Omega.{arith}
 use lib.ListN.{length, getD, length-map}
 use Rattle.lists.specs.Tests.{allOf}
-use Rattle.lists.proofs.Members.{any-at, any-in, map-at}
+use Rattle.lists.proofs.Members.{any-at, any-in, map-at, any-map}
 use Rattle.packed.specs.Order.{valueOf}
 use Rattle.store.specs.Literals.{isNegative, oppositeOf, isLiteral}
 use Rattle.store.proofs.FormLaws.{literal-low, literal-high}
 use Rattle.symmetry.specs.Sets.{SameSet, Among}
 use Rattle.symmetry.specs.Symmetry.{imageOf, clauseImage, IsSymmetry}
 use Rattle.symmetry.proofs.SetLaws.{mem-at, at-mem, same-eq, same-sym}
-use Rattle.symmetry.proofs.Ranges.{any-map}
 use Rattle.lexleader.specs.Models.{literalValue, clauseHolds, formulaHolds}
 use Rattle.lexleader.specs.Rows.{moved}
 use Rattle.lexleader.proofs.Tests.{all-mem, mem-all, any-same}

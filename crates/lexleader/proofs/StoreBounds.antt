@@ -16,7 +16,7 @@ use Rattle.store.specs.Literals.{isLiteral}
 use Rattle.store.specs.Stores.{Store, maxLiterals, literalCount, plainOf, heldRows, wellFormed}
 use Rattle.store.proofs.Demands.{rows-of}
 use Rattle.store.proofs.Formed.{formed, formed-clauses}
-use Rattle.symmetry.proofs.Facts.{literals-within}
+use Rattle.store.proofs.Within.{literals-within}
 use Rattle.symmetry.proofs.SetLaws.{mem-at}
 use Rattle.lexleader.specs.Made.{allAuxiliaries, madeVariables}
 use Rattle.lexleader.specs.Store.{madeOf, variablesOf, clausesOf}

@@ -6,11 +6,11 @@
 // allow, "A agrees with A moved by p on x1 .. xj", and no other: without r4 and r5 an auxiliary could be false where all agrees, and a kept
 // model would have several settings (`one-setting`, proofs/Theorems.antt). r6, with r1 of the first column, makes the order: where
 // everything up to xj agrees, xj+1 is at most yj+1.
+use store::literal::opposite;
 ghost use mathlib.Core.Path.{_≡_};
 ghost use mathlib.Core.List.{_∷_, []};
 ghost use Prim.Native.Nat.{_+_, _-_, _≤_};
 ghost use lib.ListN.{getD};
-ghost use Rattle.store.specs.Literals.{oppositeOf};
 ghost use Rattle.lexleader.specs.Bounds.{maxMadeVariables};
 ghost use Rattle.lexleader.specs.Clause.{ClauseIs, tableOf};
 
@@ -86,14 +86,4 @@ fn four(a: u32, b: u32, c: u32, d: u32) -> Clause
         count: 4,
         literals: [a, b, c, d],
     }
-}
-
-// The opposite literal.
-fn opposite(code: u32) -> u32
-    ensures { λ r. ⌜ r ≡ oppositeOf code ⌝ }
-{
-    if code % 2 == 1 {
-        return code - 1;
-    }
-    code + 1
 }

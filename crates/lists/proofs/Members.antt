@@ -46,6 +46,11 @@ all-append q [] b = refl
 all-append q (x ∷ a) b = rw (all-append q a b, and-assoc)
 
 -- the element at a place of a list mapped
+pub any-map : {A B : Type 0} (q : B → Bool) (g : A → B) (l : List A) → anyOf q (map g l) ≡ anyOf (λ x. q (g x)) l
+unfolding anyOf
+any-map q g [] = refl
+any-map q g (x ∷ l) = rw (any-map q g l)
+
 pub map-at : {A B : Type 0} (f : A → B) (l : List A) (i : ℕ) (d : A) (e : B) → i < length l → getD (map f l) i e ≡ f (getD l i d)
 map-at f [] i d e h = absurd (not-suc-le-zero h)
 map-at f (x ∷ l) zero d e h = refl

@@ -98,11 +98,11 @@ fn header(counts: Record, literals: &[u16], ends: &[u16], images: &[u16], out: &
     ensures { λ r. let s = stored counts (literals .entry) (ends .entry) (images .entry) in
         ⌜ PageStep s Stage.Header (now (out .entry)) (r .stage) (r .bytes) (now (out .exit)) ⌝ }
 {
-    let total = lexleader::totals_of(counts, images);
+    let total = lexleader::counting::totals_of(counts, images);
     let bytes = render::put_header(out, 0, total.variables as u64, total.clauses as u64);
     Printed {
         bytes: bytes,
-        stage: Stage::Clauses(cursor::start(counts, literals, ends, images)),
+        stage: Stage::Clauses(cursor::start(counts, images)),
     }
 }
 

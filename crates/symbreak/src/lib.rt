@@ -143,7 +143,7 @@ pub fn header(
     if let Standing::Refused(refusal) = store::form::admit(counts, literals, ends, images) {
         return Answer::Refused(refusal);
     }
-    emit::header(lexleader::totals_of(counts, images), out)
+    emit::header(lexleader::counting::totals_of(counts, images), out)
 }
 
 // Writes the line of the made formula's clause q, from 1.
@@ -188,8 +188,8 @@ pub fn fill_in(
     if !packed::is_assignment(a, counts.variables) {
         return Answer::Refused(Refusal::BadAssignment);
     }
-    let total = lexleader::totals_of(counts, images);
-    let needed = (total.variables + 63) / 64;
+    let total = lexleader::counting::totals_of(counts, images);
+    let needed = packed::word_count(total.variables);
     if out.len() < needed {
         return Answer::Refused(Refusal::TooShort(needed));
     }
@@ -204,7 +204,7 @@ pub fn check(counts: Record, literals: &[u16], ends: &[u16], images: &[u16], a: 
     if let Standing::Refused(refusal) = store::form::admit(counts, literals, ends, images) {
         return Finding::Refused(refusal);
     }
-    let total = lexleader::totals_of(counts, images);
+    let total = lexleader::counting::totals_of(counts, images);
     if !packed::is_assignment(a, total.variables) {
         return Finding::Refused(Refusal::BadAssignment);
     }

@@ -3,11 +3,12 @@
 use packed::writer;
 use packed::writer::Writer;
 ghost use mathlib.Core.Path.{_≡_};
-ghost use Prim.Native.Nat.{ℕ, _+_, _*_, _/_, _≤_};
+ghost use Prim.Native.Nat.{ℕ, _+_, _*_, _≤_};
 ghost use lib.ListN.{length};
 ghost use Rattle.packed.specs.Words.{bitsOf, wordCount};
 ghost use Rattle.packed.specs.Order.{valueOf};
 ghost use Rattle.packed.specs.Writing.{WriterHolds};
+ghost use Rattle.store.specs.Literals.{variableOf};
 ghost use Rattle.store.specs.Stores.{maxVariables};
 ghost use Rattle.lexleader.specs.Models.{literalValue};
 ghost use Rattle.valuation.specs.Tables.{bitsIn, Table};
@@ -17,11 +18,11 @@ pub const TABLE: usize = 1026;
 
 // The value of a literal whose variable is one of those that the words hold.
 pub fn literal_value(a: &[u64], code: u32) -> bool
-    requires { ⌜ (1 ≤ code / 2) × (code / 2 ≤ 64 * length (now a)) ⌝ }
-    ensures { λ r. ⌜ ((n : ℕ) → code / 2 ≤ n → r ≡ literalValue (valueOf (bitsOf n (now (a .entry)))) code) ⌝ }
+    requires { ⌜ (1 ≤ variableOf code) × (variableOf code ≤ 64 * length (now a)) ⌝ }
+    ensures { λ r. ⌜ ((n : ℕ) → variableOf code ≤ n → r ≡ literalValue (valueOf (bitsOf n (now (a .entry)))) code) ⌝ }
 {
-    let value = packed::value(a, (code / 2) as usize);
-    if code % 2 == 1 {
+    let value = packed::value(a, store::literal::variable(code));
+    if store::literal::is_negative(code) {
         return !value;
     }
     value

@@ -14,7 +14,7 @@ use Rattle.emit.proofs.added.Statement.{statement}
 use Rattle.emit.proofs.added.Tie as tie
 
 added-clause-requires : tie.Need-added-clause-requires
-added-clause-requires c κs = let s = c .before .before in let rows = s .pre .0 in (rows .small, rows .few, rows .fits, s .pre .1)
+added-clause-requires c κs = search needs
 
 array-share-prefix-codes : tie.Need-array-share-prefix-codes
 array-share-prefix-codes c = let h = c .before .added-clause .ensures in omega (arith, h .few, h .room)

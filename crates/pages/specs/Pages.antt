@@ -1,13 +1,14 @@
 -- The made formula written page after page: a buffer filled with the lines of as many clauses as fit, from a cursor on. Assumes nothing.
 use mathlib.Core.Path.{_≡_}
-use Prim.Native.Nat.{ℕ, _+_, _*_, _≤_}
+use Prim.Native.Nat.{ℕ, _+_, _≤_}
 use mathlib.Core.Bool.{cond}
 use mathlib.Core.List.{List, [], _∷_}
 use lib.ListN.{length}
 use lib.Dec.{leb}
-use Rattle.store.specs.Stores.{Store, maxLiterals}
+use Rattle.store.specs.declared.record.Record.{Record}
 use Rattle.render.specs.Text.{clauseLine, writtenAt}
-use Rattle.cursor.specs.Cursors.{clausesLeft, Points}
+use Rattle.emit.specs.Emit.{maxLine}
+use Rattle.cursor.specs.Cursors.{leftOf, Points}
 use Rattle.cursor.specs.declared.Cursor.{Cursor}
 
 -- a buffer afterwards, the place after what was written, and the clauses that did not fit
@@ -24,16 +25,16 @@ fillFrom at (clause ∷ clauses) out =
     (fillFrom (at + length (clauseLine clause)) clauses (writtenAt at (clauseLine clause) out))
     (record { buffer = out; end = at; left = clause ∷ clauses })
 
--- no line of the made formula is longer: a literal and the space after it have at most 7 bytes
+-- no line of the made formula is longer
 abbrev pub longest : ℕ
-longest = 7 * maxLiterals + 2
+longest = maxLine
 
 -- One step of filling, from the cursor c and the place `at` to d and `to`: a line is added, or nothing where none is left or the next does not fit.
-pub record Goes (s : Store) (c : Cursor) (at : ℕ) (out : List ℕ) (d : Cursor) (to : ℕ) (after : List ℕ) : Type 0 where
-  pub same : fillFrom to (clausesLeft s d) after ≡ fillFrom at (clausesLeft s c) out
-  pub points : Points (s .counts) (s .images) d
+pub record PageStep (plain : List (List ℕ)) (counts : Record) (images : List ℕ) (c : Cursor) (at : ℕ) (out : List ℕ) (d : Cursor) (to : ℕ) (after : List ℕ) : Type 0 where
+  pub same : fillFrom to (leftOf plain counts images d) after ≡ fillFrom at (leftOf plain counts images c) out
+  pub points : Points counts images d
   pub onward : at ≤ to
   pub within : to ≤ length after
   pub size : length after ≡ length out
-  pub stopped : to ≡ at → fillFrom at (clausesLeft s c) out ≡ record { buffer = after; end = at; left = clausesLeft s c }
-  pub moves : at + longest ≤ length out → to ≡ at → clausesLeft s c ≡ []
+  pub stopped : to ≡ at → fillFrom at (leftOf plain counts images c) out ≡ record { buffer = after; end = at; left = leftOf plain counts images c }
+  pub moves : at + longest ≤ length out → to ≡ at → leftOf plain counts images c ≡ []

@@ -1,16 +1,17 @@
-// The made formula's clauses written page after page (document 01, "Quality figure and program"): a buffer is filled with as many lines as fit, and a
-// cursor says where the next page begins, so that no row is walked again for each clause. What carries the proofs: the clauses that are left decide
-// what a page holds (specs/Pages.antt), and each line that is added leaves that as it was.
+// The made formula's clauses written page after page (document 01, "Quality figure and program"): a buffer is filled with as many lines as
+// fit, and a cursor says where the next page begins, so that no row is walked again for each clause. What carries the proofs: the clauses
+// that are left decide what a page holds (specs/Pages.antt), and each line that is added leaves that as it was.
 use cursor::Cursor;
 use store::record::Record;
 ghost use mathlib.Core.Path.{_≡_};
 ghost use mathlib.Core.Bool.{true};
-ghost use mathlib.Core.List.{[]};
-ghost use Prim.Native.Nat.{_≤_, _<_};
-ghost use lib.ListN.{length};
-ghost use Rattle.store.specs.Stores.{lent, wellFormed};
-ghost use Rattle.cursor.specs.Cursors.{clausesLeft, Points};
-ghost use Rattle.pages.specs.Pages.{Filled, fillFrom, longest, Goes};
+ghost use mathlib.Core.List.{List, []};
+ghost use Prim.Native.Nat.{ℕ, _≤_, _<_};
+ghost use lib.ListN.{length, getD};
+ghost use Rattle.store.specs.Stores.{stored, clauseAt, plainOf, wellFormed, FormedClauses};
+ghost use Rattle.render.specs.Text.{clauseLine};
+ghost use Rattle.cursor.specs.Cursors.{clausesLeft, Points, AtAdded};
+ghost use Rattle.pages.specs.Pages.{Filled, fillFrom, longest, PageStep};
 
 // How many bytes of the buffer a page has, and where the next one begins.
 pub struct Page {
@@ -33,10 +34,13 @@ pub fn fill(
     cursor: Cursor,
     out: &mut [u8],
 ) -> Page
-    requires { ⌜ (wellFormed (lent counts (now literals) (now ends) (now images)) ≡ true) × Points counts (now images) cursor ⌝ }
-    ensures filled { λ r. ⌜ _≡_ {A = Filled} (record { buffer = now (out .exit); end = r .bytes; left = clausesLeft (lent counts (now (literals .entry)) (now (ends .entry)) (now (images .entry))) (r .cursor) }) (fillFrom 0 (clausesLeft (lent counts (now (literals .entry)) (now (ends .entry)) (now (images .entry))) cursor) (now (out .entry))) ⌝ }
+    requires { ⌜ (wellFormed (stored counts literals ends images) ≡ true) × Points counts (now images) cursor ⌝ }
+    ensures filled { λ r. let s = stored counts (literals .entry) (ends .entry) (images .entry) in
+        ⌜ _≡_ {A = Filled} (record { buffer = now (out .exit); end = r .bytes; left = clausesLeft s (r .cursor) })
+        (fillFrom 0 (clausesLeft s cursor) (now (out .entry))) ⌝ }
     ensures points { λ r. ⌜ Points counts (now (images .entry)) (r .cursor) ⌝ }
-    ensures moves { λ r. ⌜ (longest ≤ length (now (out .entry)) → r .bytes ≡ 0 → clausesLeft (lent counts (now (literals .entry)) (now (ends .entry)) (now (images .entry))) cursor ≡ []) ⌝ }
+    ensures moves { λ r. let s = stored counts (literals .entry) (ends .entry) (images .entry) in
+        ⌜ (longest ≤ length (now (out .entry)) → r .bytes ≡ 0 → clausesLeft s cursor ≡ []) ⌝ }
 {
     let mut at = 0;
     let mut next = cursor;
@@ -63,14 +67,15 @@ fn add_line(
     out: &mut [u8],
     at: usize,
 ) -> Line
-    requires { ⌜ (wellFormed (lent counts (now literals) (now ends) (now images)) ≡ true) × Points counts (now images) cursor × (at ≤ length (now out)) ⌝ }
-    ensures { λ r. ⌜ Goes (lent counts (now (literals .entry)) (now (ends .entry)) (now (images .entry))) cursor at (now (out .entry)) (r .cursor) (r .at) (now (out .exit)) ⌝ }
+    requires { ⌜ (wellFormed (stored counts literals ends images) ≡ true) × Points counts (now images) cursor × (at ≤ length (now out)) ⌝ }
+    ensures { λ r. let plain = plainOf (stored counts (literals .entry) (ends .entry) (images .entry)) in
+        ⌜ PageStep plain counts (now (images .entry)) cursor at (now (out .entry)) (r .cursor) (r .at) (now (out .exit)) ⌝ }
 {
     if cursor.plain < counts.clauses {
-        return add_plain(counts, literals, ends, images, cursor, out, at);
+        return add_plain(counts, literals, ends, cursor, out, at);
     }
     if cursor.row < counts.rows {
-        return add_added(counts, literals, ends, images, cursor, out, at);
+        return add_added(counts, images, cursor, out, at);
     }
     Line {
         at: at,
@@ -83,25 +88,27 @@ fn add_plain(
     counts: Record,
     literals: &[u16],
     ends: &[u16],
-    images: &[u16],
     cursor: Cursor,
     out: &mut [u8],
     at: usize,
 ) -> Line
-    requires { ⌜ (wellFormed (lent counts (now literals) (now ends) (now images)) ≡ true) × Points counts (now images) cursor × (at ≤ length (now out)) × (cursor .plain < counts .clauses) ⌝ }
-    ensures { λ r. ⌜ Goes (lent counts (now (literals .entry)) (now (ends .entry)) (now (images .entry))) cursor at (now (out .entry)) (r .cursor) (r .at) (now (out .exit)) ⌝ }
+    requires { ⌜ FormedClauses (counts .clauses) (now literals) (now ends) × (cursor .plain < counts .clauses) × (at ≤ length (now out))
+        × (length (clauseLine (clauseAt (now literals) (now ends) (cursor .plain))) ≤ longest) ⌝ }
+    ensures { λ r. let clause = clauseAt (now (literals .entry)) (now (ends .entry)) (cursor .plain) in
+        ⌜ ((plain : List (List ℕ)) → length plain ≡ counts .clauses → getD plain (cursor .plain) [] ≡ clause
+        → (images : List ℕ) → Points counts images cursor
+        → PageStep plain counts images cursor at (now (out .entry)) (r .cursor) (r .at) (now (out .exit))) ⌝ }
 {
     let written = cursor.plain;
-    let start = store::clauses::literal_count(ends, written);
-    let end = store::clauses::literal_count(ends, written + 1);
-    let needed = render::stored_length(&literals[start..end]);
+    let clause = store::clauses::clause(literals, ends, counts.clauses, written);
+    let needed = render::stored_length(clause);
     if out.len() - at < needed {
         return Line {
             at: at,
             cursor: cursor,
         };
     }
-    let past = render::put_stored(out, at, &literals[start..end]);
+    let past = render::put_stored(out, at, clause);
     let place = cursor.place;
     Line {
         at: past,
@@ -114,22 +121,15 @@ fn add_plain(
 }
 
 // Adds the line of a clause that the cursor's row adds.
-fn add_added(
-    counts: Record,
-    literals: &[u16],
-    ends: &[u16],
-    images: &[u16],
-    cursor: Cursor,
-    out: &mut [u8],
-    at: usize,
-) -> Line
-    requires { ⌜ (wellFormed (lent counts (now literals) (now ends) (now images)) ≡ true) × Points counts (now images) cursor × (at ≤ length (now out)) × (counts .clauses ≤ cursor .plain) × (cursor .row < counts .rows) ⌝ }
-    ensures { λ r. ⌜ Goes (lent counts (now (literals .entry)) (now (ends .entry)) (now (images .entry))) cursor at (now (out .entry)) (r .cursor) (r .at) (now (out .exit)) ⌝ }
+fn add_added(counts: Record, images: &[u16], cursor: Cursor, out: &mut [u8], at: usize) -> Line
+    requires { ⌜ Points counts (now images) cursor × AtAdded counts cursor × (at ≤ length (now out)) ⌝ }
+    ensures { λ r. let images = now (images .entry) in
+        ⌜ ((plain : List (List ℕ)) → length plain ≡ counts .clauses
+        → PageStep plain counts images cursor at (now (out .entry)) (r .cursor) (r .at) (now (out .exit))) ⌝ }
 {
-    let from = cursor.row * counts.variables;
-    let to = from + counts.variables;
+    let row = store::rows::row(images, counts.variables, cursor.row);
     let place = cursor.place;
-    let clause = lexleader::places::clause_at(&images[from..to], place);
+    let clause = lexleader::places::clause_at(row, place);
     let next = cursor::next_added(counts, images, cursor);
     let codes = clause.literals;
     let count = clause.count;

@@ -1,9 +1,9 @@
 -- The settings of a row's auxiliaries as two runs, how far its variables agree with their images, and what the settings of all rows come to.
 -- Assumes nothing.
-use mathlib.Core.Path.{_≡_, refl, sym, ap, _∙_}
+use mathlib.Core.Path.{_≡_, refl, sym, ap, ap₂, _∙_}
 use mathlib.Core.Bool.{Bool, true, false, not, cond, Bool·beq}
 use mathlib.Core.List.{List, [], _∷_, _++_}
-use Prim.Native.Nat.{ℕ, suc, _+_, _-_, _*_, _≤_, _<_}
+use Prim.Native.Nat.{ℕ, suc, _+_, _-_, _*_, _/_, _≤_, _<_}
 use native.Mathlib.Omega.{arith}
 use borrow.Author.Tests.{eqb-true, eqb-false}
 use mir.Val.{boolByte}
@@ -24,6 +24,7 @@ use Rattle.lexleader.specs.Made.{agrees, settingsAfter, rowSettings, settings, 
 use Rattle.lexleader.proofs.Settings.{length-settings}
 use Rattle.lexleader.proofs.Walk.{walk-past, walk-moved, walk-end}
 use Rattle.lexleader.proofs.Bounds.{all-auxiliaries-most}
+use Rattle.valuation.specs.Tables.{bitsIn, Table}
 use Rattle.filling.specs.Written.{agreeing}
 
 beq-refl : (b : Bool) → Bool·beq b b ≡ true
@@ -76,6 +77,12 @@ module _ (row : List ℕ) (bits : List Bool) (all agreed : ℕ) (count : all ≡
   settings-apart h = rw count (after-true (valueOf bits) (pairsOf row) agreed is .1 (omega (arith, count)))
 
 -- ---- how far a row's variables agree with their images
+
+-- the code reads the values of a variable and of its image from a table
+pub agrees-is : {n : ℕ} {values : List Bool} → Table n values → (x y : ℕ) → 1 ≤ x / 2 → x / 2 ≤ n → 1 ≤ y / 2 → y / 2 ≤ n
+    → Bool·beq (getD values x false) (getD values y false) ≡ agrees (valueOf (bitsIn n values)) (record { x = x; y = y })
+unfolding agrees
+agrees-is t x y a b c d = ap₂ Bool·beq (t .value x a b) (t .value y c d)
 
 module _ (v : ℕ → Bool) (row : List ℕ) (i : ℕ) where
   pub agreeing-end : length row ≤ i → agreeing v (pairsAt i row) ≡ 0

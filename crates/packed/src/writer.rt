@@ -7,8 +7,8 @@
 //
 // What makes the proofs go: a writer and its buffer hold a list of values (`WriterHolds`), whose words are binary numbers, and k equal
 // digits behind a number are one shift and one addition (`binary-run`). So each function appends a list (`Appends`), whatever values are
-// held before; lists that are appended one after another are put together by `WriterRun` (proofs/Runs.antt), and `finish` leaves `wordsOf` of
-// what is held.
+// held before; lists that are appended one after another are put together by `WriterRun` (proofs/Runs.antt), and `finish` leaves
+// `wordsOf` of what is held.
 ghost use mathlib.Core.Path.{_≡_};
 ghost use mathlib.Core.Bool.{Bool, cond};
 ghost use mathlib.Core.List.{List, [], _++_};

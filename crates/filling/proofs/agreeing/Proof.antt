@@ -14,8 +14,7 @@ use Rattle.lexleader.specs.Made.{agrees}
 use Rattle.lexleader.proofs.Walk.{pairs-start, walk-counts}
 use Rattle.valuation.specs.Tables.{bitsIn}
 use Rattle.filling.specs.Written.{agreeing}
-use Rattle.filling.proofs.Values.{agrees-is}
-use Rattle.filling.proofs.Runs.{agreeing-end, agreeing-stops, agreeing-on}
+use Rattle.filling.proofs.Runs.{agrees-is, agreeing-end, agreeing-stops, agreeing-on}
 use Rattle.filling.proofs.agreeing.Statement.{statement}
 use Rattle.filling.proofs.agreeing.Tie as tie
 

@@ -5,8 +5,7 @@ use mathlib.Core.List.{[], _∷_, map}
 use Rattle.lists.specs.Tests.{allOf}
 use Rattle.dimacs.specs.Words.{isBlank, run, wordsFrom, wordsAt}
 use Rattle.dimacs.specs.Lines.{linesFrom, linesAt}
-use Rattle.dimacs.specs.Numbers.{isDigit, decimalFrom, digitsOf, sizeOf, numberOf, readingAt}
-use Rattle.dimacs.specs.declared.Numeral.{Numeral}
+use Rattle.dimacs.specs.Numbers.{Numeral, isDigit, decimalFrom, digitsOf, sizeOf, numberOf, readingAt}
 use Rattle.dimacs.specs.declared.Reading.{Reading}
 
 -- the empty word, `-`, `-0`, `00`, `01`, `+1` and `1000000`

@@ -14,8 +14,7 @@ use lib.Seq.{drop-cons, take-nil}
 use Rattle.lists.specs.Tests.{allOf}
 use Rattle.lists.proofs.Cases.{never, and-l, and-r}
 use Rattle.dimacs.specs.Words.{isBlank, isWordByte, run}
-use Rattle.dimacs.specs.Numbers.{isDigit, decimalFrom, digitsOf, padded, sizeOf, positive, negated, numberOf}
-use Rattle.dimacs.specs.declared.Size.{Size}
+use Rattle.dimacs.specs.Numbers.{Size, isDigit, decimalFrom, digitsOf, padded, sizeOf, positive, negated, numberOf}
 use Rattle.dimacs.proofs.Runs.{run-length}
 
 -- ---- digits

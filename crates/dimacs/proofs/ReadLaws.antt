@@ -13,9 +13,7 @@ use lib.Seq.{drop-drop, getD-drop}
 use Rattle.lists.proofs.Cases.{lt-or-le}
 use Rattle.lists.proofs.Members.{all-at}
 use Rattle.dimacs.specs.Words.{isBlank, isWordByte, run, runEnd}
-use Rattle.dimacs.specs.Numbers.{isDigit, decimalFrom, digitsOf, sizeOf, positive, negated, numberOf, wordAt, readingIf, readingAt}
-use Rattle.dimacs.specs.declared.Size.{Size}
-use Rattle.dimacs.specs.declared.Numeral.{Numeral}
+use Rattle.dimacs.specs.Numbers.{Size, Numeral, isDigit, decimalFrom, digitsOf, sizeOf, positive, negated, numberOf, wordAt, readingIf, readingAt}
 use Rattle.dimacs.specs.declared.Reading.{Reading}
 use Rattle.dimacs.proofs.Runs.{run-length, run-all, run-first, run-step}
 use Rattle.dimacs.proofs.NumberLaws.{digit-range, decimal-some, decimal-zero, digits-are, minus-ink, size-empty, size-padded, size-zero, size-digits, size-goes-on, number-minus, number-plain, word-is-digits}

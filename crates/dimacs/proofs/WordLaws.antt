@@ -8,10 +8,9 @@ use native.Mathlib.Omega.{arith}
 use lib.ListN.{length, drop, getD, drop-of-length-le}
 use lib.Seq.{drop-cons, drop-drop}
 use Rattle.dimacs.specs.Words.{isBlank, isWordByte, run, runEnd, Piece, wordsFrom, wordsAt}
-use Rattle.dimacs.specs.Numbers.{numberOf, wordAt, readingIf, readingAt}
+use Rattle.dimacs.specs.Numbers.{Numeral, numberOf, wordAt, readingIf, readingAt}
 use Rattle.dimacs.specs.declared.Number.{Number}
 use Rattle.dimacs.specs.declared.Cursor.{Cursor}
-use Rattle.dimacs.specs.declared.Numeral.{Numeral}
 use Rattle.dimacs.specs.declared.Reading.{Reading}
 use Rattle.dimacs.proofs.Runs.{run-past, run-forward, opposite-true}
 

@@ -7,9 +7,18 @@ use lib.ListN.{length, getD, drop}
 use lib.Dec.{eqb, leb}
 use Rattle.lists.specs.Tests.{allOf}
 use Rattle.dimacs.specs.Words.{isWordByte, run, runEnd}
-use Rattle.dimacs.specs.declared.Size.{Size}
-use Rattle.dimacs.specs.declared.Numeral.{Numeral}
+use Rattle.dimacs.specs.declared.Number.{Number}
 use Rattle.dimacs.specs.declared.Reading.{Reading}
+
+-- what digits say
+pub data Size : Type 0 where
+  Is : ℕ → Size
+  Not : Size
+
+-- what a word says
+pub data Numeral : Type 0 where
+  Is : Number → Numeral
+  Not : Numeral
 
 unfoldable pub isDigit : ℕ → Bool
 isDigit b = leb 48 b && leb b 57

@@ -1,6 +1,6 @@
-// Bytes into words, numbers and lines (document 01, "Plain formula"). Callers find a word with `next_word` and take what `read` answers apart
-// with `let .. else`: a number with the cursor past it, or the place where no number is. What carries the proofs: a text is the list of its
-// words with their places (specs/Words.antt), and each function here finds the head of such a list.
+// Bytes into words, numbers and lines (document 01, "Plain formula"). Callers find a word with `next_word` and take what `read` answers
+// apart with `let .. else`: a number with the cursor past it, or the place where no number is. What carries the proofs: a text is the list
+// of its words with their places (specs/Words.antt), and each function here finds the head of such a list.
 ghost use mathlib.Core.Path.{_≡_};
 ghost use mathlib.Core.Bool.{cond};
 ghost use Prim.Native.Nat.{min, _≤_};
@@ -17,17 +17,6 @@ pub struct Number {
 // A place in a text from which reading goes on.
 pub struct Cursor {
     pub at: usize,
-}
-
-// What digits say, and what a word says: the definitions in specs/ speak of these two, and no function does.
-pub enum Size {
-    Is(u32),
-    Not,
-}
-
-pub enum Numeral {
-    Is(Number),
-    Not,
 }
 
 // What the word reader answers: a number with the cursor past it, or the place of a word that is no number.
@@ -139,7 +128,8 @@ fn at_most_six(n: usize) -> usize
 // The digits at the front of at most six bytes.
 fn leading_digits(bytes: &[u8]) -> Digits
     requires { ⌜ length (now bytes) ≤ 6 ⌝ }
-    ensures { λ r. ⌜ (r .count ≡ length (run isDigit (now (bytes .entry)))) × (r .value ≡ decimalFrom 0 (run isDigit (now (bytes .entry)))) ⌝ }
+    ensures { λ r. let digits = run isDigit (now (bytes .entry)) in
+        ⌜ (r .count ≡ length digits) × (r .value ≡ decimalFrom 0 digits) ⌝ }
 {
     let mut value: u32 = 0;
     let mut i = 0;

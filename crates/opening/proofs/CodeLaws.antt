@@ -9,10 +9,8 @@ use borrow.Author.Tests.{eqb-false}
 use lib.Dec.{eqb}
 use Rattle.lists.proofs.Cases.{never, eq-or-ne}
 use Rattle.dimacs.specs.Words.{Piece}
-use Rattle.dimacs.specs.Numbers.{sizeOf, positive, negated, numberOf}
+use Rattle.dimacs.specs.Numbers.{Size, Numeral, sizeOf, positive, negated, numberOf}
 use Rattle.dimacs.specs.declared.Number.{Number}
-use Rattle.dimacs.specs.declared.Numeral.{Numeral}
-use Rattle.dimacs.specs.declared.Size.{Size}
 use Rattle.store.specs.Literals.{codeOf}
 use Rattle.store.specs.Numerals.{codeIn}
 

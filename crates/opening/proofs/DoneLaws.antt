@@ -10,9 +10,8 @@ use lib.Dec.{eqb, ltb}
 use Rattle.lists.specs.Tests.{allOf}
 use Rattle.lists.proofs.Cases.{never, and-both}
 use Rattle.dimacs.specs.Words.{Piece}
-use Rattle.dimacs.specs.Numbers.{numberOf}
+use Rattle.dimacs.specs.Numbers.{Numeral, numberOf}
 use Rattle.dimacs.specs.declared.Number.{Number}
-use Rattle.dimacs.specs.declared.Numeral.{Numeral}
 use Rattle.store.specs.Stores.{maxLiterals, rising}
 use Rattle.store.specs.Literals.{codeOf, isLiteral}
 use Rattle.store.specs.Numerals.{codeIn, isNumeral}
@@ -20,7 +19,7 @@ use Rattle.store.specs.declared.refusal.Refusal.{Refusal}
 use Rattle.store.proofs.FormLaws.{literal-high}
 use Rattle.opening.specs.Clauses.{scanFrom, literalsIn, endsFrom}
 use Rattle.opening.specs.declared.Scanned.{Scanned}
-use Rattle.opening.proofs.Next.{Missing, none, bad}
+use Rattle.opening.proofs.NextNumber.{Missing, none, bad}
 use Rattle.opening.proofs.CodeLaws.{coded}
 
 -- ---- a word of a scan that is done: a 0 or a literal that fits, and the rest is done
@@ -91,7 +90,7 @@ lastOr d (x ∷ l) = lastOr x l
 pub record Counted (n m total closed count : ℕ) (ws : List Piece) : Type 0 where
   pub literals : count + length (literalsIn ws) ≡ total
   pub ends : closed + length (endsFrom count ws) ≡ m
-  pub few : count ≤ maxLiterals → total ≤ maxLiterals
+  pub total-within : count ≤ maxLiterals → total ≤ maxLiterals
   pub good : allOf (isLiteral n) (literalsIn ws) ≡ true
   pub rise : (from : ℕ) → from ≤ count → rising from (endsFrom count ws) ≡ true
   pub last : (d : ℕ) → (closed ≡ m → d ≡ count) → lastOr d (endsFrom count ws) ≡ total
@@ -107,7 +106,7 @@ counted end n m total [] closed count e = by (eqb closed m) refl e
         record {
           literals = omega arith;
           ends = omega arith;
-          few = λ h. omega arith;
+          total-within = λ h. omega arith;
           good = refl;
           rise = λ from h. refl;
           last = λ x h. h g ∙ f;
@@ -126,7 +125,7 @@ counted end n m total (w ∷ ws) closed count e = by (passed-word end n m total 
             record {
               literals = rw (literals-zero w ws z) (t .literals);
               ends = rw (ends-zero w ws count z) (omega (arith, t .ends));
-              few = t .few;
+              total-within = t .total-within;
               good = rw (literals-zero w ws z) (t .good);
               rise = λ from h. rw (ends-zero w ws count z) (and-both (le-leb from count h) (t .rise count (omega arith)));
               last = λ x h. rw (ends-zero w ws count z) (t .last count (λ k. refl));
@@ -136,7 +135,7 @@ counted end n m total (w ∷ ws) closed count e = by (passed-word end n m total 
             record {
               literals = rw (literals-other w ws z) (omega (arith, t .literals));
               ends = rw (ends-other w ws count z) (t .ends);
-              few = λ h. t .few (omega arith);
+              total-within = λ h. t .total-within (omega arith);
               good = rw (literals-other w ws z) (and-both l (t .good));
               rise = λ from h. rw (ends-other w ws count z) (t .rise from (omega arith));
               last = λ x h. rw (ends-other w ws count z) (t .last x (λ q. absurd (p .more q)));
@@ -148,15 +147,15 @@ module _ (end n m total closed count : ℕ) (ws : List Piece) (done : scanFrom e
     (w : Piece) (rest : List Piece) (e : ws ≡ w ∷ rest) (x : Number) (is : numberOf (w .bytes) ≡ Numeral.Is x) where
   pub record ZeroTurn : Type 0 where
     pub room : closed < m
-    pub left : scanFrom end n m (closed + 1) count rest ≡ Scanned.Done total
+    pub scanned : scanFrom end n m (closed + 1) count rest ≡ Scanned.Done total
     pub codes : literalsIn ws ≡ literalsIn rest
     pub clauses : endsFrom count ws ≡ count ∷ endsFrom count rest
 
   pub record LiteralTurn : Type 0 where
     pub room : count < total
-    pub few : count ≡ maxLiterals → ⊥
+    pub not-full : count ≡ maxLiterals → ⊥
     pub small : x .size ≤ n
-    pub left : scanFrom end n m closed (count + 1) rest ≡ Scanned.Done total
+    pub scanned : scanFrom end n m closed (count + 1) rest ≡ Scanned.Done total
     pub codes : literalsIn ws ≡ codeOf (x .size) (x .negative) ∷ literalsIn rest
     pub clauses : endsFrom count ws ≡ endsFrom (count + 1) rest
 
@@ -176,7 +175,7 @@ module _ (end n m total closed count : ℕ) (ws : List Piece) (done : scanFrom e
       clauses-are = ap (endsFrom count) e ∙ ends-zero w rest count zero
 
       by : Passed end n m total closed count w rest → ZeroTurn
-      by (closes k d) = record { room = omega (arith, all .ends, ap length clauses-are); left = d; codes = ap literalsIn e ∙ literals-zero w rest zero; clauses = clauses-are }
+      by (closes k d) = record { room = omega (arith, all .ends, ap length clauses-are); scanned = d; codes = ap literalsIn e ∙ literals-zero w rest zero; clauses = clauses-are }
       by (reads k l f d) = absurd (k zero)
 
   pub literal-turn : (x .size ≡ 0 → ⊥) → LiteralTurn
@@ -193,9 +192,9 @@ module _ (end n m total closed count : ℕ) (ws : List Piece) (done : scanFrom e
       by (reads k l f d) =
           record {
             room = omega (arith, all .literals, ap length codes-are);
-            few = f;
+            not-full = f;
             small = omega (arith, literal-high n (codeIn w) l, coded w x is .variable);
-            left = d;
+            scanned = d;
             codes = codes-are;
             clauses = ap (endsFrom count) e ∙ ends-other w rest count other;
           }

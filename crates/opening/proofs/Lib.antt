@@ -1,4 +1,4 @@
-pub mod Next
+pub mod NextNumber
 pub mod SizeLaws
 pub mod ProblemLaws
 pub mod CodeLaws

@@ -46,19 +46,19 @@ module _ (n m count literals ends : ℕ) where
 
 -- ---- a scan that opens is done, and there is room
 
-pub record Room (s : Scanned) (m literals ends : ℕ) : Type 0 where
+pub record SlicesFit (s : Scanned) (m literals ends : ℕ) : Type 0 where
   pub count : ℕ
   pub done : s ≡ Scanned.Done count
   pub literals-fit : count ≤ literals
   pub ends-fit : m ≤ ends
 
-pub room : (s : Scanned) (n m literals ends a b : ℕ) → openedIf s n m literals ends ≡ Opened.Open a b → Room s m literals ends × (n ≡ a) × (m ≡ b)
+pub room : (s : Scanned) (n m literals ends a b : ℕ) → openedIf s n m literals ends ≡ Opened.Open a b → SlicesFit s m literals ends × (n ≡ a) × (m ≡ b)
 room (Scanned.Refused r) n m literals ends a b e = never (cc)
 room (Scanned.Done count) n m literals ends a b e = by (leb count literals) refl (leb m ends) refl e
   where
     by : (t : Bool) → leb count literals ≡ t → (u : Bool) → leb m ends ≡ u
         → cond t (cond u (Opened.Open n m) (Opened.Refused (Refusal.TooShort m))) (Opened.Refused (Refusal.TooShort count)) ≡ Opened.Open a b
-        → Room (Scanned.Done count) m literals ends × (n ≡ a) × (m ≡ b)
+        → SlicesFit (Scanned.Done count) m literals ends × (n ≡ a) × (m ≡ b)
     by true l true k q =
         (record { count = count; done = refl; literals-fit = leb-true count literals l; ends-fit = leb-true m ends k }, cc, cc)
     by true l false k q = never (cc)
@@ -69,7 +69,7 @@ room (Scanned.Done count) n m literals ends a b e = by (leb count literals) refl
 pub record Opens (text : List ℕ) (literals ends n m : ℕ) : Type 0 where
   pub start : ℕ
   pub problem : problemOf text ≡ Problem.Line n m start
-  pub fits : Room (scanFrom (length text) n m 0 0 (bodyOf text)) m literals ends
+  pub fits : SlicesFit (scanFrom (length text) n m 0 0 (bodyOf text)) m literals ends
 
 pub opens : (text : List ℕ) (literals ends n m : ℕ) → openedBy text literals ends ≡ Opened.Open n m → Opens text literals ends n m
 unfolding openedBy

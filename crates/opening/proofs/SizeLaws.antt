@@ -11,14 +11,13 @@ use lib.Dec.{eqb}
 use Rattle.lists.proofs.Cases.{never, and-l, and-r, lt-or-le}
 use Rattle.lists.proofs.Steps.{drop-step}
 use Rattle.dimacs.specs.Words.{isBlank, isWordByte, run, runEnd, Piece, wordsAt}
-use Rattle.dimacs.specs.Numbers.{numberOf, wordAt}
+use Rattle.dimacs.specs.Numbers.{Numeral, numberOf, wordAt}
 use Rattle.dimacs.specs.declared.Number.{Number}
-use Rattle.dimacs.specs.declared.Numeral.{Numeral}
 use Rattle.dimacs.proofs.Runs.{run-stop, run-within}
 use Rattle.dimacs.proofs.WordLaws.{pieceAt, no-word, next-word}
 use Rattle.opening.specs.Problem.{sameBytes, fourWords, sizesOf}
 use Rattle.opening.specs.declared.Sizes.{Sizes}
-use Rattle.opening.proofs.Next.{Missing, none, bad}
+use Rattle.opening.proofs.NextNumber.{Missing, none, bad}
 
 -- ---- the same bytes
 

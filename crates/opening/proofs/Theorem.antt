@@ -8,7 +8,7 @@ use lib.ListN.{length, take, drop, length-append}
 use lib.Seq.{take-at}
 use Rattle.lists.specs.Tests.{allOf}
 use Rattle.store.specs.Stores.{Store, lent, literalCount, rowsOf, plainOf, wellFormed, heldRows}
-use Rattle.store.proofs.Demands.{Rest, rows-decide}
+use Rattle.store.proofs.Demands.{OtherDemands, rows-decide}
 use Rattle.opening.specs.Clauses.{literalsIn, endsFrom}
 use Rattle.opening.specs.Opening.{bodyOf, openedBy, written, formulaOf}
 use Rattle.opening.specs.declared.Opened.{Opened}
@@ -51,14 +51,14 @@ module _ (text literals ends images : List ℕ) (n m : ℕ) (e : openedBy text (
   used-is =
       rw (← clauses-count) (last-end clauses (drop (length clauses) ends)) ∙ all .last 0 (λ z. refl)
 
-  rest : Rest (openedStore text literals ends images n m)
+  rest : OtherDemands (openedStore text literals ends images n m)
   rest = record {
     variables-fit = line-limits text n m (facts .start) (facts .problem) .variables;
     clauses-fit = line-limits text n m (facts .start) (facts .problem) .clauses;
     rows-fit = omega arith;
     ends-long = omega (arith, length-append clauses (drop (length clauses) ends), clauses-count);
     ends-rise = rw front-ends (all .rise 0 (omega arith));
-    literals-fit = rw used-is (all .few (omega arith));
+    literals-fit = rw used-is (all .total-within (omega arith));
     literals-long = rw used-is (omega (arith, length-append codes (drop (length codes) literals), codes-count));
     literals-good = rw (used-is, take-at codes (drop (length codes) literals) (facts .fits .count) codes-count) (all .good);
     images-long = omega arith;

@@ -34,9 +34,13 @@ openedAfter (Problem.Refused r) text literals ends = Opened.Refused r
 unfoldable pub openedBy : List ℕ → ℕ → ℕ → Opened
 openedBy text literals ends = openedAfter (problemOf text) text literals ends
 
--- a slice afterwards: written over from its start where the text was opened, as it was where it was refused
+-- a slice written over from its start
+abbrev pub overwritten : List ℕ → List ℕ → List ℕ
+overwritten front old = front ++ drop (length front) old
+
+-- a slice afterwards: written over where the text was opened, as it was where it was refused
 abbrev pub written : Opened → List ℕ → List ℕ → List ℕ
-written (Opened.Open n m) front old = front ++ drop (length front) old
+written (Opened.Open n m) front old = overwritten front old
 written (Opened.Refused r) front old = old
 
 -- the plain formula of a text

@@ -7,8 +7,7 @@ use lib.ListN.{length, getD}
 use lib.Dec.{eqb, leb}
 use Rattle.dimacs.specs.Words.{Piece, wordsAt}
 use Rattle.dimacs.specs.Lines.{linesAt}
-use Rattle.dimacs.specs.Numbers.{numberOf}
-use Rattle.dimacs.specs.declared.Numeral.{Numeral}
+use Rattle.dimacs.specs.Numbers.{Numeral, numberOf}
 use Rattle.store.specs.Stores.{maxVariables, maxClauses}
 use Rattle.store.specs.declared.refusal.Refusal.{Refusal}
 use Rattle.opening.specs.declared.Sizes.{Sizes}

@@ -1,22 +1,22 @@
-// Opening: a text into the store (document 01, "Plain formula", refusals 1 to 6 and 23). The text is judged whole before anything is written, so that
-// a refused opening changes nothing. What carries the proofs: a text is a list of lines up to the problem line and a list of words after it, and
-// each pass is a walk through such a list.
+// Opening: a text into the store (document 01, "Plain formula", refusals 1 to 6 and 23). The text is judged whole before anything is
+// written, so that a refused opening changes nothing. What carries the proofs: a text is a list of lines up to the problem line and a list
+// of words after it, and each pass is a walk through such a list.
 use dimacs::Reading;
 use store::literal;
 use store::record::Record;
 use store::refusal::Refusal;
 ghost use mathlib.Core.Path.{_≡_};
 ghost use mathlib.Core.Bool.{true};
-ghost use mathlib.Core.List.{[], _∷_, _++_};
+ghost use mathlib.Core.List.{[], _∷_};
 ghost use Prim.Native.Nat.{ℕ, _≤_};
-ghost use lib.ListN.{length, drop};
+ghost use lib.ListN.{length};
 ghost use Rattle.dimacs.specs.Words.{Piece, wordsAt};
 ghost use Rattle.dimacs.specs.Lines.{linesAt};
 ghost use Rattle.dimacs.specs.Numbers.{wordAt};
 ghost use Rattle.store.specs.Stores.{maxVariables};
 ghost use Rattle.opening.specs.Problem.{afterComments, sameBytes, fourWords, sizesOf, problemOf};
 ghost use Rattle.opening.specs.Clauses.{scanFrom, literalsIn, endsFrom};
-ghost use Rattle.opening.specs.Opening.{bodyOf, openedAfter, openedBy, written};
+ghost use Rattle.opening.specs.Opening.{bodyOf, openedAfter, openedBy, overwritten, written};
 ghost use Rattle.opening.specs.declared.Problem.{Problem};
 ghost use Rattle.opening.specs.declared.Opened.{Opened};
 
@@ -125,7 +125,9 @@ fn sizes_of(line: &[u8]) -> Sizes
 
 // Two numbers that are not negative, and no word after them: what the four words say where the first two are as they should be.
 fn two_numbers(line: &[u8], at: usize) -> Sizes
-    ensures { λ r. ⌜ ((p cnf : Piece) → sameBytes (p .bytes) (112 ∷ []) ≡ true → sameBytes (cnf .bytes) (99 ∷ 110 ∷ 102 ∷ []) ≡ true → r ≡ fourWords (p ∷ cnf ∷ wordsAt (now (line .entry)) at)) ⌝ }
+    ensures { λ r. ⌜ ((p cnf : Piece) → sameBytes (p .bytes) (112 ∷ []) ≡ true
+        → sameBytes (cnf .bytes) (99 ∷ 110 ∷ 102 ∷ []) ≡ true
+        → r ≡ fourWords (p ∷ cnf ∷ wordsAt (now (line .entry)) at)) ⌝ }
 {
     let first = dimacs::next_word(line, at);
     let Reading::Found(n, past_n) = dimacs::read(line, first) else {
@@ -213,9 +215,12 @@ fn scan(text: &[u8], start: usize, n: usize, m: usize) -> Scanned
 
 // Writes the codes of the literals and the ends of the clauses, of words that open as some n and m where there is room for all.
 fn fill(text: &[u8], start: usize, literals: &mut [u16], ends: &mut [u16])
-    requires { ⌜ ((n : ℕ) × (m : ℕ) × (n ≤ maxVariables) × (openedAfter (Problem.Line n m start) (now text) (length (now literals)) (length (now ends)) ≡ Opened.Open n m)) ⌝ }
-    ensures literals { λ _. ⌜ now (literals .exit) ≡ literalsIn (wordsAt (now (text .entry)) start) ++ drop (length (literalsIn (wordsAt (now (text .entry)) start))) (now (literals .entry)) ⌝ }
-    ensures ends { λ _. ⌜ now (ends .exit) ≡ endsFrom 0 (wordsAt (now (text .entry)) start) ++ drop (length (endsFrom 0 (wordsAt (now (text .entry)) start))) (now (ends .entry)) ⌝ }
+    requires { ⌜ ((n : ℕ) × (m : ℕ) × (n ≤ maxVariables)
+        × (openedAfter (Problem.Line n m start) (now text) (length (now literals)) (length (now ends)) ≡ Opened.Open n m)) ⌝ }
+    ensures literals { λ _. let words = wordsAt (now (text .entry)) start in
+        ⌜ now (literals .exit) ≡ overwritten (literalsIn words) (now (literals .entry)) ⌝ }
+    ensures ends { λ _. let words = wordsAt (now (text .entry)) start in
+        ⌜ now (ends .exit) ≡ overwritten (endsFrom 0 words) (now (ends .entry)) ⌝ }
 {
     let mut at = start;
     let mut closed = 0;

@@ -1,5 +1,5 @@
-// The permutation that the two lines of an offer state (document 01, "Permutations", and refusals 7 to 10). Each rule is tried over its whole line
-// before the next. The idea of the proofs: a line is the list of its words, and a rule is a search through that list.
+// The permutation that the two lines of an offer state (document 01, "Permutations", and refusals 7 to 10). Each rule is tried over its
+// whole line before the next. The idea of the proofs: a line is the list of its words, and a rule is a search through that list.
 use dimacs::Number;
 use dimacs::Reading;
 use store::refusal::Refusal;
@@ -131,7 +131,8 @@ fn bad_value(names: &[u8], values: &[u8], n: usize) -> Fault
     requires { ⌜ (n ≤ maxVariables)
         × (notNumber (wordsAt (now names) 0) ≡ Fault.Nowhere)
         × (badName n (length (now names)) (wordsAt (now names) 0) ≡ Fault.Nowhere) ⌝ }
-    ensures { λ r. ⌜ r ≡ badValueAfter (namesOn (now (names .entry))) (length (now (values .entry))) [] (wordsAt (now (values .entry)) 0) ⌝ }
+    ensures { λ r. let line = now (values .entry) in
+        ⌜ r ≡ badValueAfter (namesOn (now (names .entry))) (length line) [] (wordsAt line 0) ⌝ }
 {
     let stated = mark_names(names);
     let mut free = stated.marks;

@@ -12,9 +12,7 @@ use lib.ListN.{length}
 use Rattle.lists.specs.Tests.{allOf}
 use Rattle.lists.proofs.Cases.{never, and-l, and-r, eq-or-ne}
 use Rattle.dimacs.specs.Words.{Piece}
-use Rattle.dimacs.specs.Numbers.{isDigit, decimalFrom, digitsOf, padded, sizeOf, positive, negated, numberOf}
-use Rattle.dimacs.specs.declared.Size.{Size}
-use Rattle.dimacs.specs.declared.Numeral.{Numeral}
+use Rattle.dimacs.specs.Numbers.{Size, Numeral, isDigit, decimalFrom, digitsOf, padded, sizeOf, positive, negated, numberOf}
 use Rattle.dimacs.proofs.NumberLaws.{digit-range, grow, up-to-six}
 use Rattle.store.specs.Numerals.{isNumeral, numeralCode, codeIn}
 use Rattle.render.specs.Text.{decimal, literalText, clauseLine}

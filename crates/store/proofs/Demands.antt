@@ -56,7 +56,7 @@ module _ (s : Store) where
   short-images h = fails 8 (lit< tt) (lt-leb _ _ h)
 
   -- what is known once every other demand is met
-  pub record Rest : Type 0 where
+  pub record OtherDemands : Type 0 where
     pub variables-fit : s .counts .variables ≤ maxVariables
     pub clauses-fit : s .counts .clauses ≤ maxClauses
     pub rows-fit : s .counts .rows ≤ maxRows
@@ -67,7 +67,7 @@ module _ (s : Store) where
     pub literals-good : allOf (isLiteral (s .counts .variables)) (take used (s .literals)) ≡ true
     pub images-long : s .counts .rows * s .counts .variables ≤ length (s .images)
 
-  pub rows-decide : Rest → wellFormed s ≡ allOf (isRow (s .counts .variables)) (heldRows s)
+  pub rows-decide : OtherDemands → wellFormed s ≡ allOf (isRow (s .counts .variables)) (heldRows s)
   unfolding wellFormed demands allOf heldRows
   rows-decide r =
       simp (
@@ -89,7 +89,7 @@ module _ (s : Store) where
     unfolding wellFormed
     demand k h = all-at (λ b. b) (demands s) true e k h
 
-    pub rest-of : Rest
+    pub rest-of : OtherDemands
     unfolding demands
     rest-of = record {
       variables-fit = leb-true _ _ (demand 0 (lit< tt));

@@ -85,7 +85,7 @@ pub variable-at : (row : List ℕ) (i : ℕ) → getD (variables row) i 0 ≡ va
 variable-at row i = List·getD-map variableOf row i 0
 
 -- The loop at index i: the codes before it are images with different variables, and `seen` marks these variables.
-pub record Passed (n : ℕ) (row : List ℕ) (seen : List Bool) (i : ℕ) : Type 0 where
+pub record RowPassed (n : ℕ) (row : List ℕ) (seen : List Bool) (i : ℕ) : Type 0 where
   pub room : length seen ≡ 513
   pub images : (k : ℕ) → k < i → isImage n (getD row k 0) ≡ true
   pub different : distinct (take i (variables row)) ≡ true
@@ -96,7 +96,7 @@ module _ (n : ℕ) (row : List ℕ) where
   unfolding isRow
   row-length e = rw (ne-eqb (length row) n e)
 
-  pub passed-none : Passed n row (replicate 513 false) 0
+  pub passed-none : RowPassed n row (replicate 513 false) 0
   unfolding anyOf distinct
   passed-none = record {
     room = length-replicate 513 false;
@@ -110,7 +110,7 @@ module _ (n : ℕ) (row : List ℕ) where
   row-image i h e = rw (all-not (isImage n) row 0 i h e, and-false (eqb (length row) n))
 
   -- v is the variable of the code at i
-  module _ (seen : List Bool) (i v : ℕ) (p : Passed n row seen i) (h : i < length row) (is : v ≡ variableOf (getD row i 0)) (low : v < 513) where
+  module _ (seen : List Bool) (i v : ℕ) (p : RowPassed n row seen i) (h : i < length row) (is : v ≡ variableOf (getD row i 0)) (low : v < 513) where
     inside : i < length (variables row)
     inside = rw (length-map row variableOf) h
 
@@ -124,7 +124,7 @@ module _ (n : ℕ) (row : List ℕ) where
     unfolding isRow
     row-twice e = rw (distinct-twice (variables row) i inside (seen-is true e), and-false (eqb (length row) n && allOf (isImage n) row))
 
-    pub passed-more : isImage n (getD row i 0) ≡ true → getD seen v false ≡ false → Passed n row (set seen v true) (i + 1)
+    pub passed-more : isImage n (getD row i 0) ≡ true → getD seen v false ≡ false → RowPassed n row (set seen v true) (i + 1)
     passed-more image e = record {
       room = simp length-set (p .room);
       images = λ k l. more k (ℕ-discrete k i) l;
@@ -140,7 +140,7 @@ module _ (n : ℕ) (row : List ℕ) where
         mark w l (yes q) = rw (eq-eqb v w (sym q), or-true (has (take i (variables row)) w), q) (getD-set-same seen v true false (omega (arith, p .room)))
         mark w l (no q) = rw (ne-eqb v w (λ r. q (sym r)), or-false (has (take i (variables row)) w)) (getD-set-other seen v w true false q ∙ p .marked w l)
 
-  pub row-all : (seen : List Bool) (i : ℕ) → Passed n row seen i → length row ≡ n → length row ≤ i → isRow n row ≡ true
+  pub row-all : (seen : List Bool) (i : ℕ) → RowPassed n row seen i → length row ≡ n → length row ≤ i → isRow n row ≡ true
   unfolding isRow
   row-all seen i p e h =
       let all : distinct (variables row) ≡ true = rw (take-all i (variables row) (rw (length-map row variableOf) h)) at (p .different) in

@@ -2,8 +2,7 @@
 use Prim.Native.Nat.{ℕ}
 use mathlib.Core.Bool.{Bool, true, false}
 use Rattle.dimacs.specs.Words.{Piece}
-use Rattle.dimacs.specs.Numbers.{numberOf}
-use Rattle.dimacs.specs.declared.Numeral.{Numeral}
+use Rattle.dimacs.specs.Numbers.{Numeral, numberOf}
 use Rattle.store.specs.Literals.{codeOf}
 
 abbrev pub isNumeral : Numeral → Bool

@@ -1,5 +1,5 @@
-// A literal is a code: 2·i for the variable i, 2·i + 1 for its negation. A stored code has 16 bits; the made formula may have more variables
-// than these have room for, so what is asked of a literal is asked of a code of 32 bits.
+// A literal is a code: 2·i for the variable i, 2·i + 1 for its negation. A stored code has 16 bits; the made formula may have more
+// variables than these have room for, so what is asked of a literal is asked of a code of 32 bits.
 ghost use mathlib.Core.Path.{_≡_};
 ghost use Prim.Native.Nat.{_≤_, _<_};
 ghost use Rattle.store.specs.Literals.{codeOf, variableOf, isNegative, oppositeOf};

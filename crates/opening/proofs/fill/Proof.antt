@@ -2,14 +2,15 @@
 -- say, stays the answer; and the scan of what is left is still done, which bounds each store. Assumes nothing.
 use mathlib.Core.Path.{_≡_, refl, sym, ap, _∙_}
 use Prim.Native.Nat.{ℕ, _-_, _≤_}
-use mathlib.Core.List.{List, _++_}
-use lib.ListN.{length, drop, length-set}
+use mathlib.Core.List.{List}
+use lib.ListN.{length, length-set}
 use lib.Seq.{sets}
 use Rattle.dimacs.specs.Words.{Piece, wordsAt}
 use Rattle.store.specs.Stores.{maxVariables, maxLiterals}
 use Rattle.opening.specs.Clauses.{scanFrom, literalsIn, endsFrom}
+use Rattle.opening.specs.Opening.{overwritten}
 use Rattle.opening.specs.declared.Scanned.{Scanned}
-use Rattle.opening.proofs.Next.{Next, next-found, next-missing}
+use Rattle.opening.proofs.NextNumber.{NextNumber, next-found, next-missing}
 use Rattle.opening.proofs.DoneLaws.{counted, ZeroTurn, zero-turn, LiteralTurn, literal-turn, none-left}
 use Rattle.opening.proofs.Writing.{stored, sets-front}
 use Rattle.opening.proofs.OpeningLaws.{room}
@@ -29,12 +30,12 @@ record Judged (literals₀ ends₀ : List ℕ) : Type 0 where
 
 record Inv (text : List ℕ) (start : ℕ) (literals₀ ends₀ literals ends : List ℕ) (at closed used : ℕ) : Type 0 where
   judged : Judged literals₀ ends₀
-  few : used ≤ maxLiterals
+  used-within : used ≤ maxLiterals
   literals-length : length literals ≡ length literals₀
   ends-length : length ends ≡ length ends₀
   done : scanFrom (length text) (judged .n) (judged .m) closed used (wordsAt text at) ≡ Scanned.Done (judged .total)
-  codes : literalsIn (wordsAt text start) ++ drop (length (literalsIn (wordsAt text start))) literals₀ ≡ sets literals used (literalsIn (wordsAt text at))
-  clauses : endsFrom 0 (wordsAt text start) ++ drop (length (endsFrom 0 (wordsAt text start))) ends₀ ≡ sets ends closed (endsFrom used (wordsAt text at))
+  codes : overwritten (literalsIn (wordsAt text start)) literals₀ ≡ sets literals used (literalsIn (wordsAt text at))
+  clauses : overwritten (endsFrom 0 (wordsAt text start)) ends₀ ≡ sets ends closed (endsFrom used (wordsAt text at))
 
 abbrev Inv-loop : tie.InvT-loop
 Inv-loop text start literals₀ ends₀ at₀ closed₀ used₀ literals ends at closed used = Inv text start literals₀ ends₀ literals ends at closed used
@@ -46,7 +47,7 @@ abbrev μ-loop : tie.MeasureT-loop
 
 found : (c : tie.After-known-told Inv-loop μ-loop) → let at = c .before .before .before .before .before in
     let read = c .before .number .given .0 in
-    Next (at .before .before .before .before .args .text .now) (at .loop .at) (c .before .before .before .before .next-word .result) (read .0) (read .1 .0 .at)
+    NextNumber (at .before .before .before .before .args .text .now) (at .loop .at) (c .before .before .before .before .next-word .result) (read .0) (read .1 .0 .at)
 found c = next-found _ _ _ (c .before .before .before .before .next-word .ensures) _ _ (sym (c .before .before .before .read .ensures) ∙ c .before .number .given .1)
 
 zero-here : (c : tie.Then1 Inv-loop μ-loop) → let k = c .before .before in
@@ -67,7 +68,7 @@ loop-holds c =
     let all = counted _ n m (fits .count) words 0 0 (fits .done) in
     record {
       judged = record { n = n; m = m; total = fits .count; small = start .pre .2; literals-room = fits .literals-fit; ends-room = fits .ends-fit };
-      few = omega arith;
+      used-within = omega arith;
       literals-length = refl;
       ends-length = refl;
       done = fits .done;
@@ -105,7 +106,7 @@ returns c =
     )
 
 cast-ends : tie.Need-cast-ends Inv-loop μ-loop
-cast-ends c = omega (arith, c .before .before .before .before .before .before .before .loop .inv .few)
+cast-ends c = omega (arith, c .before .before .before .before .before .before .before .loop .inv .used-within)
 
 mul-ends : tie.Need-mul-ends Inv-loop μ-loop
 mul-ends c = omega (arith, zero-here c)
@@ -140,10 +141,10 @@ loop-again c =
     let t = zero-here c in
     record {
       judged = l .inv .judged;
-      few = l .inv .few;
+      used-within = l .inv .used-within;
       literals-length = l .inv .literals-length;
       ends-length = simp length-set (l .inv .ends-length);
-      done = t .left;
+      done = t .scanned;
       codes = l .inv .codes ∙ ap (sets (l .literals) (l .used)) (t .codes);
       clauses = stored (l .ends) (l .closed) (l .inv .clauses) (t .clauses) refl;
     }
@@ -157,10 +158,10 @@ loop-again-2 c =
     let t = literal-here (c .before .before) in
     record {
       judged = l .inv .judged;
-      few = omega (arith, t);
+      used-within = omega (arith, t);
       literals-length = simp length-set (l .inv .literals-length);
       ends-length = l .inv .ends-length;
-      done = t .left;
+      done = t .scanned;
       codes = stored (l .literals) (l .used) (l .inv .codes) (t .codes) (sym (c .code .ensures));
       clauses = l .inv .clauses ∙ ap (sets (l .ends) (l .closed)) (t .clauses);
     }

@@ -7,7 +7,7 @@ use Rattle.dimacs.specs.Words.{wordsAt}
 use Rattle.dimacs.proofs.WordLaws.{no-word, next-word, read-refused}
 use Rattle.store.specs.Stores.{maxLiterals}
 use Rattle.opening.specs.Clauses.{scanFrom}
-use Rattle.opening.proofs.Next.{Next, next-found}
+use Rattle.opening.proofs.NextNumber.{NextNumber, next-found}
 use Rattle.opening.proofs.ScanLaws.{scan-done, scan-short, scan-extra, scan-word, scan-close, scan-beyond, scan-many, scan-literal}
 use borrow.Author.Needs.{needs}
 use native.Mathlib.Omega.{arith}
@@ -26,7 +26,7 @@ abbrev μ-loop : tie.MeasureT-loop
 -- the number that was read
 found : (c : tie.After-known-told Inv-loop μ-loop) → let at = c .before .before .before .before .before .before in
     let read = c .before .number .given .0 in
-    Next (at .before .before .before .args .text .now) (at .before .loop .at) (at .next-word .result) (read .0) (read .1 .0 .at)
+    NextNumber (at .before .before .before .args .text .now) (at .before .loop .at) (at .next-word .result) (read .0) (read .1 .0 .at)
 found c = next-found _ _ _ (c .before .before .before .before .before .before .next-word .ensures) _ _ (sym (c .before .before .before .read .ensures) ∙ c .before .number .given .1)
 
 loop-holds : tie.Need-loop-holds Inv-loop μ-loop

@@ -6,7 +6,7 @@ use Rattle.dimacs.specs.Words.{Piece, wordsAt}
 use Rattle.dimacs.proofs.WordLaws.{pieceAt, no-word, next-word}
 use Rattle.opening.specs.Problem.{sameBytes, fourWords}
 use Rattle.opening.specs.declared.Sizes.{Sizes}
-use Rattle.opening.proofs.Next.{Next, next-found, next-missing}
+use Rattle.opening.proofs.NextNumber.{NextNumber, next-found, next-missing}
 use Rattle.opening.proofs.SizeLaws.{first-missing, second-missing, two-numbers, five-words}
 use borrow.Author.Needs.{needs}
 use Rattle.opening.proofs.two_numbers.Statement.{statement}
@@ -15,12 +15,12 @@ use Rattle.opening.proofs.two_numbers.Tie as tie
 -- the first number, and the second
 first : (c : tie.After-known-told) → let at = c .before .before .before .before in
     let read = c .before .n .given .0 in
-    Next (at .before .before .args .line .now) (at .before .before .args .at) (at .next-word .result) (read .0) (read .1 .0 .at)
+    NextNumber (at .before .before .args .line .now) (at .before .before .args .at) (at .next-word .result) (read .0) (read .1 .0 .at)
 first c = next-found _ _ _ (c .before .before .before .before .next-word .ensures) _ _ (sym (c .before .before .before .read .ensures) ∙ c .before .n .given .1)
 
 second : (c : tie.After-known-told2) → let at = c .before .before .before .before in
     let read = c .before .m .given .0 in
-    Next (at .before .before .before .before .before .before .before .args .line .now) (at .before .before .n .given .0 .1 .0 .at) (at .next-word2 .result) (read .0) (read .1 .0 .at)
+    NextNumber (at .before .before .before .before .before .before .before .args .line .now) (at .before .before .n .given .0 .1 .0 .at) (at .next-word2 .result) (read .0) (read .1 .0 .at)
 second c = next-found _ _ _ (c .before .before .before .before .next-word2 .ensures) _ _ (sym (c .before .before .before .read2 .ensures) ∙ c .before .m .given .1)
 
 -- both numbers, and then the words after them

@@ -1,12 +1,12 @@
 -- `store::form::is_row` meets its contract. The invariant: the codes before i are images of different variables, and `seen` marks them
--- (`Passed`). Assumes nothing.
+-- (`RowPassed`). Assumes nothing.
 use mathlib.Core.Path.{_≡_, sym, ap, _∙_}
 use Prim.Native.Nat.{ℕ, _-_, _<_}
 use mathlib.Core.Bool.{true}
 use lib.ListN.{length, getD}
 use Rattle.store.specs.Literals.{variableOf}
 use Rattle.store.specs.Stores.{isImage}
-use Rattle.store.proofs.FormLaws.{literal-high, image-literal, Passed, passed-none, passed-more, row-length, row-image, row-twice, row-all}
+use Rattle.store.proofs.FormLaws.{literal-high, image-literal, RowPassed, passed-none, passed-more, row-length, row-image, row-twice, row-all}
 use borrow.Author.Tests.{not-true, not-false}
 use borrow.Author.Needs.{needs}
 use native.Mathlib.Omega.{arith}
@@ -14,7 +14,7 @@ use Rattle.store.proofs.form.is_row.Statement.{statement}
 use Rattle.store.proofs.form.is_row.Tie as tie
 
 abbrev Inv-loop : tie.InvT-loop
-Inv-loop row n seen₀ i₀ seen i = Passed n row seen i
+Inv-loop row n seen₀ i₀ seen i = RowPassed n row seen i
 
 abbrev μ-loop : tie.MeasureT-loop
 μ-loop row n seen₀ i₀ seen i = length row - i

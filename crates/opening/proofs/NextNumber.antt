@@ -7,16 +7,15 @@ use native.Mathlib.Omega.{arith}
 use lib.ListN.{length}
 use Rattle.lists.proofs.Cases.{never, lt-or-le}
 use Rattle.dimacs.specs.Words.{isBlank, isWordByte, runEnd, Piece, wordsAt}
-use Rattle.dimacs.specs.Numbers.{numberOf, wordAt, readingAt}
+use Rattle.dimacs.specs.Numbers.{Numeral, numberOf, wordAt, readingAt}
 use Rattle.dimacs.specs.declared.Number.{Number}
 use Rattle.dimacs.specs.declared.Cursor.{Cursor}
-use Rattle.dimacs.specs.declared.Numeral.{Numeral}
 use Rattle.dimacs.specs.declared.Reading.{Reading}
 use Rattle.dimacs.proofs.Runs.{run-within}
 use Rattle.dimacs.proofs.WordLaws.{pieceAt, no-word, next-word, word-forward, read-found, read-refused, read-past}
 
 -- the words from `at` on start with the number x, at `place`, and go on at `next`
-pub record Next (text : List ℕ) (at place : ℕ) (x : Number) (next : ℕ) : Type 0 where
+pub record NextNumber (text : List ℕ) (at place : ℕ) (x : Number) (next : ℕ) : Type 0 where
   pub words : wordsAt text at ≡ pieceAt text place ∷ wordsAt text next
   pub number : numberOf (wordAt text place) ≡ Numeral.Is x
   pub forward : at < next
@@ -28,7 +27,7 @@ pub data Missing : List Piece → Type 0 where
   bad : {w : Piece} {ws : List Piece} → numberOf (w .bytes) ≡ Numeral.Not → Missing (w ∷ ws)
 
 module _ (text : List ℕ) (at place : ℕ) (found : place ≡ runEnd isBlank text at) where
-  pub next-found : (x : Number) (c : Cursor) → readingAt text place ≡ Reading.Found x c → Next text at place x (c .at)
+  pub next-found : (x : Number) (c : Cursor) → readingAt text place ≡ Reading.Found x c → NextNumber text at place x (c .at)
   next-found x c e =
       let inside : place < length text = ⊎-elim (λ h. h) (λ h. past h) (lt-or-le place (length text)) in
       let is = read-found text place x c e in

@@ -74,7 +74,7 @@ fn fill_row(row: &[u16], values: &[bool], out: &mut [u64], w: Writer) -> Writer
     ensures { λ r. let bits = bitsIn (length (now (row .entry))) (now (values .entry)) in
         ⌜ Appends w (rowSettings (now (row .entry)) bits) (now (out .entry)) r (now (out .exit)) ⌝ }
 {
-    let added = lexleader::added_by(row);
+    let added = lexleader::counting::added_by(row);
     let all = added.auxiliaries;
     let agreed = agreeing(row, values);
     if all <= agreed {

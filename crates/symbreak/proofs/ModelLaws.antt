@@ -10,11 +10,9 @@ use Rattle.packed.specs.Words.{bitsOf, wordCount, wordsOf, isAssignment}
 use Rattle.packed.proofs.Form.{form-count}
 use Rattle.packed.proofs.Trips.{words-form}
 use Rattle.store.specs.Refusals.{Said, done, refused, saidRefused}
-use Rattle.store.specs.Stores.{Store, heldRows, wellFormed, standingOf}
+use Rattle.store.specs.Stores.{Store, heldRows, standingOf}
 use Rattle.store.specs.declared.form.Standing.{Standing}
 use Rattle.store.specs.declared.refusal.Refusal.{Refusal}
-use Rattle.store.proofs.Formed.{formed}
-use Rattle.store.proofs.Demands.{rows-of}
 use Rattle.lexleader.specs.Made.{filledIn}
 use Rattle.lexleader.specs.Descent.{descend}
 use Rattle.lexleader.specs.Store.{variablesOf}
@@ -23,15 +21,8 @@ use Rattle.checking.specs.declared.Checked.{Checked}
 use Rattle.filling.specs.Written.{filledWords}
 use Rattle.filling.proofs.Runs.{length-filled}
 use Rattle.descent.specs.Words.{Outcome, answerOf, outcomeOf, descended}
-use Rattle.valuation.specs.Ready.{Ready}
 use Rattle.descent.specs.declared.Descended.{Descended}
 use Rattle.symbreak.specs.Calls.{fillSays, fillLeaves, checkSays, descendSays, descendLeaves}
-
--- what the working functions rely on
-module _ (s : Store) (f : wellFormed s ≡ true) (a : List ℕ) (form : isAssignment (s .counts .variables) a ≡ true) where
-  pub works : Ready (s .counts .variables) (s .counts .rows) (s .images) a
-  unfolding heldRows
-  works = record { small = formed s f .variables-fit; few = formed s f .rows-fit; fits = formed s f .images-long; good = rows-of s f; form = form }
 
 -- ---- fill in
 

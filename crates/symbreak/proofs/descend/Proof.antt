@@ -3,10 +3,11 @@ use mathlib.Core.Path.{_≡_, sym, _∙_}
 use borrow.Author.Tests.{not-true, not-false}
 use Rattle.store.specs.Stores.{Store, lent, heldRows, standingOf}
 use Rattle.store.specs.declared.form.Standing.{Standing}
+use Rattle.store.proofs.Formed.{formed-rows}
 use Rattle.store.proofs.StandingLaws.{ready}
 use mathlib.Core.Bool.{true}
 use Rattle.packed.specs.Words.{isAssignment}
-use Rattle.symbreak.proofs.ModelLaws.{works, descend-unready, descend-misformed, descend-done}
+use Rattle.symbreak.proofs.ModelLaws.{descend-unready, descend-misformed, descend-done}
 use borrow.Author.Needs.{needs}
 use Rattle.symbreak.proofs.descend.Statement.{statement}
 use Rattle.symbreak.proofs.descend.Tie as tie
@@ -56,7 +57,7 @@ descend-requires : tie.Need-descend-requires
 descend-requires c κs =
     let i = c .before in
     let s = start i in
-    works (S s) (ready (S s) (admitted (told i)) .1) (s .args .a .now) (form i)
+    (formed-rows (S s) (ready (S s) (admitted (told i)) .1), form i)
 
 same-length-2 : tie.Need-same-length-2
 same-length-2 c = search needs

@@ -7,11 +7,10 @@ use Rattle.store.specs.declared.form.Standing.{Standing}
 use Rattle.store.proofs.Formed.{formed, formed-rows}
 use Rattle.store.proofs.StandingLaws.{ready}
 use mathlib.Core.Bool.{true}
-use Prim.Native.Nat.{ℕ, _+_, _/_}
 use Rattle.packed.specs.Words.{wordCount, isAssignment}
 use Rattle.lexleader.specs.Store.{variablesOf}
 use Rattle.lexleader.proofs.MadeLaws.{counted-variables}
-use Rattle.symbreak.proofs.ModelLaws.{works, fill-unready, fill-misformed, fill-short, fill-done}
+use Rattle.symbreak.proofs.ModelLaws.{fill-unready, fill-misformed, fill-short, fill-done}
 use borrow.Author.Needs.{needs}
 use Rattle.symbreak.proofs.fill_in.Statement.{statement}
 use Rattle.symbreak.proofs.fill_in.Tie as tie
@@ -33,9 +32,8 @@ form : (c : tie.Else1) → isAssignment (start c .args .counts .variables) (star
 form c = sym (c .before .is-assignment .ensures) ∙ not-false _ (c .if1 .left)
 
 -- the words that are needed
-needed : (c : tie.After-totals-of) → (c .totals-of .result .variables + 63) / 64 ≡ wordCount (variablesOf (S (start (c .before))))
-unfolding wordCount
-needed c = ap (λ (n : ℕ). (n + 63) / 64) (counted-variables (S (start (c .before))) (c .totals-of .ensures))
+needed : (c : tie.After-word-count) → c .word-count .result ≡ wordCount (variablesOf (S (start (c .before .before))))
+needed c = c .word-count .ensures ∙ ap wordCount (counted-variables (S (start (c .before .before))) (c .before .totals-of .ensures))
 
 admit-requires : tie.Need-admit-requires
 admit-requires c κs = search needs
@@ -66,22 +64,24 @@ totals-of-requires c κs =
     let well = ready s (admitted t) .1 in
     (formed s well .clauses-fit, formed-rows s well)
 
-add-needed : tie.Need-add-needed
-add-needed c = let t = c .before .totals-of .ensures in omega (arith, t .few-variables)
+word-count-requires : tie.Need-word-count-requires
+word-count-requires c κs = omega (arith, c .totals-of .ensures .few-variables)
 
 returns-3 : tie.Need-returns-3
 returns-3 c =
-    let t = c .before .before in
-    let s = start (t .before) in
-    fill-short (S s) (s .args .a .now) (s .args .out .now) (admitted (told (t .before))) (form (t .before)) _ (needed t) (c .if2 .taken)
+    let w = c .before in
+    let e = w .before .before in
+    let s = start e in
+    fill-short (S s) (s .args .a .now) (s .args .out .now) (admitted (told e)) (form e) _ (needed w) (c .if2 .taken)
 
 fill-requires : tie.Need-fill-requires
 unfolding variablesOf heldRows
 fill-requires c κs =
-    let t = c .before .before .before in
-    let s = start (t .before) in
-    let room = needed t in
-    (works (S s) (ready (S s) (admitted (told (t .before))) .1) (s .args .a .now) (form (t .before)), omega (arith, room, c .before .if2 .left))
+    let w = c .before .before in
+    let e = w .before .before in
+    let s = start e in
+    let room = needed w in
+    (formed-rows (S s) (ready (S s) (admitted (told e)) .1), form e, omega (arith, room, c .before .if2 .left))
 
 same-length : tie.Need-same-length
 same-length c = search needs
@@ -90,10 +90,12 @@ returns-4 : tie.Need-returns-4
 unfolding variablesOf heldRows
 returns-4 c =
     let f = c .before .before in
-    let t = f .before .before .before .before in
-    let s = start (t .before) in
-    let room = needed t in
-    fill-done (S s) (s .args .a .now) (s .args .out .now) (admitted (told (t .before))) (form (t .before)) (omega (arith, room, f .before .before .if2 .left)) _ _ (f .fill .ensures .0) (f .fill .ensures .1)
+    let i = f .before .before in
+    let w = i .before in
+    let e = w .before .before in
+    let s = start e in
+    let room = needed w in
+    fill-done (S s) (s .args .a .now) (s .args .out .now) (admitted (told e)) (form e) (omega (arith, room, i .if2 .left)) _ _ (f .fill .ensures .0) (f .fill .ensures .1)
 
 pub fill-in-spec : {M : Type 1} → statement M
 fill-in-spec =
@@ -106,7 +108,7 @@ fill-in-spec =
     is-assignment-requires
     returns-2
     totals-of-requires
-    add-needed
+    word-count-requires
     returns-3
     fill-requires
     same-length

@@ -1,6 +1,7 @@
 -- `valuation::literal_value` meets its contract: the value of the variable, or its opposite where the literal is negative. Assumes nothing.
 use mathlib.Core.Path.{_≡_, sym, _∙_}
 use Prim.Native.Nat.{ℕ, _≤_}
+use borrow.Author.Tests.{eqb-true, eqb-false}
 use borrow.Author.Needs.{needs}
 use Rattle.packed.specs.Words.{bitsOf}
 use Rattle.packed.specs.Order.{valueOf}
@@ -26,10 +27,10 @@ found c n h =
     (rw (c .before .variable .ensures) at (c .value .ensures)) ∙ value-is n (s .args .a .now) (variableOf (s .args .code)) (s .pre .0) h
 
 returns : tie.Need-returns
-returns c n h = negative-value _ _ _ (found (c .before .before) n h) (sym (c .before .is-negative .ensures) ∙ c .if1 .taken)
+returns c n h = negative-value _ _ _ (found (c .before .before) n h) (eqb-true _ 1 (sym (c .before .is-negative .ensures) ∙ c .if1 .taken))
 
 returns-2 : tie.Need-returns-2
-returns-2 c n h = positive-value _ _ _ (found (c .before .before) n h) (sym (c .before .is-negative .ensures) ∙ c .if1 .left)
+returns-2 c n h = positive-value _ _ _ (found (c .before .before) n h) (eqb-false _ 1 (sym (c .before .is-negative .ensures) ∙ c .if1 .left))
 
 pub literal-value-spec : {M : Type 1} → statement M
 literal-value-spec = tie.close (tie.spec variable-requires value-requires is-negative-requires returns returns-2)

@@ -210,10 +210,6 @@ module _ (row : List ℕ) (p : Place) where
       unfolding auxiliaryAfter
       after-next = omega (arith, ap length two, ap length here-next)
 
-      -- the auxiliary is a variable of the made formula
-      pub auxiliary-most : p .auxiliary ≤ maxMadeVariables
-      auxiliary-most = omega (arith, after-next, s .few)
-
       -- q is the place of the next auxiliary's first clause
       pub to-next : (q : Place)
           → PlaceLeaves row q (clausesOn (p .j + 1) (p .auxiliary + 1) (pairsAt (p .next) row)) (p .auxiliary + 1 + (length (pairsAt (p .next) row) - 1))

@@ -11,9 +11,8 @@ use lib.Dec.{eqb, ltb}
 use Rattle.lists.specs.Tests.{anyOf, has}
 use Rattle.lists.proofs.Cases.{never, and-l, and-r, and-both, not-so}
 use Rattle.dimacs.specs.Words.{Piece, wordsAt}
-use Rattle.dimacs.specs.Numbers.{numberOf}
+use Rattle.dimacs.specs.Numbers.{Numeral, numberOf}
 use Rattle.dimacs.specs.declared.Number.{Number}
-use Rattle.dimacs.specs.declared.Numeral.{Numeral}
 use Rattle.store.specs.Literals.{codeOf, variableOf, isNegative}
 use Rattle.store.specs.Numerals.{codeIn}
 use Rattle.store.specs.Stores.{isImage}

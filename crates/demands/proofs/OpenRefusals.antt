@@ -11,9 +11,8 @@ use lib.Dec.{eqb, ltb, leb}
 use Rattle.lists.proofs.Cases.{never, eq-or-ne, lt-or-le}
 use Rattle.dimacs.specs.Words.{Piece, wordsAt}
 use Rattle.dimacs.specs.Lines.{linesAt}
-use Rattle.dimacs.specs.Numbers.{numberOf}
+use Rattle.dimacs.specs.Numbers.{Numeral, numberOf}
 use Rattle.dimacs.specs.declared.Number.{Number}
-use Rattle.dimacs.specs.declared.Numeral.{Numeral}
 use Rattle.store.specs.Refusals.{Said, saidRefused}
 use Rattle.store.specs.Stores.{Store, maxVariables, maxClauses, maxLiterals}
 use Rattle.store.specs.declared.refusal.Refusal.{Refusal}

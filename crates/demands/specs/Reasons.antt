@@ -10,9 +10,8 @@ use lib.ListN.{length}
 use lib.Dec.{eqb}
 use Rattle.dimacs.specs.Words.{Piece, wordsAt}
 use Rattle.dimacs.specs.Lines.{linesAt}
-use Rattle.dimacs.specs.Numbers.{numberOf}
+use Rattle.dimacs.specs.Numbers.{Numeral, numberOf}
 use Rattle.dimacs.specs.declared.Number.{Number}
-use Rattle.dimacs.specs.declared.Numeral.{Numeral}
 use Rattle.packed.specs.Words.{maxWords, wordCount, isAssignment}
 use Rattle.quality.specs.Efficiency.{maxLabelled}
 use Rattle.store.specs.Stores.{Store, wellFormed, plainOf, maxVariables, maxClauses, maxLiterals, maxRows}

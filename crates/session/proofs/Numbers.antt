@@ -19,12 +19,11 @@ use Rattle.dimacs.specs.Numbers.{numberOf as numeralOf}
 use Rattle.store.specs.Literals.{variableOf}
 use Rattle.store.specs.Numerals.{isNumeral, codeIn}
 use Rattle.store.specs.Refusals.{Said, done, refused, numberOf}
-use Rattle.store.specs.Stores.{Store, wellFormed, standingOf, plainOf, maxVariables, maxClauses, maxLiterals, maxRows}
+use Rattle.store.specs.Stores.{Store, wellFormed, standingOf, plainOf, maxVariables, maxClauses, maxLiterals, maxRows, withRow}
 use Rattle.store.specs.declared.form.Standing.{Standing}
 use Rattle.store.specs.declared.refusal.Refusal.{Refusal}
 use Rattle.store.proofs.Demands.{rest-of}
 use Rattle.store.proofs.StandingLaws.{ready-of}
-use Rattle.store.proofs.Append.{withRow}
 use Rattle.opening.specs.Problem.{withinLimits, problemIn, problemOf, sizesOf, afterComments}
 use Rattle.opening.specs.Clauses.{scanFrom}
 use Rattle.opening.specs.Opening.{openedIf, openedAfter, openedBy}
@@ -148,7 +147,7 @@ open-low s ample text = problem (problemOf text) refl (problem-number text)
     scan : (n m end : ℕ) → m ≤ maxClauses → (x : Scanned) → scanFrom (length text) n m 0 0 (wordsAt text end) ≡ x → scannedNumber x ≤ 6
         → saidNumber (saidOpened (openedIf x n m (length (s .literals)) (length (s .ends)))) ≤ 6
     scan n m end few (Scanned.Done count) e h =
-        let fits = counted (length text) n m count (wordsAt text end) 0 0 e .few (omega arith) in
+        let fits = counted (length text) n m count (wordsAt text end) 0 0 e .total-within (omega arith) in
         rw (long-enough n m count (length (s .literals)) (length (s .ends)) (omega (arith, fits, ample .literals)) (omega (arith, ample .ends))) (omega arith)
     scan n m end few (Scanned.Refused r) e h = h
 

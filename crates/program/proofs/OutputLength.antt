@@ -14,7 +14,7 @@ use Rattle.render.specs.Text.{clauseLine}
 use Rattle.render.proofs.LineLaws.{length-refusal}
 use Rattle.render.proofs.DigitLaws.{digits-most}
 use Rattle.emit.specs.Emit.{headerOf, linesOf, textOf, maxLine}
-use Rattle.emit.proofs.Bounds.{header-most, line-maxLine}
+use Rattle.emit.proofs.Bounds.{header-most, line-longest}
 use Rattle.symbreak.specs.Calls.{Accepted, accepted}
 use Rattle.session.specs.Session.{sessionOf}
 use Rattle.session.proofs.Theorem.{ready-formed}
@@ -34,7 +34,7 @@ text-length s e =
       arith,
       length-append (headerOf s) (linesOf (madeOf s)),
       header-most s e,
-      lines-length (madeOf s) (line-maxLine s e),
+      lines-length (madeOf s) (line-longest s e),
       mul-le-mul-right maxLine (clauses-most s e),
     )
 

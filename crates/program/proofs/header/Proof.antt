@@ -1,6 +1,9 @@
 -- `program::header` meets its contract: the page is one line, and all clauses are left. Assumes nothing.
 use native.Mathlib.Omega.{arith}
 use Rattle.store.specs.Stores.{Store, lent}
+use Rattle.store.proofs.Formed.{formed, formed-rows}
+use Rattle.lexleader.proofs.MadeLaws.{counted-variables, counted-clauses}
+use Rattle.cursor.proofs.CursorLaws.{start-left}
 use Rattle.render.proofs.DigitLaws.{digits-most}
 use Rattle.render.proofs.LineLaws.{length-header}
 use Rattle.program.proofs.ProgramLaws.{header-step}
@@ -12,7 +15,7 @@ abbrev S : tie.Start → Store
 S c = lent (c .args .counts) (c .args .literals .now) (c .args .ends .now) (c .args .images .now)
 
 totals-of-requires : tie.Need-totals-of-requires
-totals-of-requires c κs = search needs
+totals-of-requires c κs = let s = c .before .before .before .before in (formed (S s) (s .pre .0) .clauses-fit, formed-rows (S s) (s .pre .0))
 
 put-header-requires : tie.Need-put-header-requires
 put-header-requires c κs =
@@ -23,7 +26,7 @@ put-header-requires c κs =
     omega (arith, s .pre .1, length-header v m, digits-most v, digits-most m)
 
 start-requires : tie.Need-start-requires
-start-requires c κs = search needs
+start-requires c κs = let s = c .before .before .before .before .before .before .before .before .before in formed-rows (S s) (s .pre .0)
 
 same-length : tie.Need-same-length
 same-length c = search needs
@@ -34,8 +37,8 @@ returns c =
     let t = w .before .before in
     let s = t .before .before .before .before .before in
     let total = t .totals-of .ensures in
-    header-step (S s) (s .pre .0) (s .args .out .now) (s .pre .1) _ _ _ _ (total .0) (total .1) (w .put-header .ensures .0) (w .put-header .ensures .1)
-    (c .start .result) (c .start .ensures .0) (c .start .ensures .1)
+    header-step (S s) (s .pre .0) (s .args .out .now) (s .pre .1) _ _ _ _ (counted-variables (S s) total) (counted-clauses (S s) (s .pre .0) total) (w .put-header .ensures .0) (w .put-header .ensures .1)
+    (c .start .result) (c .start .ensures .0) (start-left (S s) (c .start .result) (c .start .ensures .1))
 
 pub header-spec : {M : Type 1} → statement M
 header-spec =

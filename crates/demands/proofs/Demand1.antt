@@ -13,7 +13,6 @@ use Rattle.packed.specs.Words.{maxWords, wordCount, isAssignment}
 use Rattle.quality.specs.Efficiency.{maxLabelled, hasEfficiency}
 use Rattle.store.specs.Refusals.{Said, done, refused}
 use Rattle.store.specs.Stores.{Store}
-use Rattle.store.specs.declared.refusal.Refusal.{Refusal}
 use Rattle.lexleader.specs.Store.{variablesOf, clausesOf}
 use Rattle.emit.specs.Emit.{headerOf, lineOf, writtenIf, headerBy, clauseBy}
 use Rattle.opening.specs.Opening.{openedBy}

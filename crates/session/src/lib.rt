@@ -31,8 +31,10 @@ pub struct Session {
 // Opens and offers what an input states, in lent slices of any contents.
 pub fn run(input: &[u8], literals: &mut [u16], ends: &mut [u16], images: &mut [u16]) -> Session
     ensures ends { λ r. let s = stored closedRecord (literals .entry) (ends .entry) (images .entry) in
-        ⌜ ended (saidAnswer (r .answer)) (stored (r .counts) (literals .exit) (ends .exit) (images .exit)) ≡ sessionOf s (now (input .entry)) ⌝ }
-    ensures formed { λ r. ⌜ (r .answer ≡ Answer.Ready → wellFormed (stored (r .counts) (literals .exit) (ends .exit) (images .exit)) ≡ true) ⌝ }
+        let left = stored (r .counts) (literals .exit) (ends .exit) (images .exit) in
+        ⌜ ended (saidAnswer (r .answer)) left ≡ sessionOf s (now (input .entry)) ⌝ }
+    ensures formed { λ r. let left = stored (r .counts) (literals .exit) (ends .exit) (images .exit) in
+        ⌜ (r .answer ≡ Answer.Ready → wellFormed left ≡ true) ⌝ }
 {
     if MAX_INPUT < input.len() {
         return bad_input();

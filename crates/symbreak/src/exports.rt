@@ -16,7 +16,8 @@ ghost use Rattle.store.specs.Refusals.{done, said};
 ghost use Rattle.store.specs.Stores.{lent, stored, closedRecord};
 ghost use Rattle.checking.specs.Checking.{verdictOf};
 ghost use Rattle.descent.specs.Words.{outcomeOf};
-ghost use Rattle.symbreak.specs.Calls.{openSays, openStore, offerSays, offerStore, headerSays, headerLeaves, clauseSays, clauseLeaves};
+ghost use Rattle.symbreak.specs.Calls.{openSays, openStore, offerSays, offerStore, headerSays, headerLeaves};
+ghost use Rattle.symbreak.specs.Calls.{clauseSays, clauseLeaves};
 ghost use Rattle.symbreak.specs.Calls.{fillSays, fillLeaves, checkSays, descendSays, descendLeaves, compareSays, efficiencySays};
 ghost use Rattle.symbreak.specs.Exports.{recordOf, cRecord, cAnswer, cChecked, cDescent, cStored, cStoredAt};
 
@@ -100,7 +101,8 @@ pub extern "C" fn symbreak_offer(
     values: &[u8],
 ) -> CStored
     ensures says { λ r. let s = stored (recordOf variables clauses rows flag) (literals .entry) (ends .entry) (images .entry) in
-        ⌜ r ≡ cStored (offerSays s (now (names .entry)) (now (values .entry))) (offerStore s (now (names .entry)) (now (values .entry)) .counts) ⌝ }
+        let left = offerStore s (now (names .entry)) (now (values .entry)) in
+        ⌜ r ≡ cStored (offerSays s (now (names .entry)) (now (values .entry))) (left .counts) ⌝ }
     ensures images { λ _. let s = stored (recordOf variables clauses rows flag) (literals .entry) (ends .entry) (images .entry) in
         ⌜ now (images .exit) ≡ offerStore s (now (names .entry)) (now (values .entry)) .images ⌝ }
 {

@@ -15,7 +15,8 @@ ghost use Rattle.store.specs.Refusals.{said};
 ghost use Rattle.store.specs.Stores.{lent, stored, closedRecord};
 ghost use Rattle.packed.specs.Order.{part, lesserOf};
 ghost use Rattle.symbreak.specs.Calls.{saidOpened, openSays, openStore, saidOffered, offerSays, offerStore};
-ghost use Rattle.symbreak.specs.Calls.{headerSays, headerLeaves, clauseSays, clauseLeaves, fillSays, fillLeaves, saidFinding, checkSays};
+ghost use Rattle.symbreak.specs.Calls.{headerSays, headerLeaves, clauseSays, clauseLeaves, fillSays, fillLeaves};
+ghost use Rattle.symbreak.specs.Calls.{saidFinding, checkSays};
 ghost use Rattle.symbreak.specs.Calls.{saidDescent, descendSays, descendLeaves, compareSays, efficiencySays};
 
 pub mod exports;

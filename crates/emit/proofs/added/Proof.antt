@@ -1,12 +1,7 @@
 -- `emit::added` meets its contract. Assumes nothing.
 use mathlib.Core.Path.{sym, ap}
-use mathlib.Core.List.{[]}
-use Prim.Native.Nat.{_+_}
 use native.Mathlib.Omega.{arith}
-use lib.ListN.{getD}
 use lib.Seq.{length-take-le}
-use Rattle.store.specs.Stores.{rowsOf}
-use Rattle.lexleader.specs.Made.{rowsClauses}
 use Rattle.render.specs.Text.{clauseLine}
 use Rattle.emit.proofs.WrittenLaws.{same-line}
 use borrow.Author.Needs.{needs}

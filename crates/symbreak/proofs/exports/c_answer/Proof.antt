@@ -1,5 +1,5 @@
 -- `symbreak::exports::c_answer` meets its contract. Assumes nothing.
-use mathlib.Core.Path.{ap, sym, _∙_}
+use mathlib.Core.Path.{ap, sym}
 use Rattle.store.specs.Refusals.{said}
 use Rattle.store.specs.declared.answer.Answer.{Answer}
 use Rattle.symbreak.specs.Exports.{cAnswer}

@@ -37,8 +37,5 @@ pub fn is_negative(code: u32) -> bool
 pub fn opposite(code: u32) -> u32
     ensures { λ r. ⌜ r ≡ oppositeOf code ⌝ }
 {
-    if is_negative(code) {
-        return code - 1;
-    }
-    code + 1
+    code ^ 1
 }

@@ -140,15 +140,11 @@ fn put_word(out: &mut [u8], at: usize, code: u32) -> usize
     space + 1
 }
 
-// A literal.
+// A literal; its sign is counted without a branch, which could not be foretold.
 fn literal_length(code: u32) -> usize
     ensures { λ r. ⌜ r ≡ length (literalText code) ⌝ }
 {
-    let digits = digit_count(literal::variable(code) as u64);
-    if literal::is_negative(code) {
-        return digits + 1;
-    }
-    digits
+    digit_count(literal::variable(code) as u64) + literal::is_negative(code) as usize
 }
 
 fn put_literal(out: &mut [u8], at: usize, code: u32) -> usize

@@ -21,6 +21,6 @@ pub fn clause<'a>(literals: &'a [u16], ends: &[u16], m: usize, c: usize) -> &'a 
     ensures { λ part. ⌜ now part ≡ clauseAt (now (literals .entry)) (now (ends .entry)) c ⌝ }
 {
     let start = literal_count(ends, c);
-    let end = literal_count(ends, c + 1);
+    let end = ends[c] as usize;
     &literals[start..end]
 }

@@ -1,12 +1,26 @@
 -- `render::literal_length` meets its contract. Assumes nothing.
-use mathlib.Core.Path.{sym, ap, _∙_}
+use mathlib.Core.Path.{_≡_, sym, ap}
+use mathlib.Core.Bool.{Bool, true, false}
+use Prim.Native.Nat.{ℕ, _+_, _≤_}
+use native.Mathlib.Omega.{arith}
+use lib.ListN.{length}
+use mir.Val.{boolByte}
+use Rattle.store.specs.Literals.{variableOf, isNegative}
+use Rattle.render.specs.Text.{decimal, literalText}
 use Rattle.render.proofs.DigitLaws.{digits-most}
 use Rattle.render.proofs.LineLaws.{text-negative, text-plain}
 use borrow.Author.Needs.{needs}
-use native.Mathlib.Omega.{arith}
-use lib.ListN.{length}
 use Rattle.render.proofs.literal_length.Statement.{statement}
 use Rattle.render.proofs.literal_length.Tie as tie
+
+-- the digits, and a byte more for the sign
+sized : (code v d : ℕ) → v ≡ variableOf code → d ≡ length (decimal v) → (b : Bool) → b ≡ isNegative code → d + boolByte b ≡ length (literalText code)
+sized code v d is count true e = omega (arith, count, ap length (text-negative code v is (sym e)))
+sized code v d is count false e = omega (arith, count, ap length (text-plain code v is (sym e)))
+
+byte : (b : Bool) → boolByte b ≤ 1
+byte true = omega arith
+byte false = omega arith
 
 variable-requires : tie.Need-variable-requires
 variable-requires c κs = search needs
@@ -17,26 +31,18 @@ digit-count-requires c κs = search needs
 is-negative-requires : tie.Need-is-negative-requires
 is-negative-requires c κs = search needs
 
+cast-result : tie.Need-cast-result
+cast-result c = search needs
+
 add-result : tie.Need-add-result
-add-result c = omega (arith, c .before .before .digit-count .ensures, digits-most (c .before .before .before .variable .result))
+add-result c = let d = c .before in omega (arith, d .digit-count .ensures, digits-most (d .before .variable .result), byte (c .is-negative .result))
 
 returns : tie.Need-returns
 returns c =
-    let d = c .before .before in
-    omega (arith, d .digit-count .ensures, ap length (text-negative _ _ (d .before .variable .ensures) (sym (c .before .is-negative .ensures) ∙ c .if1 .taken)))
-
-returns-2 : tie.Need-returns-2
-returns-2 c =
-    let d = c .before .before in
-    d .digit-count .ensures ∙ sym (ap length (text-plain _ _ (d .before .variable .ensures) (sym (c .before .is-negative .ensures) ∙ c .if1 .left)))
+    let d = c .before in
+    let v = d .before in
+    sized (v .before .args .code) (v .variable .result) (d .digit-count .result) (v .variable .ensures) (d .digit-count .ensures) (c .is-negative .result) (c .is-negative .ensures)
 
 pub literal-length-spec : {M : Type 1} → statement M
 literal-length-spec =
-    tie.close
-    (tie.spec
-    variable-requires
-    digit-count-requires
-    is-negative-requires
-    add-result
-    returns
-    returns-2)
+    tie.close (tie.spec variable-requires digit-count-requires is-negative-requires cast-result add-result returns)

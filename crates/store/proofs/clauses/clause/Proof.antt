@@ -1,32 +1,35 @@
 -- `store::clauses::clause` meets its contract. Assumes nothing.
-use mathlib.Core.Path.{ap₂, _∙_}
+use mathlib.Core.Path.{sym, ap₂, _∙_}
 use Prim.Native.Nat.{ℕ, _≤_}
 use native.Mathlib.Omega.{arith}
-use lib.ListN.{length}
+use lib.ListN.{length, getD}
 use lib.Seq.{slice}
-use Rattle.store.proofs.Cuts.{part-slice}
+use Rattle.store.proofs.Cuts.{part-slice, end-is}
 use borrow.Author.Needs.{needs}
 use Rattle.store.proofs.clauses.clause.Statement.{statement}
 use Rattle.store.proofs.clauses.clause.Tie as tie
 
 -- where the clause's literals lie
-bounds : (c : tie.After-literal-count2) → let a = c .before .before .before .before .args in
-    (c .before .literal-count .result ≤ c .literal-count2 .result) × (c .literal-count2 .result ≤ length (a .literals .now))
+bounds : (c : tie.After-shared-slice-known3) → let a = c .before .before .before .before .args in
+    (c .before .literal-count .result ≤ getD (a .ends .now) (a .c) 0) × (getD (a .ends .now) (a .c) 0 ≤ length (a .literals .now))
 bounds c =
     let s = c .before .before .before .before in
     let f = s .pre .0 in
     let start = c .before .literal-count .ensures in
-    let end = c .literal-count2 .ensures in
+    let end = end-is (s .args .c) (s .args .ends .now) in
     (omega (arith, f .rise (s .args .c) (s .pre .1)), omega (arith, f .within (s .args .c) (s .pre .1)))
 
 literal-count-requires : tie.Need-literal-count-requires
 literal-count-requires c κs = search needs
 
-add-literal-count : tie.Need-add-literal-count
-add-literal-count c = search needs
+mul-end : tie.Need-mul-end
+mul-end c = search needs
 
-literal-count-requires-2 : tie.Need-literal-count-requires-2
-literal-count-requires-2 c κs = search needs
+shared-slice-read-end : tie.Need-shared-slice-read-end
+shared-slice-read-end c = search needs
+
+cast-end : tie.Need-cast-end
+cast-end c = omega (arith, c .shared-slice-known3 .given (c .before .before .before .before .args .c))
 
 mul-result : tie.Need-mul-result
 mul-result c = omega (arith, bounds c)
@@ -45,15 +48,16 @@ returns c =
     let l = c .before in
     let a = l .before .before .before .before .args in
     part-slice _ _ (a .literals .now) (bounds l .0)
-    ∙ ap₂ (λ (i j : ℕ). slice i j (a .literals .now)) (l .before .literal-count .ensures) (l .literal-count2 .ensures)
+    ∙ ap₂ (λ (i j : ℕ). slice i j (a .literals .now)) (l .before .literal-count .ensures) (sym (end-is (a .c) (a .ends .now)))
 
 pub clause-spec : {M : Type 1} → statement M
 clause-spec =
     tie.close
     (tie.spec
     literal-count-requires
-    add-literal-count
-    literal-count-requires-2
+    mul-end
+    shared-slice-read-end
+    cast-end
     mul-result
     sub-result
     part-result-start

@@ -52,7 +52,7 @@ static void offer_lines(text rest)
 /* Writes the made formula and gives N, the count of its variables. */
 static uint64_t write_made(const char *path)
 {
-    static uint8_t line[7 * SYMBREAK_MAX_LITERALS + 2]; /* one clause may hold all literals */
+    static uint8_t line[SYMBREAK_MAX_LINE]; /* one clause may hold all literals */
     uint64_t variables, clauses;
     FILE *file = fopen(path, "wb");
     if (!file)

@@ -2,7 +2,7 @@
 """Writes a pigeonhole formula and exchanges that are symmetries of it, as the two files that `host` reads.
 
 Variable (i - 1) * holes + j says that pigeon i sits in hole j. Each pigeon sits somewhere, and no two share a hole; exchanged are neighbouring holes,
-neighbouring pigeons or both. With as many holes as pigeons there are models: prisms of one make on brackets that are alike.
+neighbouring pigeons or both. With as many holes as pigeons there are models: things that are alike in places that are alike.
 """
 import argparse
 from itertools import combinations

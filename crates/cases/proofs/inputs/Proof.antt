@@ -28,53 +28,17 @@ reached c =
 loop-holds : tie.Need-loop-holds Inv-loop μ-loop
 loop-holds c = (omega arith, omega arith)
 
-read-requires : tie.Need-read-requires Inv-loop μ-loop
-read-requires c κs = search needs
-
-enum-known-size : tie.Need-enum-known-size Inv-loop μ-loop
-enum-known-size c = search needs
-
-enum-told : tie.Need-enum-told Inv-loop μ-loop
-enum-told c = search needs
-
 returns : tie.Need-returns Inv-loop μ-loop
 returns c = tt
 
 add-from : tie.Need-add-from Inv-loop μ-loop
 add-from c = omega (arith, reached (c .before))
 
-cast-to : tie.Need-cast-to Inv-loop μ-loop
-cast-to c = omega arith
-
 add-to : tie.Need-add-to Inv-loop μ-loop
 add-to c = omega (arith, reached (c .before .before))
 
 returns-2 : tie.Need-returns-2 Inv-loop μ-loop
 returns-2 c = tt
-
-add-count : tie.Need-add-count Inv-loop μ-loop
-add-count c = omega arith
-
-heading-requires : tie.Need-heading-requires Inv-loop μ-loop
-heading-requires c κs = search needs
-
-sub-print : tie.Need-sub-print Inv-loop μ-loop
-sub-print c = omega arith
-
-part-print-start : tie.Need-part-print-start Inv-loop μ-loop
-part-print-start c = omega arith
-
-part-print-end : tie.Need-part-print-end Inv-loop μ-loop
-part-print-end c = omega arith
-
-print-requires : tie.Need-print-requires Inv-loop μ-loop
-print-requires c κs = search needs
-
-enum-told-2 : tie.Need-enum-told-2 Inv-loop μ-loop
-enum-told-2 c = search needs
-
-enum-told-3 : tie.Need-enum-told-3 Inv-loop μ-loop
-enum-told-3 c = search needs
 
 returns-3 : tie.Need-returns-3 Inv-loop μ-loop
 returns-3 c = tt
@@ -88,26 +52,6 @@ loop-again c = (omega arith, omega (arith, reached (c .before .before .before .b
 pub inputs-spec : {M : Type 1} → statement M
 inputs-spec =
     tie.close
-    (tie.spec
-    Inv-loop
-    μ-loop
-    loop-holds
-    read-requires
-    enum-known-size
-    enum-told
-    returns
-    add-from
-    cast-to
-    add-to
-    returns-2
-    add-count
-    heading-requires
-    sub-print
-    part-print-start
-    part-print-end
-    print-requires
-    enum-told-2
-    enum-told-3
-    returns-3
-    loop-less
-    loop-again)
+    (tie.spec Inv-loop μ-loop loop-holds (search needs) (search needs) (search needs) returns add-from (search needs) add-to returns-2
+    (search needs) (search needs) (search needs) (search needs) (search needs) (search needs) (search needs) (search needs) returns-3
+    loop-less loop-again)

@@ -69,12 +69,5 @@ returns-3 c n within =
 pub auxiliary-due-spec : {M : Type 1} → statement M
 auxiliary-due-spec =
     tie.close
-    (tie.spec
-    pair-agrees-requires
-    returns
-    sub-literal-value
-    mul-literal-value
-    literal-value-requires
-    returns-2
-    pair-agrees-requires-2
+    (tie.spec pair-agrees-requires returns sub-literal-value mul-literal-value literal-value-requires returns-2 pair-agrees-requires-2
     returns-3)

@@ -19,12 +19,6 @@ loop-holds : tie.Need-loop-holds Inv-loop μ-loop
 unfolding clauseHolds
 loop-holds c = λ n within. refl
 
-mul-literal-value : tie.Need-mul-literal-value Inv-loop μ-loop
-mul-literal-value c = omega arith
-
-shared-slice-read-literal-value : tie.Need-shared-slice-read-literal-value Inv-loop μ-loop
-shared-slice-read-literal-value c = omega arith
-
 literal-value-requires : tie.Need-literal-value-requires Inv-loop μ-loop
 literal-value-requires c κs =
     let l = c .before .before in
@@ -36,12 +30,6 @@ returns c =
     let l = c .before .before .before .before in
     let a = l .before .before .before .args in
     tried-true (a .a .now) (a .clause .now) (l .loop .i) (l .loop .inv) (search needs) _ (c .before .literal-value .ensures) (c .if1 .taken)
-
-add-i : tie.Need-add-i Inv-loop μ-loop
-add-i c = omega arith
-
-loop-less : tie.Need-loop-less Inv-loop μ-loop
-loop-less c = omega arith
 
 loop-again : tie.Need-loop-again Inv-loop μ-loop
 loop-again c =
@@ -55,15 +43,5 @@ returns-2 c = let l = c .before in let a = l .before .before .before .args in tr
 pub codes-hold-spec : {M : Type 1} → statement M
 codes-hold-spec =
     tie.close
-    (tie.spec
-    Inv-loop
-    μ-loop
-    loop-holds
-    mul-literal-value
-    shared-slice-read-literal-value
-    literal-value-requires
-    returns
-    add-i
-    loop-less
-    loop-again
-    returns-2)
+    (tie.spec Inv-loop μ-loop loop-holds (search needs) (search needs) literal-value-requires returns (search needs) (search needs)
+    loop-again returns-2)

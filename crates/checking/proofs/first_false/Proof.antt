@@ -20,6 +20,7 @@ use Rattle.lexleader.proofs.MadeLaws.{plain-length, counted-clauses}
 use Rattle.cursor.specs.Cursors.{clausesLeft, rowOf}
 use Rattle.cursor.proofs.CursorLaws.{start-left}
 use Rattle.checking.proofs.CheckLaws.{LeftToTry, try-first, left-some, head-within, added-within, front-literals, try-on, try-found, try-all, one-holds}
+use borrow.Author.Needs.{needs}
 use Rattle.checking.proofs.first_false.Statement.{statement}
 use Rattle.checking.proofs.first_false.Tie as tie
 
@@ -61,9 +62,6 @@ next-auxiliary-requires c κs = (c .before .before .before .loop .inv .points, c
 
 add-q : tie.Need-add-q Inv-loop μ-loop
 add-q c = let l = c .before .before .before .before in omega (arith, l .before .before .totals-of .ensures .few-clauses)
-
-loop-less : tie.Need-loop-less Inv-loop μ-loop
-loop-less c = omega arith
 
 loop-again : tie.Need-loop-again Inv-loop μ-loop
 loop-again c =
@@ -114,9 +112,6 @@ next-requires c κs =
 add-q-2 : tie.Need-add-q-2 Inv-loop μ-loop
 add-q-2 c = let l = c .before .before .before .before .before .before in omega (arith, l .before .before .totals-of .ensures .few-clauses)
 
-loop-less-2 : tie.Need-loop-less-2 Inv-loop μ-loop
-loop-less-2 c = omega arith
-
 loop-again-2 : tie.Need-loop-again-2 Inv-loop μ-loop
 loop-again-2 c =
     let h = c .before .before in
@@ -134,21 +129,5 @@ returns-2 c =
 pub first-false-spec : {M : Type 1} → statement M
 first-false-spec =
     tie.close
-    (tie.spec
-    Inv-loop
-    μ-loop
-    totals-of-requires
-    start-requires
-    loop-holds
-    six-hold-requires
-    next-auxiliary-requires
-    add-q
-    loop-less
-    loop-again
-    holds-at-requires
-    returns
-    next-requires
-    add-q-2
-    loop-less-2
-    loop-again-2
-    returns-2)
+    (tie.spec Inv-loop μ-loop totals-of-requires start-requires loop-holds six-hold-requires next-auxiliary-requires add-q (search needs)
+    loop-again holds-at-requires returns next-requires add-q-2 (search needs) loop-again-2 returns-2)

@@ -92,13 +92,5 @@ returns-2 c n =
 pub holds-at-spec : {M : Type 1} → statement M
 holds-at-spec =
     tie.close
-    (tie.spec
-    clause-requires
-    stored-holds-requires
-    returns
-    row-requires
-    clause-at-requires
-    array-share-prefix-codes
-    slice-aggregate-codes-hold
-    codes-hold-requires
-    returns-2)
+    (tie.spec clause-requires stored-holds-requires returns row-requires clause-at-requires array-share-prefix-codes
+    slice-aggregate-codes-hold codes-hold-requires returns-2)

@@ -20,18 +20,6 @@ own c n within =
     let o = c .before .before .before in
     c .literal-value .ensures n (omega (arith, literal-high _ _ (within .x))) ∙ ap (literalValue (valueOf (bitsOf n (o .before .before .before .args .a .now)))) (o .own-code .ensures)
 
-own-code-requires : tie.Need-own-code-requires
-own-code-requires c κs = search needs
-
-mul-wide : tie.Need-mul-wide
-mul-wide c = search needs
-
-shared-slice-read-wide : tie.Need-shared-slice-read-wide
-shared-slice-read-wide c = search needs
-
-wide-requires : tie.Need-wide-requires
-wide-requires c κs = search needs
-
 literal-value-requires : tie.Need-literal-value-requires
 literal-value-requires c κs =
     let x = c .before .before .before .before .before .pre .2 .x in
@@ -58,12 +46,4 @@ returns-2 c n within =
 pub is-ordered-spec : {M : Type 1} → statement M
 is-ordered-spec =
     tie.close
-    (tie.spec
-    own-code-requires
-    mul-wide
-    shared-slice-read-wide
-    wide-requires
-    literal-value-requires
-    returns
-    literal-value-requires-2
-    returns-2)
+    (tie.spec (search needs) (search needs) (search needs) (search needs) literal-value-requires returns literal-value-requires-2 returns-2)

@@ -11,18 +11,6 @@ use borrow.Author.Needs.{needs}
 use Rattle.checking.proofs.pair_agrees.Statement.{statement}
 use Rattle.checking.proofs.pair_agrees.Tie as tie
 
-own-code-requires : tie.Need-own-code-requires
-own-code-requires c κs = search needs
-
-mul-wide : tie.Need-mul-wide
-mul-wide c = search needs
-
-shared-slice-read-wide : tie.Need-shared-slice-read-wide
-shared-slice-read-wide c = search needs
-
-wide-requires : tie.Need-wide-requires
-wide-requires c κs = search needs
-
 literal-value-requires : tie.Need-literal-value-requires
 literal-value-requires c κs =
     let x = c .before .before .before .before .before .pre .2 .x in
@@ -47,11 +35,4 @@ returns c n within =
 pub pair-agrees-spec : {M : Type 1} → statement M
 pair-agrees-spec =
     tie.close
-    (tie.spec
-    own-code-requires
-    mul-wide
-    shared-slice-read-wide
-    wide-requires
-    literal-value-requires
-    literal-value-requires-2
-    returns)
+    (tie.spec (search needs) (search needs) (search needs) (search needs) literal-value-requires literal-value-requires-2 returns)

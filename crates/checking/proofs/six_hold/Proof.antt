@@ -24,9 +24,6 @@ use Rattle.checking.proofs.six_hold.Tie as tie
 at : (c : tie.Else1) → let a = c .before .before .before .before .args in AtAuxiliary (a .counts) (a .at)
 at c = c .before .at-auxiliary .ensures (not-false _ (c .if1 .left))
 
-at-auxiliary-requires : tie.Need-at-auxiliary-requires
-at-auxiliary-requires c κs = search needs
-
 returns : tie.Need-returns
 returns c = never
 
@@ -60,4 +57,4 @@ returns-2 c e =
     )
 
 pub six-hold-spec : {M : Type 1} → statement M
-six-hold-spec = tie.close (tie.spec at-auxiliary-requires returns row-requires table-holds-requires returns-2)
+six-hold-spec = tie.close (tie.spec (search needs) returns row-requires table-holds-requires returns-2)

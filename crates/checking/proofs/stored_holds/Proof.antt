@@ -19,12 +19,6 @@ loop-holds : tie.Need-loop-holds Inv-loop μ-loop
 unfolding clauseHolds
 loop-holds c = λ n within. refl
 
-mul-literal-value : tie.Need-mul-literal-value Inv-loop μ-loop
-mul-literal-value c = omega arith
-
-shared-slice-read-literal-value : tie.Need-shared-slice-read-literal-value Inv-loop μ-loop
-shared-slice-read-literal-value c = omega arith
-
 cast-literal-value : tie.Need-cast-literal-value Inv-loop μ-loop
 cast-literal-value c = omega (arith, c .shared-slice-known3 .given (c .before .before .loop .i))
 
@@ -40,12 +34,6 @@ returns c =
     let a = l .before .before .before .args in
     tried-true (a .a .now) (a .clause .now) (l .loop .i) (l .loop .inv) (search needs) _ (c .before .literal-value .ensures) (c .if1 .taken)
 
-add-i : tie.Need-add-i Inv-loop μ-loop
-add-i c = omega arith
-
-loop-less : tie.Need-loop-less Inv-loop μ-loop
-loop-less c = omega arith
-
 loop-again : tie.Need-loop-again Inv-loop μ-loop
 loop-again c =
     let l = c .before .before .before .before in
@@ -58,16 +46,5 @@ returns-2 c = let l = c .before in let a = l .before .before .before .args in tr
 pub stored-holds-spec : {M : Type 1} → statement M
 stored-holds-spec =
     tie.close
-    (tie.spec
-    Inv-loop
-    μ-loop
-    loop-holds
-    mul-literal-value
-    shared-slice-read-literal-value
-    cast-literal-value
-    literal-value-requires
-    returns
-    add-i
-    loop-less
-    loop-again
-    returns-2)
+    (tie.spec Inv-loop μ-loop loop-holds (search needs) (search needs) cast-literal-value literal-value-requires returns (search needs)
+    (search needs) loop-again returns-2)

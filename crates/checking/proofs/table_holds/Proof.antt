@@ -94,14 +94,5 @@ returns-5 c n within =
 pub table-holds-spec : {M : Type 1} → statement M
 table-holds-spec =
     tie.close
-    (tie.spec
-    auxiliary-due-requires
-    mul-literal-value
-    literal-value-requires
-    returns
-    is-ordered-requires
-    returns-2
-    returns-3
-    is-ordered-requires-2
-    returns-4
-    returns-5)
+    (tie.spec auxiliary-due-requires mul-literal-value literal-value-requires returns is-ordered-requires returns-2 returns-3
+    is-ordered-requires-2 returns-4 returns-5)

@@ -13,8 +13,5 @@ returns-2 c = never
 returns-3 : tie.Need-returns-3
 returns-3 c = never
 
-returns-4 : tie.Need-returns-4
-returns-4 c = search needs
-
 pub at-auxiliary-spec : {M : Type 1} → statement M
-at-auxiliary-spec = tie.close (tie.spec returns returns-2 returns-3 returns-4)
+at-auxiliary-spec = tie.close (tie.spec returns returns-2 returns-3 (λ c. search needs))

@@ -6,9 +6,6 @@ use borrow.Author.Needs.{needs}
 use Rattle.cursor.proofs.next.Statement.{statement}
 use Rattle.cursor.proofs.next.Tie as tie
 
-add-t6 : tie.Need-add-t6
-add-t6 c = search needs
-
 returns : tie.Need-returns
 returns c =
     let s = c .before .before .before .before .before .before in
@@ -25,4 +22,4 @@ returns-2 : tie.Need-returns-2
 returns-2 c = let next = c .next-added .ensures in (next .points, λ plain many. by-head (next .left plain many))
 
 pub next-spec : {M : Type 1} → statement M
-next-spec = tie.close (tie.spec add-t6 returns next-added-requires returns-2)
+next-spec = tie.close (tie.spec (search needs) returns next-added-requires returns-2)

@@ -63,12 +63,6 @@ returns c =
       first-here (a .counts) (a .images .now) (l .loop .r) (s .pre .0) (search needs) p (l .loop .first) z ∙ sym (l .loop .inv .4),
     )
 
-add-r : tie.Need-add-r Inv-loop μ-loop
-add-r c = search needs
-
-loop-less : tie.Need-loop-less Inv-loop μ-loop
-loop-less c = search needs
-
 loop-again : tie.Need-loop-again Inv-loop μ-loop
 loop-again c =
     let f = c .before .before in
@@ -88,9 +82,6 @@ loop-again c =
           ∙ place-past (a .counts) (a .images .now) (l .loop .r) (s .pre .0) (search needs) p none,
     )
 
-nowhere-requires : tie.Need-nowhere-requires Inv-loop μ-loop
-nowhere-requires c κs = search needs
-
 returns-2 : tie.Need-returns-2 Inv-loop μ-loop
 returns-2 c =
     let l = c .before .before .before in
@@ -104,15 +95,5 @@ returns-2 c =
 pub row-from-spec : {M : Type 1} → statement M
 row-from-spec =
     tie.close
-    (tie.spec
-    Inv-loop
-    μ-loop
-    loop-holds
-    row-requires
-    first-place-requires
-    returns
-    add-r
-    loop-less
-    loop-again
-    nowhere-requires
+    (tie.spec Inv-loop μ-loop loop-holds row-requires first-place-requires returns (search needs) (search needs) loop-again (search needs)
     returns-2)

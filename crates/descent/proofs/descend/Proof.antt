@@ -136,25 +136,6 @@ loop-again c =
 pub descend-spec : {M : Type 1} → statement M
 descend-spec =
     tie.close
-    (tie.spec
-    Inv-loop
-    μ-loop
-    slice-aggregate-tabulate
-    tabulate-requires
-    loop-holds
-    slice-aggregate-first-lowering
-    first-lowering-requires
-    slice-aggregate-write-back
-    write-back-requires
-    same-length
-    returns
-    slice-aggregate-write-back-2
-    write-back-requires-2
-    same-length-2
-    returns-2
-    row-requires
-    slice-aggregate-move-by
-    move-by-requires
-    add-moves
-    loop-less
-    loop-again)
+    (tie.spec Inv-loop μ-loop slice-aggregate-tabulate tabulate-requires loop-holds slice-aggregate-first-lowering first-lowering-requires
+    slice-aggregate-write-back write-back-requires same-length returns slice-aggregate-write-back-2 write-back-requires-2 same-length-2
+    returns-2 row-requires slice-aggregate-move-by move-by-requires add-moves loop-less loop-again)

@@ -8,6 +8,7 @@ use Rattle.lexleader.specs.Rows.{lowers}
 use Rattle.lexleader.specs.Descent.{stepBy}
 use Rattle.valuation.specs.Tables.{bitsIn}
 use Rattle.descent.proofs.DescentLaws.{step-all, step-here, step-on, step-end}
+use borrow.Author.Needs.{needs}
 use Rattle.descent.proofs.first_lowering.Statement.{statement}
 use Rattle.descent.proofs.first_lowering.Tie as tie
 
@@ -46,12 +47,6 @@ returns c =
     let l = c .before .before .before .before in
     (omega arith, (λ e. absurd (omega arith), λ h. l .loop .inv .0 ∙ step-here _ _ _ _ (l .loop .r) h (lowering (c .before) ∙ c .if1 .taken)))
 
-add-r : tie.Need-add-r Inv-loop μ-loop
-add-r c = omega arith
-
-loop-less : tie.Need-loop-less Inv-loop μ-loop
-loop-less c = omega arith
-
 loop-again : tie.Need-loop-again Inv-loop μ-loop
 loop-again c =
     let l = c .before .before .before .before in
@@ -63,14 +58,4 @@ returns-2 c = (omega arith, (λ e. c .before .loop .inv .0 ∙ step-end _ _ _ _ 
 pub first-lowering-spec : {M : Type 1} → statement M
 first-lowering-spec =
     tie.close
-    (tie.spec
-    Inv-loop
-    μ-loop
-    loop-holds
-    row-requires
-    lowers-requires
-    returns
-    add-r
-    loop-less
-    loop-again
-    returns-2)
+    (tie.spec Inv-loop μ-loop loop-holds row-requires lowers-requires returns (search needs) (search needs) loop-again returns-2)

@@ -6,6 +6,7 @@ use lib.ListN.{length}
 use Rattle.lexleader.specs.Rows.{lowers}
 use Rattle.valuation.specs.Tables.{bitsIn}
 use Rattle.descent.proofs.MoveLaws.{image-in, lowersFrom, lowers-all, lowers-end, lowers-here, lowers-on}
+use borrow.Author.Needs.{needs}
 use Rattle.descent.proofs.lowers.Statement.{statement}
 use Rattle.descent.proofs.lowers.Tie as tie
 
@@ -18,20 +19,8 @@ abbrev μ-loop : tie.MeasureT-loop
 loop-holds : tie.Need-loop-holds Inv-loop μ-loop
 loop-holds c = (omega arith, lowers-all _ _)
 
-mul-own : tie.Need-mul-own Inv-loop μ-loop
-mul-own c = omega arith
-
-add-own : tie.Need-add-own Inv-loop μ-loop
-add-own c = omega arith
-
 shared-slice-read-own : tie.Need-shared-slice-read-own Inv-loop μ-loop
 shared-slice-read-own c = omega (arith, c .before .before .before .pre .1 .room)
-
-mul-if1 : tie.Need-mul-if1 Inv-loop μ-loop
-mul-if1 c = omega arith
-
-shared-slice-read-if1 : tie.Need-shared-slice-read-if1 Inv-loop μ-loop
-shared-slice-read-if1 c = omega arith
 
 cast-if1 : tie.Need-cast-if1 Inv-loop μ-loop
 cast-if1 c = omega (arith, c .shared-slice-known2 .given (c .before .before .before .loop .i))
@@ -48,12 +37,6 @@ returns c =
     let s = l .before in
     sym (l .loop .inv .1 ∙ lowers-here _ _ (s .pre .0) (s .pre .1) (l .loop .i) (omega arith) (c .if1 .taken))
 
-add-i : tie.Need-add-i Inv-loop μ-loop
-add-i c = omega arith
-
-loop-less : tie.Need-loop-less Inv-loop μ-loop
-loop-less c = omega arith
-
 loop-again : tie.Need-loop-again Inv-loop μ-loop
 loop-again c =
     let l = c .before .before .before .before .before in
@@ -66,19 +49,5 @@ returns-2 c = sym (c .before .loop .inv .1 ∙ lowers-end _ _ _ (omega arith))
 pub lowers-spec : {M : Type 1} → statement M
 lowers-spec =
     tie.close
-    (tie.spec
-    Inv-loop
-    μ-loop
-    loop-holds
-    mul-own
-    add-own
-    shared-slice-read-own
-    mul-if1
-    shared-slice-read-if1
-    cast-if1
-    shared-slice-read-if1-2
-    returns
-    add-i
-    loop-less
-    loop-again
-    returns-2)
+    (tie.spec Inv-loop μ-loop loop-holds (search needs) (search needs) shared-slice-read-own (search needs) (search needs) cast-if1
+    shared-slice-read-if1-2 returns (search needs) (search needs) loop-again returns-2)

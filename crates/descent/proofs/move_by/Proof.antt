@@ -7,6 +7,7 @@ use Rattle.lexleader.specs.Rows.{moved}
 use Rattle.valuation.specs.Tables.{maxTable, bitsIn}
 use Rattle.valuation.proofs.TableLaws.{TableBegun, begun-none, begun-more}
 use Rattle.descent.proofs.MoveLaws.{image-in, image-is, moved-table, moved-bits}
+use borrow.Author.Needs.{needs}
 use Rattle.descent.proofs.move_by.Statement.{statement}
 use Rattle.descent.proofs.move_by.Tie as tie
 
@@ -19,18 +20,6 @@ abbrev μ-loop : tie.MeasureT-loop
 
 loop-holds : tie.Need-loop-holds Inv-loop μ-loop
 loop-holds c = (omega arith, omega arith, refl, begun-none _ _)
-
-mul-own : tie.Need-mul-own Inv-loop μ-loop
-mul-own c = omega arith
-
-sub-image : tie.Need-sub-image Inv-loop μ-loop
-sub-image c = omega arith
-
-mul-image : tie.Need-mul-image Inv-loop μ-loop
-mul-image c = omega arith
-
-shared-slice-read-image : tie.Need-shared-slice-read-image Inv-loop μ-loop
-shared-slice-read-image c = omega arith
 
 cast-image : tie.Need-cast-image Inv-loop μ-loop
 cast-image c = omega (arith, c .shared-slice-known2 .given (c .before .before .loop .i - 1))
@@ -55,12 +44,6 @@ add-next c = omega (arith, image-here c)
 
 array-write-next-2 : tie.Need-array-write-next-2 Inv-loop μ-loop
 array-write-next-2 c = omega (arith, image-here c)
-
-add-i : tie.Need-add-i Inv-loop μ-loop
-add-i c = omega arith
-
-loop-less : tie.Need-loop-less Inv-loop μ-loop
-loop-less c = omega arith
 
 loop-again : tie.Need-loop-again Inv-loop μ-loop
 loop-again c =
@@ -100,23 +83,6 @@ returns c =
 pub move-by-spec : {M : Type 1} → statement M
 move-by-spec =
     tie.close
-    (tie.spec
-    Inv-loop
-    μ-loop
-    loop-holds
-    mul-own
-    sub-image
-    mul-image
-    shared-slice-read-image
-    cast-image
-    slice-read-value
-    array-write-next
-    add-next
-    array-write-next-2
-    add-i
-    loop-less
-    loop-again
-    slice-aggregate-copy
-    copy-requires
-    same-length
+    (tie.spec Inv-loop μ-loop loop-holds (search needs) (search needs) (search needs) (search needs) cast-image slice-read-value
+    array-write-next add-next array-write-next-2 (search needs) (search needs) loop-again slice-aggregate-copy copy-requires same-length
     returns)

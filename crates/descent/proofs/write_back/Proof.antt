@@ -23,9 +23,6 @@ finish-requires c κs =
     let size = length-in (s .args .n) (s .args .values .now) in
     room-for (w .write .ensures) 0 (omega (arith, size, s .pre .2)) (omega (arith, size, s .pre .0))
 
-same-length : tie.Need-same-length
-same-length c = search needs
-
 returns : tie.Need-returns
 returns c =
     let f = c .before .before in
@@ -37,4 +34,4 @@ returns c =
     f .finish .ensures .1 bits (s .args .a .now) (w .write .ensures) ∙ ap (λ (l : List ℕ). wordsOf bits ++ l) none ∙ append-nil (wordsOf bits)
 
 pub write-back-spec : {M : Type 1} → statement M
-write-back-spec = tie.close (tie.spec write-requires finish-requires same-length returns)
+write-back-spec = tie.close (tie.spec write-requires finish-requires (search needs) returns)

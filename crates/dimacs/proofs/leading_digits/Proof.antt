@@ -25,12 +25,6 @@ abbrev μ-loop : tie.MeasureT-loop
 loop-holds : tie.Need-loop-holds Inv-loop μ-loop
 loop-holds c = (search needs, omega arith, omega arith, refl)
 
-shared-slice-read-b : tie.Need-shared-slice-read-b Inv-loop μ-loop
-shared-slice-read-b c = search needs
-
-digit-requires : tie.Need-digit-requires Inv-loop μ-loop
-digit-requires c κs = search needs
-
 -- what is known where the byte is a digit
 known : (c : tie.Then1 Inv-loop μ-loop) → let at = c .before .before .before .before in
     Digit (getD (at .before .before .args .bytes .now) (at .loop .i) 0) × (at .loop .value < 1000000)
@@ -49,12 +43,6 @@ cast-value c = omega (arith, known c)
 
 add-value : tie.Need-add-value Inv-loop μ-loop
 add-value c = omega (arith, known c)
-
-add-i : tie.Need-add-i Inv-loop μ-loop
-add-i c = search needs
-
-loop-less : tie.Need-loop-less Inv-loop μ-loop
-loop-less c = search needs
 
 loop-again : tie.Need-loop-again Inv-loop μ-loop
 loop-again c =
@@ -84,18 +72,5 @@ returns-2 c =
 pub leading-digits-spec : {M : Type 1} → statement M
 leading-digits-spec =
     tie.close
-    (tie.spec
-    Inv-loop
-    μ-loop
-    loop-holds
-    shared-slice-read-b
-    digit-requires
-    mul-value
-    sub-value
-    cast-value
-    add-value
-    add-i
-    loop-less
-    loop-again
-    returns
-    returns-2)
+    (tie.spec Inv-loop μ-loop loop-holds (search needs) (search needs) mul-value sub-value cast-value add-value (search needs)
+    (search needs) loop-again returns returns-2)

@@ -17,12 +17,6 @@ use Rattle.dimacs.proofs.read.Tie as tie
 returns : tie.Need-returns
 returns c = sym (read-past _ _ (c .if1 .taken))
 
-shared-slice-read-negative : tie.Need-shared-slice-read-negative
-shared-slice-read-negative c = search needs
-
-minus-length-requires : tie.Need-minus-length-requires
-minus-length-requires c κs = search needs
-
 -- the digits start within the text or at its end
 starts : (c : tie.After-minus-length) → let start = c .before .before .before .before in
     start .args .at + c .minus-length .result ≤ length (start .args .text .now)
@@ -34,23 +28,11 @@ add-start c = omega (arith, starts c)
 sub-at-most-six : tie.Need-sub-at-most-six
 sub-at-most-six c = starts c
 
-at-most-six-requires : tie.Need-at-most-six-requires
-at-most-six-requires c κs = search needs
-
 add-leading-digits : tie.Need-add-leading-digits
 add-leading-digits c = omega (arith, starts (c .before))
 
-sub-leading-digits : tie.Need-sub-leading-digits
-sub-leading-digits c = search needs
-
-part-leading-digits-start : tie.Need-part-leading-digits-start
-part-leading-digits-start c = search needs
-
 part-leading-digits-end : tie.Need-part-leading-digits-end
 part-leading-digits-end c = omega (arith, starts (c .before))
-
-leading-digits-requires : tie.Need-leading-digits-requires
-leading-digits-requires c κs = search needs
 
 -- what the walk has found where the word may end
 walked : (c : tie.After-struct-known) → let start = c .before .before .before .before .before .before .before .before in
@@ -76,9 +58,6 @@ walked c =
 
 add-end : tie.Need-add-end
 add-end c = omega (arith, walked-within (walked c))
-
-word-ends-requires : tie.Need-word-ends-requires
-word-ends-requires c κs = search needs
 
 returns-2 : tie.Need-returns-2
 returns-2 c = sym (walked-on (walked (c .before .before)) (sym (c .before .word-ends .ensures) ∙ not-true _ (c .if2 .taken)))
@@ -115,24 +94,6 @@ returns-6 c =
 pub read-spec : {M : Type 1} → statement M
 read-spec =
     tie.close
-    (tie.spec
-    returns
-    shared-slice-read-negative
-    minus-length-requires
-    add-start
-    sub-at-most-six
-    at-most-six-requires
-    add-leading-digits
-    sub-leading-digits
-    part-leading-digits-start
-    part-leading-digits-end
-    leading-digits-requires
-    add-end
-    word-ends-requires
-    returns-2
-    returns-3
-    shared-slice-read-if4
-    add-if5
-    returns-4
-    returns-5
-    returns-6)
+    (tie.spec returns (search needs) (search needs) add-start sub-at-most-six (search needs) add-leading-digits (search needs)
+    (search needs) part-leading-digits-end (search needs) add-end (search needs) returns-2 returns-3 shared-slice-read-if4 add-if5
+    returns-4 returns-5 returns-6)

@@ -11,16 +11,10 @@ returns : tie.Need-returns
 unfolding isBlank
 returns c = sym (ap isBlank (List·getD-eq-default (c .before .before .args .text .now) 32 (c .if1 .taken)))
 
-shared-slice-read-blank : tie.Need-shared-slice-read-blank
-shared-slice-read-blank c = search needs
-
-blank-requires : tie.Need-blank-requires
-blank-requires c κs = search needs
-
 returns-2 : tie.Need-returns-2
 returns-2 c =
     let start = c .before .before .before .before in
     c .blank .ensures ∙ ap isBlank (there (start .args .text .now) (start .args .at) 0 32 (search needs))
 
 pub word-ends-spec : {M : Type 1} → statement M
-word-ends-spec = tie.close (tie.spec returns shared-slice-read-blank blank-requires returns-2)
+word-ends-spec = tie.close (tie.spec returns (search needs) (search needs) returns-2)

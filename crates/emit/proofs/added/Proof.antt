@@ -8,9 +8,6 @@ use borrow.Author.Needs.{needs}
 use Rattle.emit.proofs.added.Statement.{statement}
 use Rattle.emit.proofs.added.Tie as tie
 
-added-clause-requires : tie.Need-added-clause-requires
-added-clause-requires c κs = search needs
-
 array-share-prefix-codes : tie.Need-array-share-prefix-codes
 array-share-prefix-codes c = let h = c .before .added-clause .ensures in omega (arith, h .few, h .room)
 
@@ -22,9 +19,6 @@ write-codes-requires c κs =
     let a = c .before .before .before .added-clause in
     omega (arith, a .ensures .few, length-take-le (a .result .count) (a .result .literals) (omega (arith, a .ensures .few, a .ensures .room)))
 
-same-length : tie.Need-same-length
-same-length c = search needs
-
 returns : tie.Need-returns
 returns c =
     let w = c .before .before in
@@ -35,10 +29,4 @@ returns c =
 pub added-spec : {M : Type 1} → statement M
 added-spec =
     tie.close
-    (tie.spec
-    added-clause-requires
-    array-share-prefix-codes
-    slice-aggregate-write-codes
-    write-codes-requires
-    same-length
-    returns)
+    (tie.spec (λ c κs. search needs) array-share-prefix-codes slice-aggregate-write-codes write-codes-requires (search needs) returns)

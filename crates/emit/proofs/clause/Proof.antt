@@ -41,9 +41,6 @@ returns-2 c =
     let above : clausesOf (S s) < s .args .q = omega (arith, counted-clauses (S s) (s .pre) (c .before .before .totals-of .ensures), c .if2 .taken) in
     (no-clause-above (S s) (s .args .q) (length (s .args .out .now)) (c .before .before .before .if1 .left) above, refl)
 
-sub-c : tie.Need-sub-c
-sub-c c = search needs
-
 -- ---- a plain clause
 
 clause-requires : tie.Need-clause-requires
@@ -56,9 +53,6 @@ write-stored-requires c κs =
     let s = start (i .before .before) in
     let a = s .args in
     rw (f .clause .ensures) (clause-short (a .counts .clauses) (a .literals .now) (a .ends .now) (formed-clauses (S s) (formed (S s) (s .pre))) (a .q - 1) (i .if3 .taken))
-
-same-length : tie.Need-same-length
-same-length c = search needs
 
 returns-3 : tie.Need-returns-3
 unfolding lineOf
@@ -81,9 +75,6 @@ added-requires c κs =
     let s = start e in
     (formed-rows (S s) (s .pre), omega (arith, e .before .before .totals-of .ensures .clauses, e .if2 .left, i .if3 .left))
 
-same-length-2 : tie.Need-same-length-2
-same-length-2 c = search needs
-
 returns-4 : tie.Need-returns-4
 unfolding lineOf heldRows
 returns-4 c =
@@ -98,15 +89,5 @@ returns-4 c =
 pub clause-spec : {M : Type 1} → statement M
 clause-spec =
     tie.close
-    (tie.spec
-    returns
-    totals-of-requires
-    returns-2
-    sub-c
-    clause-requires
-    write-stored-requires
-    same-length
-    returns-3
-    added-requires
-    same-length-2
-    returns-4)
+    (tie.spec returns totals-of-requires returns-2 (search needs) clause-requires write-stored-requires (search needs) returns-3
+    added-requires (search needs) returns-4)

@@ -5,19 +5,10 @@ use borrow.Author.Needs.{needs}
 use Rattle.emit.proofs.header.Statement.{statement}
 use Rattle.emit.proofs.header.Tie as tie
 
-header-length-requires : tie.Need-header-length-requires
-header-length-requires c κs = search needs
-
 returns : tie.Need-returns
 returns c =
     let a = c .before .before .before .args in
     left-alone (headerLine (a .total .variables) (a .total .clauses)) (a .out .now) _ (c .before .header-length .ensures) (c .if1 .taken)
-
-put-header-requires : tie.Need-put-header-requires
-put-header-requires c κs = search needs
-
-same-length : tie.Need-same-length
-same-length c = search needs
 
 returns-2 : tie.Need-returns-2
 returns-2 c =
@@ -26,4 +17,4 @@ returns-2 c =
     put-there (headerLine (a .total .variables) (a .total .clauses)) (a .out .now) _ _ (i .before .header-length .ensures) (i .if1 .left) (c .before .before .put-header .ensures .1)
 
 pub header-spec : {M : Type 1} → statement M
-header-spec = tie.close (tie.spec header-length-requires returns put-header-requires same-length returns-2)
+header-spec = tie.close (tie.spec (search needs) returns (search needs) (search needs) returns-2)

@@ -5,19 +5,10 @@ use borrow.Author.Needs.{needs}
 use Rattle.emit.proofs.write_codes.Statement.{statement}
 use Rattle.emit.proofs.write_codes.Tie as tie
 
-clause-length-requires : tie.Need-clause-length-requires
-clause-length-requires c κs = search needs
-
 returns : tie.Need-returns
 returns c =
     let a = c .before .before .before .before .args in
     left-alone (clauseLine (a .clause .now)) (a .out .now) _ (c .before .clause-length .ensures) (c .if1 .taken)
-
-put-clause-requires : tie.Need-put-clause-requires
-put-clause-requires c κs = search needs
-
-same-length : tie.Need-same-length
-same-length c = search needs
 
 returns-2 : tie.Need-returns-2
 returns-2 c =
@@ -26,4 +17,4 @@ returns-2 c =
     put-there (clauseLine (a .clause .now)) (a .out .now) _ _ (i .before .clause-length .ensures) (i .if1 .left) (c .before .before .put-clause .ensures .1)
 
 pub write-codes-spec : {M : Type 1} → statement M
-write-codes-spec = tie.close (tie.spec clause-length-requires returns put-clause-requires same-length returns-2)
+write-codes-spec = tie.close (tie.spec (search needs) returns (search needs) (search needs) returns-2)

@@ -5,19 +5,10 @@ use borrow.Author.Needs.{needs}
 use Rattle.emit.proofs.write_stored.Statement.{statement}
 use Rattle.emit.proofs.write_stored.Tie as tie
 
-stored-length-requires : tie.Need-stored-length-requires
-stored-length-requires c κs = search needs
-
 returns : tie.Need-returns
 returns c =
     let a = c .before .before .before .before .args in
     left-alone (clauseLine (a .clause .now)) (a .out .now) _ (c .before .stored-length .ensures) (c .if1 .taken)
-
-put-stored-requires : tie.Need-put-stored-requires
-put-stored-requires c κs = search needs
-
-same-length : tie.Need-same-length
-same-length c = search needs
 
 returns-2 : tie.Need-returns-2
 returns-2 c =
@@ -26,4 +17,4 @@ returns-2 c =
     put-there (clauseLine (a .clause .now)) (a .out .now) _ _ (i .before .stored-length .ensures) (i .if1 .left) (c .before .before .put-stored .ensures .1)
 
 pub write-stored-spec : {M : Type 1} → statement M
-write-stored-spec = tie.close (tie.spec stored-length-requires returns put-stored-requires same-length returns-2)
+write-stored-spec = tie.close (tie.spec (search needs) returns (search needs) (search needs) returns-2)

@@ -15,6 +15,7 @@ use Rattle.lexleader.proofs.Walk.{pairs-start, walk-counts}
 use Rattle.valuation.specs.Tables.{bitsIn}
 use Rattle.filling.specs.Written.{agreeing}
 use Rattle.filling.proofs.Runs.{agrees-is, agreeing-end, agreeing-stops, agreeing-on}
+use borrow.Author.Needs.{needs}
 use Rattle.filling.proofs.agreeing.Statement.{statement}
 use Rattle.filling.proofs.agreeing.Tie as tie
 
@@ -32,18 +33,6 @@ bits s = bitsIn (length (s .args .row .now)) (s .args .values .now)
 
 loop-holds : tie.Need-loop-holds Inv-loop μ-loop
 loop-holds c = (omega arith, omega arith, omega arith, omega (arith, ap (agreeing (valueOf (bits c))) (pairs-start (c .args .row .now))))
-
-cast-if1 : tie.Need-cast-if1 Inv-loop μ-loop
-cast-if1 c = omega arith
-
-shared-slice-read-if1 : tie.Need-shared-slice-read-if1 Inv-loop μ-loop
-shared-slice-read-if1 c = omega arith
-
-mul-if1 : tie.Need-mul-if1 Inv-loop μ-loop
-mul-if1 c = omega arith
-
-shared-slice-read-if1-2 : tie.Need-shared-slice-read-if1-2 Inv-loop μ-loop
-shared-slice-read-if1-2 c = omega arith
 
 cast-if1-2 : tie.Need-cast-if1-2 Inv-loop μ-loop
 cast-if1-2 c = omega (arith, c .shared-slice-known2 .given (c .before .before .before .loop .i))
@@ -74,28 +63,10 @@ returns c =
     let differ = sym (agree (c .before)) ∙ not-true _ (c .if1 .taken) in
     omega (arith, l .loop .inv .3, agreeing-stops (valueOf (bits s)) (s .args .row .now) (l .loop .i) (l .loop .own) (l .loop .inv .2) (omega arith) differ)
 
-mul-count : tie.Need-mul-count Inv-loop μ-loop
-mul-count c = omega arith
-
-shared-slice-read-count : tie.Need-shared-slice-read-count Inv-loop μ-loop
-shared-slice-read-count c = omega arith
-
-cast-count : tie.Need-cast-count Inv-loop μ-loop
-cast-count c = omega arith
-
 add-count : tie.Need-add-count Inv-loop μ-loop
 add-count c =
     let l = c .before .before .before .before .before .before in
     omega (arith, walk-counts (l .before .args .row .now) (l .loop .i) (l .loop .own) (omega arith) (l .loop .inv .2))
-
-add-own : tie.Need-add-own Inv-loop μ-loop
-add-own c = omega arith
-
-add-i : tie.Need-add-i Inv-loop μ-loop
-add-i c = omega arith
-
-loop-less : tie.Need-loop-less Inv-loop μ-loop
-loop-less c = omega arith
 
 loop-again : tie.Need-loop-again Inv-loop μ-loop
 loop-again c =
@@ -113,23 +84,5 @@ returns-2 c =
 pub agreeing-spec : {M : Type 1} → statement M
 agreeing-spec =
     tie.close
-    (tie.spec
-    Inv-loop
-    μ-loop
-    loop-holds
-    cast-if1
-    shared-slice-read-if1
-    mul-if1
-    shared-slice-read-if1-2
-    cast-if1-2
-    shared-slice-read-if1-3
-    returns
-    mul-count
-    shared-slice-read-count
-    cast-count
-    add-count
-    add-own
-    add-i
-    loop-less
-    loop-again
-    returns-2)
+    (tie.spec Inv-loop μ-loop loop-holds (search needs) (search needs) (search needs) (search needs) cast-if1-2 shared-slice-read-if1-3
+    returns (search needs) (search needs) (search needs) add-count (search needs) (search needs) (search needs) loop-again returns-2)

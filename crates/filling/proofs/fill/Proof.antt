@@ -42,17 +42,11 @@ tabulate-requires c κs =
     let s = c .before .before .before .before in
     (form-room (s .args .n) (s .args .a .now) (s .pre .1), omega (arith, s .pre .0 .small))
 
-slice-aggregate-write : tie.Need-slice-aggregate-write
-slice-aggregate-write c = search needs
-
 write-requires : tie.Need-write-requires
 write-requires c κs =
     let t = c .before .before .before in
     let s = t .before .before .before .before .before in
     (s .pre .0 .small, t .tabulate .ensures .0, plain-room (s .pre .0) _ (s .pre .2))
-
-slice-aggregate-fill-rows : tie.Need-slice-aggregate-fill-rows
-slice-aggregate-fill-rows c = search needs
 
 fill-rows-requires : tie.Need-fill-rows-requires
 fill-rows-requires c κs =
@@ -73,9 +67,6 @@ finish-requires c κs =
     let size = length-filled (s .args .n) (held s) (s .args .a .now) in
     room-for (holds r) 0 (omega (arith, size, made-room (s .pre .0) _ (s .pre .2))) (omega (arith, size, made-bounded (s .pre .0) _ (s .pre .2)))
 
-same-length : tie.Need-same-length
-same-length c = search needs
-
 returns : tie.Need-returns
 unfolding filledWords
 returns c =
@@ -89,13 +80,5 @@ returns c =
 pub fill-spec : {M : Type 1} → statement M
 fill-spec =
     tie.close
-    (tie.spec
-    slice-aggregate-tabulate
-    tabulate-requires
-    slice-aggregate-write
-    write-requires
-    slice-aggregate-fill-rows
-    fill-rows-requires
-    finish-requires
-    same-length
-    returns)
+    (tie.spec slice-aggregate-tabulate tabulate-requires (search needs) write-requires (search needs) fill-rows-requires finish-requires
+    (search needs) returns)

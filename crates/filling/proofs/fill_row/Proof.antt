@@ -14,9 +14,6 @@ use Rattle.filling.proofs.Runs.{settings-alike, settings-apart}
 use Rattle.filling.proofs.fill_row.Statement.{statement}
 use Rattle.filling.proofs.fill_row.Tie as tie
 
-added-by-requires : tie.Need-added-by-requires
-added-by-requires c κs = search needs
-
 agreeing-requires : tie.Need-agreeing-requires
 agreeing-requires c κs = let s = c .before .before .before .before in (s .pre .0, s .pre .1, s .pre .2)
 
@@ -26,9 +23,6 @@ push-run-requires c κs =
     let g = c .before .before in
     let s = g .before .before .before .before .before in
     less-room (s .pre .3) _ (omega (arith, g .before .added-by .ensures .0))
-
-same-length : tie.Need-same-length
-same-length c = search needs
 
 returns : tie.Need-returns
 returns c =
@@ -42,9 +36,6 @@ push-run-requires-2 c κs =
     let g = c .before .before in
     let s = g .before .before .before .before .before in
     less-room (s .pre .3) _ (omega (arith, g .before .added-by .ensures .0))
-
-sub-push-run : tie.Need-sub-push-run
-sub-push-run c = search needs
 
 -- after the run of true
 halfway : (c : tie.After-push-run2) → let g = c .before .before .before in
@@ -66,23 +57,11 @@ push-run-requires-3 c κs =
     run-room (s .pre .3) (halfway p) (sym (length-row (s .args .row .now) (bitsIn (length (s .args .row .now)) (s .args .values .now)))) _
     (omega (arith, length-replicate (g .before .added-by .result .auxiliaries - g .agreeing .result) false))
 
-same-length-2 : tie.Need-same-length-2
-same-length-2 c = search needs
-
 returns-2 : tie.Need-returns-2
 returns-2 c = run-last (halfway (c .before .before .before .before .before .before)) (c .before .before .push-run3 .ensures)
 
 pub fill-row-spec : {M : Type 1} → statement M
 fill-row-spec =
     tie.close
-    (tie.spec
-    added-by-requires
-    agreeing-requires
-    push-run-requires
-    same-length
-    returns
-    push-run-requires-2
-    sub-push-run
-    push-run-requires-3
-    same-length-2
-    returns-2)
+    (tie.spec (search needs) agreeing-requires push-run-requires (search needs) returns push-run-requires-2 (search needs)
+    push-run-requires-3 (search needs) returns-2)

@@ -11,6 +11,7 @@ use Rattle.lexleader.specs.Made.{auxiliaries, rowSettings, settings}
 use Rattle.lexleader.proofs.Settings.{length-row, length-settings}
 use Rattle.valuation.specs.Tables.{bitsIn}
 use Rattle.filling.proofs.Runs.{over-end, over-more}
+use borrow.Author.Needs.{needs}
 use Rattle.filling.proofs.fill_rows.Statement.{statement}
 use Rattle.filling.proofs.fill_rows.Tie as tie
 
@@ -44,12 +45,6 @@ fill-row-requires c κs =
     let room = run-room (s .pre .2) run (sym (length-settings held bits)) (auxiliaries row) (omega (arith, length-append (rowSettings row bits) later, length-row row bits)) in
     (omega (arith, size, s .pre .0 .small), part-row (s .pre .0) r (omega arith) _ (p .row .ensures), rw size (s .pre .1), rw (p .row .ensures) room)
 
-add-r : tie.Need-add-r Inv-loop μ-loop
-add-r c = omega arith
-
-loop-less : tie.Need-loop-less Inv-loop μ-loop
-loop-less c = omega arith
-
 loop-again : tie.Need-loop-again Inv-loop μ-loop
 loop-again c =
     let f = c .before .before in
@@ -74,14 +69,4 @@ returns c =
 pub fill-rows-spec : {M : Type 1} → statement M
 fill-rows-spec =
     tie.close
-    (tie.spec
-    Inv-loop
-    μ-loop
-    loop-holds
-    row-requires
-    fill-row-requires
-    add-r
-    loop-less
-    loop-again
-    same-length
-    returns)
+    (tie.spec Inv-loop μ-loop loop-holds row-requires fill-row-requires (search needs) (search needs) loop-again same-length returns)

@@ -64,19 +64,10 @@ missing-is c =
 check-requires : tie.Need-check-requires
 check-requires c κs = facts (c .before .before .before .before .before) .variables-fit
 
-enum-known-stated : tie.Need-enum-known-stated
-enum-known-stated c = search needs
-
 returns : tie.Need-returns
 returns c =
     let told = c .before .before .before in
     (sym (not-stated (S (told .before .before .before .before .before .before)) _ _ _ (sym (told .check .ensures) ∙ c .before .stated .given .1)), refl)
-
-enum-told : tie.Need-enum-told
-enum-told c = search needs
-
-slice-aggregate-fill-row : tie.Need-slice-aggregate-fill-row
-slice-aggregate-fill-row c = search needs
 
 fill-row-requires : tie.Need-fill-row-requires
 fill-row-requires c κs = let small = facts (c .before .before .before .before .before .before .before .before .before) .variables-fit in (small, small, stated (c .before))
@@ -97,9 +88,6 @@ returns-2 c =
     let m = c .before in
     let row = m .before .before .before in
     (sym (not-symmetric (S (begun row)) _ _ (stated (row .before .before)) _ (missing-is m) (c .if1 .taken)), refl)
-
-add-needed : tie.Need-add-needed
-add-needed c = search needs
 
 mul-needed : tie.Need-mul-needed
 mul-needed c =
@@ -123,9 +111,6 @@ slice-aggregate-append c = sym (filled-prefix (c .before .before .before .before
 append-requires : tie.Need-append-requires
 append-requires c κs = (filled-prefix (c .before .before .before .before .before .before .before), omega (arith, c .before .before .if2 .left))
 
-same-length : tie.Need-same-length
-same-length c = search needs
-
 returns-4 : tie.Need-returns-4
 returns-4 c =
     let e = c .before .before .before .before .before in
@@ -140,22 +125,6 @@ returns-4 c =
 pub offer-spec : {M : Type 1} → statement M
 offer-spec =
     tie.close
-    (tie.spec
-    check-requires
-    enum-known-stated
-    returns
-    enum-told
-    slice-aggregate-fill-row
-    fill-row-requires
-    array-share-prefix-row
-    slice-aggregate-first-missing
-    first-missing-requires
-    returns-2
-    add-needed
-    mul-needed
-    returns-3
-    array-share-prefix-row-2
-    slice-aggregate-append
-    append-requires
-    same-length
-    returns-4)
+    (tie.spec check-requires (search needs) returns (search needs) (search needs) fill-row-requires array-share-prefix-row
+    slice-aggregate-first-missing first-missing-requires returns-2 (search needs) mul-needed returns-3 array-share-prefix-row-2
+    slice-aggregate-append append-requires (search needs) returns-4)

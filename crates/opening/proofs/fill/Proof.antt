@@ -76,18 +76,6 @@ loop-holds c =
       clauses = sets-front (start .args .ends .now) (endsFrom 0 words) (omega (arith, all .ends, fits .ends-fit));
     }
 
-next-word-requires : tie.Need-next-word-requires Inv-loop μ-loop
-next-word-requires c κs = search needs
-
-read-requires : tie.Need-read-requires Inv-loop μ-loop
-read-requires c κs = search needs
-
-enum-known-number : tie.Need-enum-known-number Inv-loop μ-loop
-enum-known-number c = search needs
-
-enum-told : tie.Need-enum-told Inv-loop μ-loop
-enum-told c = search needs
-
 same-length : tie.Need-same-length Inv-loop μ-loop
 same-length c = c .before .before .before .before .loop .inv .literals-length
 
@@ -169,27 +157,6 @@ loop-again-2 c =
 pub fill-spec : {M : Type 1} → statement M
 fill-spec =
     tie.close
-    (tie.spec
-    Inv-loop
-    μ-loop
-    loop-holds
-    next-word-requires
-    read-requires
-    enum-known-number
-    enum-told
-    same-length
-    same-length-2
-    returns
-    cast-ends
-    mul-ends
-    slice-write-ends
-    add-closed
-    cast-code
-    code-requires
-    mul-literals
-    slice-write-literals
-    add-used
-    loop-less
-    loop-again
-    loop-less-2
-    loop-again-2)
+    (tie.spec Inv-loop μ-loop loop-holds (search needs) (search needs) (search needs) (search needs) same-length same-length-2 returns
+    cast-ends mul-ends slice-write-ends add-closed cast-code code-requires mul-literals slice-write-literals add-used loop-less loop-again
+    loop-less-2 loop-again-2)

@@ -20,22 +20,13 @@ abbrev μ-loop : tie.MeasureT-loop
 loop-holds : tie.Need-loop-holds Inv-loop μ-loop
 loop-holds c = refl
 
-shared-slice-read-if1 : tie.Need-shared-slice-read-if1 Inv-loop μ-loop
-shared-slice-read-if1 c = omega arith
-
 returns : tie.Need-returns Inv-loop μ-loop
 returns c = sym (c .before .before .before .loop .inv ∙ no-comment _ (c .before .before .before .loop .at) (search needs) (c .if1 .taken))
-
-line-end-requires : tie.Need-line-end-requires Inv-loop μ-loop
-line-end-requires c κs = search needs
 
 add-at : tie.Need-add-at Inv-loop μ-loop
 add-at c =
     let at = c .before .before .before .before in
     omega (arith, run-within isLineByte (at .before .before .args .text .now) (at .loop .at) (search needs))
-
-loop-less : tie.Need-loop-less Inv-loop μ-loop
-loop-less c = omega arith
 
 loop-again : tie.Need-loop-again Inv-loop μ-loop
 loop-again c =
@@ -48,14 +39,4 @@ returns-2 c = sym (c .before .loop .inv ∙ no-lines _ (c .before .loop .at) (se
 pub first-line-spec : {M : Type 1} → statement M
 first-line-spec =
     tie.close
-    (tie.spec
-    Inv-loop
-    μ-loop
-    loop-holds
-    shared-slice-read-if1
-    returns
-    line-end-requires
-    add-at
-    loop-less
-    loop-again
-    returns-2)
+    (tie.spec Inv-loop μ-loop loop-holds (search needs) returns (search needs) add-at (search needs) loop-again returns-2)

@@ -7,22 +7,10 @@ use native.Mathlib.Omega.{arith}
 use Rattle.opening.proofs.is_word.Statement.{statement}
 use Rattle.opening.proofs.is_word.Tie as tie
 
-word-end-requires : tie.Need-word-end-requires
-word-end-requires c κs = search needs
-
-sub-same-bytes : tie.Need-sub-same-bytes
-sub-same-bytes c = search needs
-
-part-same-bytes-start : tie.Need-part-same-bytes-start
-part-same-bytes-start c = search needs
-
 part-same-bytes-end : tie.Need-part-same-bytes-end
 part-same-bytes-end c =
     let a = c .before .before .before .args in
     omega (arith, run-within isWordByte (a .line .now) (a .at) (search needs))
-
-same-bytes-requires : tie.Need-same-bytes-requires
-same-bytes-requires c κs = search needs
 
 returns : tie.Need-returns
 returns c =
@@ -30,6 +18,4 @@ returns c =
     c .same-bytes .ensures ∙ rw (c .before .before .word-end .ensures, run-part isWordByte (a .line .now) (a .at))
 
 pub is-word-spec : {M : Type 1} → statement M
-is-word-spec =
-    tie.close
-    (tie.spec word-end-requires sub-same-bytes part-same-bytes-start part-same-bytes-end same-bytes-requires returns)
+is-word-spec = tie.close (tie.spec (search needs) (search needs) (search needs) part-same-bytes-end (search needs) returns)

@@ -32,31 +32,13 @@ opens c =
     let told = c .before .before .before in
     judged (told .before .before) _ (told .count .given .1) ∙ long-enough _ _ _ _ _ (c .before .if1 .left) (c .if2 .left)
 
-problem-of-requires : tie.Need-problem-of-requires
-problem-of-requires c κs = search needs
-
-enum-known-refusal : tie.Need-enum-known-refusal
-enum-known-refusal c = search needs
-
 returns : tie.Need-returns
 returns c =
     let told = c .before in
     (sym (opened-by _ _ _ _ (sym (told .before .before .problem-of .ensures) ∙ told .refusal .given .1)), (refl, refl))
 
-enum-known-n : tie.Need-enum-known-n
-enum-known-n c = search needs
-
-scan-requires : tie.Need-scan-requires
-scan-requires c κs = search needs
-
-enum-known-refusal-2 : tie.Need-enum-known-refusal-2
-enum-known-refusal-2 c = search needs
-
 returns-2 : tie.Need-returns-2
 returns-2 c = (sym (judged (c .before .before .before) _ (c .before .refusal2 .given .1)), (refl, refl))
-
-enum-known-count : tie.Need-enum-known-count
-enum-known-count c = search needs
 
 returns-3 : tie.Need-returns-3
 returns-3 c =
@@ -75,12 +57,6 @@ fill-requires c κs =
     let told = c .before .before .before .before .before .before .before .before in
     (_, _, line-limits _ _ _ _ (line told) .variables, sym (opened-by _ _ _ _ (line told)) ∙ opens (c .before .before))
 
-same-length : tie.Need-same-length
-same-length c = search needs
-
-same-length-2 : tie.Need-same-length-2
-same-length-2 c = search needs
-
 returns-5 : tie.Need-returns-5
 returns-5 c =
     let told = c .before .before .before .before .before .before .before .before .before .before .before .before .before in
@@ -90,18 +66,5 @@ returns-5 c =
 pub open-spec : {M : Type 1} → statement M
 open-spec =
     tie.close
-    (tie.spec
-    problem-of-requires
-    enum-known-refusal
-    returns
-    enum-known-n
-    scan-requires
-    enum-known-refusal-2
-    returns-2
-    enum-known-count
-    returns-3
-    returns-4
-    fill-requires
-    same-length
-    same-length-2
-    returns-5)
+    (tie.spec (search needs) (search needs) returns (search needs) (search needs) (search needs) returns-2 (search needs) returns-3
+    returns-4 fill-requires (search needs) (search needs) returns-5)

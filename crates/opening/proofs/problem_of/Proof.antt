@@ -19,43 +19,16 @@ said c s e =
     problem-here _ _ (at .before .before .first-line .ensures) (at .before .if1 .left) _ (at .line-end .ensures)
     ∙ ap (λ (t : Sizes). withinLimits t (at .before .before .first-line .result) (at .line-end .result)) (sym (c .sizes-of .ensures) ∙ e)
 
-first-line-requires : tie.Need-first-line-requires
-first-line-requires c κs = search needs
-
 returns : tie.Need-returns
 returns c = sym (problem-none _ _ (c .before .first-line .ensures) (c .if1 .taken))
-
-line-end-requires : tie.Need-line-end-requires
-line-end-requires c κs = search needs
-
-sub-sizes-of : tie.Need-sub-sizes-of
-sub-sizes-of c = search needs
-
-part-sizes-of-start : tie.Need-part-sizes-of-start
-part-sizes-of-start c = search needs
 
 part-sizes-of-end : tie.Need-part-sizes-of-end
 part-sizes-of-end c =
     let at = c .before .before in
     omega (arith, run-within isLineByte (at .before .before .args .text .now) (at .first-line .result) (omega arith))
 
-sizes-of-requires : tie.Need-sizes-of-requires
-sizes-of-requires c κs = search needs
-
-enum-known-n : tie.Need-enum-known-n
-enum-known-n c = search needs
-
-enum-told : tie.Need-enum-told
-enum-told c = search needs
-
 returns-2 : tie.Need-returns-2
 returns-2 c = sym (said (c .before .before) _ (c .enum-told .given .1))
-
-cast-variables : tie.Need-cast-variables
-cast-variables c = search needs
-
-cast-clauses : tie.Need-cast-clauses
-cast-clauses c = search needs
 
 returns-3 : tie.Need-returns-3
 returns-3 c =
@@ -76,19 +49,5 @@ returns-5 c =
 pub problem-of-spec : {M : Type 1} → statement M
 problem-of-spec =
     tie.close
-    (tie.spec
-    first-line-requires
-    returns
-    line-end-requires
-    sub-sizes-of
-    part-sizes-of-start
-    part-sizes-of-end
-    sizes-of-requires
-    enum-known-n
-    enum-told
-    returns-2
-    cast-variables
-    cast-clauses
-    returns-3
-    returns-4
-    returns-5)
+    (tie.spec (search needs) returns (search needs) (search needs) (search needs) part-sizes-of-end (search needs) (search needs)
+    (search needs) returns-2 (search needs) (search needs) returns-3 returns-4 returns-5)

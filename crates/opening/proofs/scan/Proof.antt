@@ -32,9 +32,6 @@ found c = next-found _ _ _ (c .before .before .before .before .before .before .n
 loop-holds : tie.Need-loop-holds Inv-loop μ-loop
 loop-holds c = (omega arith, omega arith, refl)
 
-next-word-requires : tie.Need-next-word-requires Inv-loop μ-loop
-next-word-requires c κs = search needs
-
 returns : tie.Need-returns Inv-loop μ-loop
 returns c =
     let at = c .before .before in
@@ -51,15 +48,6 @@ returns-3 c =
     let at = c .before .before in
     sym (at .before .loop .inv .2 ∙ scan-short _ _ _ _ _ _ (no-word _ _ _ (at .next-word .ensures) (c .if3 .taken)) (c .before .if1 .left))
 
-read-requires : tie.Need-read-requires Inv-loop μ-loop
-read-requires c κs = search needs
-
-enum-known-number : tie.Need-enum-known-number Inv-loop μ-loop
-enum-known-number c = search needs
-
-enum-told : tie.Need-enum-told Inv-loop μ-loop
-enum-told c = search needs
-
 returns-4 : tie.Need-returns-4 Inv-loop μ-loop
 returns-4 c =
     let read = c .before .before in
@@ -67,12 +55,6 @@ returns-4 c =
     let here = next-word _ _ _ (at .next-word .ensures) (read .before .if3 .left) in
     let bad = read-refused _ _ _ (sym (read .read .ensures) ∙ c .enum-told .given .1) in
     sym (at .before .loop .inv .2 ∙ scan-word _ _ _ _ _ _ _ _ here (read .before .before .if1 .left) (bad .0))
-
-cast-variable : tie.Need-cast-variable Inv-loop μ-loop
-cast-variable c = omega arith
-
-add-closed : tie.Need-add-closed Inv-loop μ-loop
-add-closed c = omega arith
 
 returns-5 : tie.Need-returns-5 Inv-loop μ-loop
 returns-5 c =
@@ -87,9 +69,6 @@ returns-6 c =
     let l = k .before .before .before .before .before .before .before .loop in
     let more = k .before .before .before .before .before .if1 .left in
     sym (l .inv .2 ∙ scan-many _ _ _ _ _ _ _ _ (found k .words) more _ (found k .number) (c .before .before .if4 .left) (c .before .if5 .left) (c .if6 .taken))
-
-add-count : tie.Need-add-count Inv-loop μ-loop
-add-count c = omega arith
 
 loop-less : tie.Need-loop-less Inv-loop μ-loop
 loop-less c = omega (arith, found (c .before .before))
@@ -120,24 +99,5 @@ loop-again-2 c =
 pub scan-spec : {M : Type 1} → statement M
 scan-spec =
     tie.close
-    (tie.spec
-    Inv-loop
-    μ-loop
-    loop-holds
-    next-word-requires
-    returns
-    returns-2
-    returns-3
-    read-requires
-    enum-known-number
-    enum-told
-    returns-4
-    cast-variable
-    add-closed
-    returns-5
-    returns-6
-    add-count
-    loop-less
-    loop-again
-    loop-less-2
-    loop-again-2)
+    (tie.spec Inv-loop μ-loop loop-holds (search needs) returns returns-2 returns-3 (search needs) (search needs) (search needs) returns-4
+    (search needs) (search needs) returns-5 returns-6 (search needs) loop-less loop-again loop-less-2 loop-again-2)

@@ -20,20 +20,8 @@ goes-on : (c : tie.Else2) → let at = c .before .before .before in
     ThenCnf (at .before .before .before .before .before .args .line .now) (at .next-word .result) (at .next-word .ensures)
 goes-on c = then-cnf _ _ _ (sym (c .before .is-word2 .ensures) ∙ not-false _ (c .if2 .left))
 
-slice-aggregate-is-word : tie.Need-slice-aggregate-is-word
-slice-aggregate-is-word c = search needs
-
-is-word-requires : tie.Need-is-word-requires
-is-word-requires c κs = search needs
-
 returns : tie.Need-returns
 returns c = sym (no-p _ (sym (c .before .is-word .ensures) ∙ not-true _ (c .if1 .taken)))
-
-next-word-requires : tie.Need-next-word-requires
-next-word-requires c κs = search needs
-
-slice-aggregate-is-word-2 : tie.Need-slice-aggregate-is-word-2
-slice-aggregate-is-word-2 c = search needs
 
 is-word-requires-2 : tie.Need-is-word-requires-2
 is-word-requires-2 c κs =
@@ -48,9 +36,6 @@ returns-2 c =
 add-two-numbers : tie.Need-add-two-numbers
 add-two-numbers c = omega (arith, goes-on c)
 
-two-numbers-requires : tie.Need-two-numbers-requires
-two-numbers-requires c κs = search needs
-
 returns-3 : tie.Need-returns-3
 returns-3 c =
     let at = c .before .before .before .before in
@@ -63,14 +48,5 @@ returns-3 c =
 pub sizes-of-spec : {M : Type 1} → statement M
 sizes-of-spec =
     tie.close
-    (tie.spec
-    slice-aggregate-is-word
-    is-word-requires
-    returns
-    next-word-requires
-    slice-aggregate-is-word-2
-    is-word-requires-2
-    returns-2
-    add-two-numbers
-    two-numbers-requires
-    returns-3)
+    (tie.spec (search needs) (search needs) returns (search needs) (search needs) is-word-requires-2 returns-2 add-two-numbers
+    (search needs) returns-3)

@@ -42,36 +42,12 @@ four c p cnf is-p is-cnf =
     both at p cnf [] (no-word _ _ _ (c .before .next-word3 .ensures) (c .if1 .left))
     ∙ two-numbers p cnf is-p is-cnf _ _ (first (at .before .before .before .before .before) .number) _ _ (second at .number)
 
-next-word-requires : tie.Need-next-word-requires
-next-word-requires c κs = search needs
-
-read-requires : tie.Need-read-requires
-read-requires c κs = search needs
-
-enum-known-n : tie.Need-enum-known-n
-enum-known-n c = search needs
-
-enum-told : tie.Need-enum-told
-enum-told c = search needs
-
 returns : tie.Need-returns
 returns c =
     λ p cnf is-p is-cnf.
     let refused = sym (c .before .before .read .ensures) ∙ c .enum-told .given .1 in
     let no-number = next-missing _ _ _ (c .before .before .before .next-word .ensures) _ refused in
     sym (first-missing p cnf is-p is-cnf _ no-number)
-
-next-word-requires-2 : tie.Need-next-word-requires-2
-next-word-requires-2 c κs = search needs
-
-read-requires-2 : tie.Need-read-requires-2
-read-requires-2 c κs = search needs
-
-enum-known-m : tie.Need-enum-known-m
-enum-known-m c = search needs
-
-enum-told-2 : tie.Need-enum-told-2
-enum-told-2 c = search needs
 
 returns-2 : tie.Need-returns-2
 returns-2 c =
@@ -80,9 +56,6 @@ returns-2 c =
     let refused = sym (c .before .before .read2 .ensures) ∙ c .enum-told2 .given .1 in
     let no-number = next-missing _ _ _ (c .before .before .before .next-word2 .ensures) _ refused in
     sym (ap (λ (ws : List Piece). fourWords (p ∷ cnf ∷ ws)) (n .words) ∙ second-missing p cnf is-p is-cnf _ _ (n .number) _ no-number)
-
-next-word-requires-3 : tie.Need-next-word-requires-3
-next-word-requires-3 c κs = search needs
 
 returns-3 : tie.Need-returns-3
 returns-3 c =
@@ -102,19 +75,5 @@ returns-6 c = λ p cnf is-p is-cnf. sym (four (c .before .before) p cnf is-p is-
 pub two-numbers-spec : {M : Type 1} → statement M
 two-numbers-spec =
     tie.close
-    (tie.spec
-    next-word-requires
-    read-requires
-    enum-known-n
-    enum-told
-    returns
-    next-word-requires-2
-    read-requires-2
-    enum-known-m
-    enum-told-2
-    returns-2
-    next-word-requires-3
-    returns-3
-    returns-4
-    returns-5
-    returns-6)
+    (tie.spec (search needs) (search needs) (search needs) (search needs) returns (search needs) (search needs) (search needs)
+    (search needs) returns-2 (search needs) returns-3 returns-4 returns-5 returns-6)

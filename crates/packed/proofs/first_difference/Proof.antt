@@ -22,21 +22,6 @@ Inv-loop a b i₀ i = (i ≤ length a) × ((k : ℕ) → k < i → getD a k 0 �
 abbrev μ-loop : tie.MeasureT-loop
 μ-loop a b i₀ i = length a - i
 
-loop-holds : tie.Need-loop-holds Inv-loop μ-loop
-loop-holds c = search needs
-
-mul-x : tie.Need-mul-x Inv-loop μ-loop
-mul-x c = search needs
-
-shared-slice-read-x : tie.Need-shared-slice-read-x Inv-loop μ-loop
-shared-slice-read-x c = search needs
-
-mul-x-2 : tie.Need-mul-x-2 Inv-loop μ-loop
-mul-x-2 c = search needs
-
-shared-slice-read-x-2 : tie.Need-shared-slice-read-x-2 Inv-loop μ-loop
-shared-slice-read-x-2 c = search needs
-
 abbrev A : tie.Then1 Inv-loop μ-loop → List ℕ
 A c = c .before .before .before .before .before .args .a .now
 
@@ -52,9 +37,6 @@ zeros c = leading-le 64 _
 cast-z : tie.Need-cast-z Inv-loop μ-loop
 cast-z c = omega (arith, zeros c)
 
-mul-result : tie.Need-mul-result Inv-loop μ-loop
-mul-result c = search needs
-
 add-result : tie.Need-add-result Inv-loop μ-loop
 add-result c = omega (arith, zeros c)
 
@@ -66,12 +48,6 @@ returns c =
     let n = c .before .before .before in
     sym (words-difference (A c) (B c) (I c) (n .before .before .pre .0) (n .loop-test .taken) (n .before .loop .inv .1)
     (c .before .before .shared-slice-known .given (I c) .fits) (c .before .shared-slice-known2 .given (I c) .fits) (c .if1 .taken))
-
-add-i : tie.Need-add-i Inv-loop μ-loop
-add-i c = search needs
-
-loop-less : tie.Need-loop-less Inv-loop μ-loop
-loop-less c = search needs
 
 loop-again : tie.Need-loop-again Inv-loop μ-loop
 loop-again c = (search needs, below-more _ _ (c .before .before .before .before .loop .inv .1) (xor-zero _ _ (c .if1 .left)))
@@ -85,20 +61,5 @@ returns-2 c =
 pub first-difference-spec : {M : Type 1} → statement M
 first-difference-spec =
     tie.close
-    (tie.spec
-    Inv-loop
-    μ-loop
-    loop-holds
-    mul-x
-    shared-slice-read-x
-    mul-x-2
-    shared-slice-read-x-2
-    cast-z
-    mul-result
-    add-result
-    add-result-2
-    returns
-    add-i
-    loop-less
-    loop-again
-    returns-2)
+    (tie.spec Inv-loop μ-loop (search needs) (search needs) (search needs) (search needs) (search needs) cast-z (search needs) add-result
+    add-result-2 returns (search needs) (search needs) loop-again returns-2)

@@ -37,13 +37,4 @@ returns-3 c =
 pub is-assignment-spec : {M : Type 1} → statement M
 is-assignment-spec =
     tie.close
-    (tie.spec
-    returns
-    add-if2
-    returns-2
-    mul-result
-    shared-slice-read-result
-    sub-result
-    shl-result
-    sub-result-2
-    returns-3)
+    (tie.spec returns add-if2 returns-2 mul-result shared-slice-read-result sub-result shl-result sub-result-2 returns-3)

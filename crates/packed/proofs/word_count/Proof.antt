@@ -5,12 +5,9 @@ use Rattle.packed.specs.Words.{wordCount}
 use Rattle.packed.proofs.word_count.Statement.{statement}
 use Rattle.packed.proofs.word_count.Tie as tie
 
-add-result : tie.Need-add-result
-add-result c = search needs
-
 returns : tie.Need-returns
 unfolding wordCount
 returns c = refl
 
 pub word-count-spec : {M : Type 1} → statement M
-word-count-spec = tie.close (tie.spec add-result returns)
+word-count-spec = tie.close (tie.spec (search needs) returns)

@@ -45,9 +45,6 @@ slice-aggregate-clause-length c = sym (size (c .before .before .before))
 clause-length-requires : tie.Need-clause-length-requires
 clause-length-requires c κs = let k = c .before .before .before in omega (arith, size k, k .clause-at .ensures .few)
 
-sub-if1 : tie.Need-sub-if1
-sub-if1 c = search needs
-
 returns : tie.Need-returns
 returns c plain many =
     let n = c .before in
@@ -74,9 +71,6 @@ put-clause-requires c κs =
     omega (arith, n .clause-length .ensures, s .pre .2, c .before .before .if1 .left) in
     there
 
-same-length : tie.Need-same-length
-same-length c = search needs
-
 returns-2 : tie.Need-returns-2
 returns-2 c plain many =
     let w = c .before .before in
@@ -95,17 +89,6 @@ returns-2 c plain many =
 pub add-added-spec : {M : Type 1} → statement M
 add-added-spec =
     tie.close
-    (tie.spec
-    row-requires
-    clause-at-requires
-    next-added-requires
-    array-share-prefix-codes
-    slice-aggregate-clause-length
-    clause-length-requires
-    sub-if1
-    returns
-    array-share-prefix-codes-2
-    slice-aggregate-put-clause
-    put-clause-requires
-    same-length
+    (tie.spec row-requires clause-at-requires next-added-requires array-share-prefix-codes slice-aggregate-clause-length
+    clause-length-requires (search needs) returns array-share-prefix-codes-2 slice-aggregate-put-clause put-clause-requires (search needs)
     returns-2)

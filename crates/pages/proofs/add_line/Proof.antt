@@ -64,13 +64,4 @@ returns-3 c =
     (past-plain plain (a .counts) (plain-length (S s) (s .pre .0)) (a .images .now) (a .cursor) (search needs) ∙ nothing-added (a .counts) (a .images .now) (a .cursor .row) (search needs) (a .cursor .place))
 
 pub add-line-spec : {M : Type 1} → statement M
-add-line-spec =
-    tie.close
-    (tie.spec
-    add-plain-requires
-    same-length
-    returns
-    add-added-requires
-    same-length-2
-    returns-2
-    returns-3)
+add-line-spec = tie.close (tie.spec add-plain-requires same-length returns add-added-requires same-length-2 returns-2 returns-3)

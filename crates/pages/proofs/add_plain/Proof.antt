@@ -25,9 +25,6 @@ stored-length-requires c κs =
     let size = length-slice (literalCount plain ends) (literalCount (plain + 1) ends) (s .args .literals .now) (f .within plain (s .pre .1)) in
     omega (arith, ap length (c .clause .ensures), size, f .few plain (s .pre .1))
 
-sub-if1 : tie.Need-sub-if1
-sub-if1 c = search needs
-
 -- the line of the clause as the plain clauses have it
 line : (c : tie.After-clause) (clause : List ℕ) → let a = c .before .before .before .before .args in
     clause ≡ clauseAt (a .literals .now) (a .ends .now) (a .cursor .plain) → length (clauseLine (c .clause .result .now)) ≡ length (clauseLine clause)
@@ -46,12 +43,6 @@ returns c plain many is images points =
 
 put-stored-requires : tie.Need-put-stored-requires
 put-stored-requires c κs = let n = c .before .before in omega (arith, n .stored-length .ensures)
-
-add-t12 : tie.Need-add-t12
-add-t12 c = search needs
-
-same-length : tie.Need-same-length
-same-length c = search needs
 
 returns-2 : tie.Need-returns-2
 returns-2 c plain many is images points =
@@ -72,12 +63,4 @@ returns-2 c plain many is images points =
 pub add-plain-spec : {M : Type 1} → statement M
 add-plain-spec =
     tie.close
-    (tie.spec
-    clause-requires
-    stored-length-requires
-    sub-if1
-    returns
-    put-stored-requires
-    add-t12
-    same-length
-    returns-2)
+    (tie.spec clause-requires stored-length-requires (search needs) returns put-stored-requires (search needs) (search needs) returns-2)

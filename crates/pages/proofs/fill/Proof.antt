@@ -25,9 +25,6 @@ abbrev μ-loop : tie.MeasureT-loop
 loop-holds : tie.Need-loop-holds Inv-loop μ-loop
 loop-holds c = let s = c .before .before .before .before in (refl, s .pre .1, omega arith, refl, λ _. refl)
 
-add-line-requires : tie.Need-add-line-requires Inv-loop μ-loop
-add-line-requires c κs = search needs
-
 same-length : tie.Need-same-length Inv-loop μ-loop
 same-length c = let g = c .before .before .before .before .add-line .ensures in g .size ∙ c .before .before .before .before .before .before .loop .inv .3
 
@@ -48,14 +45,4 @@ loop-again c =
     (l .loop .inv .0 ∙ sym (g .same), g .points, g .within, g .size ∙ l .loop .inv .3, λ none. absurd (omega (arith, g .onward)))
 
 pub fill-spec : {M : Type 1} → statement M
-fill-spec =
-    tie.close
-    (tie.spec
-    Inv-loop
-    μ-loop
-    loop-holds
-    add-line-requires
-    same-length
-    returns
-    loop-less
-    loop-again)
+fill-spec = tie.close (tie.spec Inv-loop μ-loop loop-holds (λ c κs. search needs) same-length returns loop-less loop-again)

@@ -39,31 +39,16 @@ says : (c : tie.After-name-of Inv-loop μ-loop) → let at = c .before .before .
     c .name-of .result ≡ nameIn (start .args .n) (codeIn (pieceAt (start .args .names .now) (at .before .next-word2 .result)))
 says c = named _ _ (found (c .before)) (c .name-of .ensures)
 
-next-word-requires : tie.Need-next-word-requires Inv-loop μ-loop
-next-word-requires c κs = search needs
-
 returns : tie.Need-returns Inv-loop μ-loop
 returns c = sym (name-missing _ _ (no-word _ _ _ (c .before .next-word .ensures) (c .if1 .taken)))
 
 loop-holds : tie.Need-loop-holds Inv-loop μ-loop
 loop-holds c = ([], name-first _ _ (next-word _ _ _ (c .before .next-word .ensures) (c .if1 .left)), seen-none)
 
-next-word-requires-2 : tie.Need-next-word-requires-2 Inv-loop μ-loop
-next-word-requires-2 c κs = search needs
-
 returns-2 : tie.Need-returns-2 Inv-loop μ-loop
 returns-2 c =
     let inv = c .before .before .loop .inv in
     sym (inv .1 ∙ name-end _ _ (no-word _ _ _ (c .before .next-word2 .ensures) (c .if2 .taken)))
-
-read-requires : tie.Need-read-requires Inv-loop μ-loop
-read-requires c κs = search needs
-
-enum-known-number : tie.Need-enum-known-number Inv-loop μ-loop
-enum-known-number c = search needs
-
-enum-told : tie.Need-enum-told Inv-loop μ-loop
-enum-told c = search needs
 
 returns-3 : tie.Need-returns-3 Inv-loop μ-loop
 returns-3 c =
@@ -71,9 +56,6 @@ returns-3 c =
     let inv = at .before .before .loop .inv in
     let stray = word-refused _ _ _ (at .before .next-word2 .ensures) (at .if2 .left) _ (sym (c .before .before .read .ensures) ∙ c .enum-told .given .1) in
     sym (inv .1 ∙ name-outside _ _ (stray .words) (no-image _ _ (stray .code)))
-
-name-of-requires : tie.Need-name-of-requires Inv-loop μ-loop
-name-of-requires c κs = search needs
 
 returns-4 : tie.Need-returns-4 Inv-loop μ-loop
 returns-4 c =
@@ -109,22 +91,5 @@ loop-again c =
 pub bad-name-spec : {M : Type 1} → statement M
 bad-name-spec =
     tie.close
-    (tie.spec
-    Inv-loop
-    μ-loop
-    next-word-requires
-    returns
-    loop-holds
-    next-word-requires-2
-    returns-2
-    read-requires
-    enum-known-number
-    enum-told
-    returns-3
-    name-of-requires
-    returns-4
-    array-read-if4
-    returns-5
-    array-write-seen
-    loop-less
-    loop-again)
+    (tie.spec Inv-loop μ-loop (search needs) returns loop-holds (search needs) returns-2 (search needs) (search needs) (search needs)
+    returns-3 (search needs) returns-4 array-read-if4 returns-5 array-write-seen loop-less loop-again)

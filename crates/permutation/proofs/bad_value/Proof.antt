@@ -55,9 +55,6 @@ mark-names-requires c κs = let pre = c .before .before .pre in (pre .1, λ v h.
 loop-holds : tie.Need-loop-holds Inv-loop μ-loop
 loop-holds c = let stated = c .before .mark-names .ensures in ([], refl, free-none _ _ (stated .1) (stated .2), refl, omega arith)
 
-next-word-requires : tie.Need-next-word-requires Inv-loop μ-loop
-next-word-requires c κs = search needs
-
 returns : tie.Need-returns Inv-loop μ-loop
 returns c =
     let at = c .before .before in
@@ -72,15 +69,6 @@ returns-2 c =
     let count = at .before .before .before .before .mark-names .ensures .0 in
     sym (inv .1 ∙ value-end _ _ _ (no-word _ _ _ (at .before .next-word .ensures) (at .if1 .taken)) (omega (arith, inv .3, c .if2 .left, count)))
 
-read-requires : tie.Need-read-requires Inv-loop μ-loop
-read-requires c κs = search needs
-
-enum-known-number : tie.Need-enum-known-number Inv-loop μ-loop
-enum-known-number c = search needs
-
-enum-told : tie.Need-enum-told Inv-loop μ-loop
-enum-told c = search needs
-
 returns-3 : tie.Need-returns-3 Inv-loop μ-loop
 returns-3 c =
     let at = c .before .before .before in
@@ -88,9 +76,6 @@ returns-3 c =
     let stray = word-refused _ _ _ (at .before .next-word .ensures) (at .if1 .left) _ (sym (c .before .before .read .ensures) ∙ c .enum-told .given .1) in
     let names = names-known (at .before .before) in
     sym (inv .1 ∙ value-stop _ _ _ (stray .words) _ 0 (no-name _ _ (stray .code)) names (zero-taken names (inv .0)))
-
-name-of-requires : tie.Need-name-of-requires Inv-loop μ-loop
-name-of-requires c κs = search needs
 
 array-read-if3 : tie.Need-array-read-if3 Inv-loop μ-loop
 array-read-if3 c = omega (arith, name-high _ _ _ (says c))
@@ -126,22 +111,5 @@ loop-again c =
 pub bad-value-spec : {M : Type 1} → statement M
 bad-value-spec =
     tie.close
-    (tie.spec
-    Inv-loop
-    μ-loop
-    mark-names-requires
-    loop-holds
-    next-word-requires
-    returns
-    returns-2
-    read-requires
-    enum-known-number
-    enum-told
-    returns-3
-    name-of-requires
-    array-read-if3
-    returns-4
-    array-write-free
-    add-used
-    loop-less
-    loop-again)
+    (tie.spec Inv-loop μ-loop mark-names-requires loop-holds (search needs) returns returns-2 (search needs) (search needs) (search needs)
+    returns-3 (search needs) array-read-if3 returns-4 array-write-free add-used loop-less loop-again)

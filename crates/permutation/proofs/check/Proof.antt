@@ -21,37 +21,13 @@ nine : (c : tie.After-enum-told3) → let start = c .before .before .before .bef
     notNumber (wordsAt (start .args .values .now) 0) ≡ Fault.Nowhere
 nine c = sym (c .before .before .not-number2 .ensures) ∙ c .enum-told3 .given .1
 
-not-number-requires : tie.Need-not-number-requires
-not-number-requires c κs = search needs
-
-enum-known-place : tie.Need-enum-known-place
-enum-known-place c = search needs
-
 returns : tie.Need-returns
 unfolding statedBy
 returns c = rw (sym (c .before .before .before .not-number .ensures) ∙ c .before .place .given .1)
 
-enum-told : tie.Need-enum-told
-enum-told c = search needs
-
-bad-name-requires : tie.Need-bad-name-requires
-bad-name-requires c κs = search needs
-
-enum-known-place-2 : tie.Need-enum-known-place-2
-enum-known-place-2 c = search needs
-
 returns-2 : tie.Need-returns-2
 unfolding statedBy
 returns-2 c = rw (seven (c .before .before .before .before), sym (c .before .before .before .bad-name .ensures) ∙ c .before .place2 .given .1)
-
-enum-told-2 : tie.Need-enum-told-2
-enum-told-2 c = search needs
-
-not-number-requires-2 : tie.Need-not-number-requires-2
-not-number-requires-2 c κs = search needs
-
-enum-known-place-3 : tie.Need-enum-known-place-3
-enum-known-place-3 c = search needs
 
 returns-3 : tie.Need-returns-3
 unfolding statedBy
@@ -59,17 +35,11 @@ returns-3 c =
     let passed = c .before .before .before .before in
     rw (seven (passed .before .before .before), eight passed, sym (c .before .before .before .not-number2 .ensures) ∙ c .before .place3 .given .1)
 
-enum-told-3 : tie.Need-enum-told-3
-enum-told-3 c = search needs
-
 bad-value-requires : tie.Need-bad-value-requires
 bad-value-requires c κs =
     let passed = c .before .before .before in
     let start = passed .before .before .before .before .before .before .before .before in
     (start .pre, seven (passed .before .before .before), eight passed)
-
-enum-known-place-4 : tie.Need-enum-known-place-4
-enum-known-place-4 c = search needs
 
 returns-4 : tie.Need-returns-4
 unfolding statedBy
@@ -77,9 +47,6 @@ returns-4 c =
     let passed = c .before .before .before .before in
     let eighth = passed .before .before .before in
     rw (seven (eighth .before .before .before), eight eighth, nine passed, sym (c .before .before .before .bad-value .ensures) ∙ c .before .place4 .given .1)
-
-enum-told-4 : tie.Need-enum-told-4
-enum-told-4 c = search needs
 
 returns-5 : tie.Need-returns-5
 unfolding statedBy
@@ -91,21 +58,5 @@ returns-5 c =
 pub check-spec : {M : Type 1} → statement M
 check-spec =
     tie.close
-    (tie.spec
-    not-number-requires
-    enum-known-place
-    returns
-    enum-told
-    bad-name-requires
-    enum-known-place-2
-    returns-2
-    enum-told-2
-    not-number-requires-2
-    enum-known-place-3
-    returns-3
-    enum-told-3
-    bad-value-requires
-    enum-known-place-4
-    returns-4
-    enum-told-4
-    returns-5)
+    (tie.spec (search needs) (search needs) returns (search needs) (search needs) (search needs) returns-2 (search needs) (search needs)
+    (search needs) returns-3 (search needs) bad-value-requires (search needs) returns-4 (search needs) returns-5)

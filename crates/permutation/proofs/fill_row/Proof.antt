@@ -5,17 +5,11 @@ use borrow.Author.Needs.{needs}
 use Rattle.permutation.proofs.fill_row.Statement.{statement}
 use Rattle.permutation.proofs.fill_row.Tie as tie
 
-identity-requires : tie.Need-identity-requires
-identity-requires c κs = search needs
-
 place-values-requires : tie.Need-place-values-requires
 place-values-requires c κs =
     let written = c .before .before .before in
     let start = written .before .before .before .before .before in
     (start .pre .0, search needs, start .pre .2, table-front _ _ _ _ (written .identity .ensures))
-
-same-length : tie.Need-same-length
-same-length c = search needs
 
 returns : tie.Need-returns
 returns c =
@@ -24,4 +18,4 @@ returns c =
     placed .place-values .ensures ∙ rw (table-back _ _ _ _ (written .identity .ensures))
 
 pub fill-row-spec : {M : Type 1} → statement M
-fill-row-spec = tie.close (tie.spec identity-requires place-values-requires same-length returns)
+fill-row-spec = tie.close (tie.spec (search needs) place-values-requires (search needs) returns)

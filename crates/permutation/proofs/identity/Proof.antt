@@ -19,27 +19,6 @@ abbrev μ-loop : tie.MeasureT-loop
 loop-holds : tie.Need-loop-holds Inv-loop μ-loop
 loop-holds c = (omega arith, refl, table-none _ _)
 
-add-code : tie.Need-add-code Inv-loop μ-loop
-add-code c = omega arith
-
-cast-code : tie.Need-cast-code Inv-loop μ-loop
-cast-code c = omega arith
-
-code-requires : tie.Need-code-requires Inv-loop μ-loop
-code-requires c κs = search needs
-
-mul-row : tie.Need-mul-row Inv-loop μ-loop
-mul-row c = omega arith
-
-slice-write-row : tie.Need-slice-write-row Inv-loop μ-loop
-slice-write-row c = omega arith
-
-add-i : tie.Need-add-i Inv-loop μ-loop
-add-i c = omega arith
-
-loop-less : tie.Need-loop-less Inv-loop μ-loop
-loop-less c = omega arith
-
 loop-again : tie.Need-loop-again Inv-loop μ-loop
 loop-again c =
     let at = c .before .before in
@@ -58,17 +37,5 @@ returns c =
 pub identity-spec : {M : Type 1} → statement M
 identity-spec =
     tie.close
-    (tie.spec
-    Inv-loop
-    μ-loop
-    loop-holds
-    add-code
-    cast-code
-    code-requires
-    mul-row
-    slice-write-row
-    add-i
-    loop-less
-    loop-again
-    same-length
-    returns)
+    (tie.spec Inv-loop μ-loop loop-holds (search needs) (search needs) (search needs) (search needs) (search needs) (search needs)
+    (search needs) loop-again same-length returns)

@@ -38,15 +38,6 @@ loop-holds : tie.Need-loop-holds Inv-loop μ-loop
 unfolding namesOn
 loop-holds c = (c .before .pre .0, marking-none _, omega arith)
 
-next-number-requires : tie.Need-next-number-requires Inv-loop μ-loop
-next-number-requires c κs = search needs
-
-enum-known-name : tie.Need-enum-known-name Inv-loop μ-loop
-enum-known-name c = search needs
-
-enum-told : tie.Need-enum-told Inv-loop μ-loop
-enum-told c = search needs
-
 returns : tie.Need-returns Inv-loop μ-loop
 returns c =
     let at = c .before .before in
@@ -76,16 +67,5 @@ loop-again c =
 pub mark-names-spec : {M : Type 1} → statement M
 mark-names-spec =
     tie.close
-    (tie.spec
-    Inv-loop
-    μ-loop
-    loop-holds
-    next-number-requires
-    enum-known-name
-    enum-told
-    returns
-    cast-marks
-    array-write-marks
-    add-count
-    loop-less
-    loop-again)
+    (tie.spec Inv-loop μ-loop loop-holds (search needs) (search needs) (search needs) returns cast-marks array-write-marks add-count
+    loop-less loop-again)

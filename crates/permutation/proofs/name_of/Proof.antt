@@ -7,9 +7,6 @@ use Rattle.permutation.proofs.name_of.Tie as tie
 returns : tie.Need-returns
 returns c = rw (c .if1 .taken) (name-negative _ _)
 
-cast-size : tie.Need-cast-size
-cast-size c = search needs
-
 returns-2 : tie.Need-returns-2
 returns-2 c = rw (c .before .before .if1 .left) (name-beyond _ _ (c .if2 .taken))
 
@@ -17,4 +14,4 @@ returns-3 : tie.Need-returns-3
 returns-3 c = rw (c .before .before .if1 .left) (name-within _ _ (c .if2 .left))
 
 pub name-of-spec : {M : Type 1} → statement M
-name-of-spec = tie.close (tie.spec returns cast-size returns-2 returns-3)
+name-of-spec = tie.close (tie.spec returns (search needs) returns-2 returns-3)

@@ -5,14 +5,8 @@ use borrow.Author.Needs.{needs}
 use Rattle.permutation.proofs.next_number.Statement.{statement}
 use Rattle.permutation.proofs.next_number.Tie as tie
 
-next-word-requires : tie.Need-next-word-requires
-next-word-requires c κs = search needs
-
-read-requires : tie.Need-read-requires
-read-requires c κs = search needs
-
 returns : tie.Need-returns
 returns c = c .read .ensures ∙ ap (readingAt _) (c .before .next-word .ensures)
 
 pub next-number-spec : {M : Type 1} → statement M
-next-number-spec = tie.close (tie.spec next-word-requires read-requires returns)
+next-number-spec = tie.close (tie.spec (search needs) (search needs) returns)

@@ -65,15 +65,6 @@ loop-holds c =
     let o = in-order _ _ _ (start .pre .2) in
     (o .name-numbers, o .value-numbers, placing-none _ _ _ _ o (start .pre .1) (start .pre .3))
 
-next-number-requires : tie.Need-next-number-requires Inv-loop μ-loop
-next-number-requires c κs = search needs
-
-enum-known-name : tie.Need-enum-known-name Inv-loop μ-loop
-enum-known-name c = search needs
-
-enum-told : tie.Need-enum-told Inv-loop μ-loop
-enum-told c = search needs
-
 same-length : tie.Need-same-length Inv-loop μ-loop
 same-length c = kept (c .before .before .before)
 
@@ -82,15 +73,6 @@ returns c =
     let at = c .before .before in
     let inv = at .before .loop .inv in
     placing-all (inv .2) (ap (map _) (all-read _ _ _ _ refl (inv .0) (sym (at .next-number .ensures) ∙ c .enum-told .given .1)))
-
-next-number-requires-2 : tie.Need-next-number-requires-2 Inv-loop μ-loop
-next-number-requires-2 c κs = search needs
-
-enum-known-value : tie.Need-enum-known-value Inv-loop μ-loop
-enum-known-value c = search needs
-
-enum-told-2 : tie.Need-enum-told-2 Inv-loop μ-loop
-enum-told-2 c = search needs
 
 same-length-2 : tie.Need-same-length-2 Inv-loop μ-loop
 same-length-2 c = kept (c .before .before .before .before .before .before .before)
@@ -137,25 +119,5 @@ loop-again c =
 pub place-values-spec : {M : Type 1} → statement M
 place-values-spec =
     tie.close
-    (tie.spec
-    Inv-loop
-    μ-loop
-    loop-holds
-    next-number-requires
-    enum-known-name
-    enum-told
-    same-length
-    returns
-    next-number-requires-2
-    enum-known-value
-    enum-told-2
-    same-length-2
-    returns-2
-    cast-place
-    cast-code
-    code-requires
-    sub-row
-    mul-row
-    slice-write-row
-    loop-less
-    loop-again)
+    (tie.spec Inv-loop μ-loop loop-holds (search needs) (search needs) (search needs) same-length returns (search needs) (search needs)
+    (search needs) same-length-2 returns-2 cast-place cast-code code-requires sub-row mul-row slice-write-row loop-less loop-again)

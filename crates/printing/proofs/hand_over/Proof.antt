@@ -8,9 +8,6 @@ use Rattle.printing.proofs.PrintingLaws.{counted-after}
 use Rattle.printing.proofs.hand_over.Statement.{statement}
 use Rattle.printing.proofs.hand_over.Tie as tie
 
-write-requires : tie.Need-write-requires
-write-requires c κs = search needs
-
 counted-requires : tie.Need-counted-requires
 counted-requires c κs = λ count e.
     let s = c .before .before .before in
@@ -22,4 +19,4 @@ returns c = λ bytes e.
     counted-after _ bytes (w .write .result) (sym (c .counted .ensures) ∙ e) _ (w .write .ensures)
 
 pub hand-over-spec : {M : Type 1} → statement M
-hand-over-spec = tie.close (tie.spec write-requires counted-requires returns)
+hand-over-spec = tie.close (tie.spec (search needs) counted-requires returns)

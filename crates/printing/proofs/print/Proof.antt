@@ -45,14 +45,5 @@ returns c = c .before .print-from .ensures
 pub print-spec : {M : Type 1} → statement M
 print-spec =
     tie.close
-    (tie.spec
-    slice-aggregate-begin
-    slice-aggregate-begin-2
-    slice-aggregate-begin-3
-    begin-requires
-    slice-aggregate-print-from
-    slice-aggregate-print-from-2
-    slice-aggregate-print-from-3
-    slice-aggregate-print-from-4
-    print-from-requires
-    returns)
+    (tie.spec slice-aggregate-begin slice-aggregate-begin-2 slice-aggregate-begin-3 begin-requires slice-aggregate-print-from
+    slice-aggregate-print-from-2 slice-aggregate-print-from-3 slice-aggregate-print-from-4 print-from-requires returns)

@@ -31,9 +31,6 @@ page-requires c κs =
     let s = l .before .before .before .before .before .before in
     (l .loop .inv .0, omega (arith, l .loop .inv .1, s .pre .2))
 
-same-length : tie.Need-same-length Inv-loop μ-loop
-same-length c = search needs
-
 returns : tie.Need-returns Inv-loop μ-loop
 returns c = λ bytes e.
     let p = c .before .before .before in
@@ -53,15 +50,6 @@ hand-over-requires c κs =
     let l = p .before .before in
     page-part (p .page .ensures) _ (l .loop .handed) (l .loop .inv .2)
 
-enum-known-count : tie.Need-enum-known-count Inv-loop μ-loop
-enum-known-count c = search needs
-
-enum-told : tie.Need-enum-told Inv-loop μ-loop
-enum-told c = search needs
-
-same-length-2 : tie.Need-same-length-2 Inv-loop μ-loop
-same-length-2 c = search needs
-
 returns-2 : tie.Need-returns-2 Inv-loop μ-loop
 returns-2 c = λ bytes e. let z : _≡_ {A = ℕ} 0 1 = cc in absurd (omega arith)
 
@@ -80,19 +68,5 @@ loop-again c =
 pub print-from-spec : {M : Type 1} → statement M
 print-from-spec =
     tie.close
-    (tie.spec
-    Inv-loop
-    μ-loop
-    loop-holds
-    page-requires
-    same-length
-    returns
-    slice-reshare-prefix-hand-over
-    slice-aggregate-hand-over
-    hand-over-requires
-    enum-known-count
-    enum-told
-    same-length-2
-    returns-2
-    loop-less
-    loop-again)
+    (tie.spec Inv-loop μ-loop loop-holds page-requires (search needs) returns slice-reshare-prefix-hand-over slice-aggregate-hand-over
+    hand-over-requires (search needs) (search needs) (search needs) returns-2 loop-less loop-again)

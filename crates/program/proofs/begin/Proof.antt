@@ -9,39 +9,12 @@ use Rattle.program.proofs.begin.Tie as tie
 abbrev S : tie.Start → Store
 S c = lent closedRecord (c .args .literals .now) (c .args .ends .now) (c .args .images .now)
 
-run-requires : tie.Need-run-requires
-run-requires c κs = search needs
-
-enum-told : tie.Need-enum-told
-enum-told c = search needs
-
-enum-known-answer : tie.Need-enum-known-answer
-enum-known-answer c = search needs
-
-same-length : tie.Need-same-length
-same-length c = search needs
-
-same-length-2 : tie.Need-same-length-2
-same-length-2 c = search needs
-
-same-length-3 : tie.Need-same-length-3
-same-length-3 c = search needs
-
 returns : tie.Need-returns
 returns c =
     let r = c .before .before .before .before .before .before .before .before .before in
     let s = r .before .before .before .before .before .before .before .before in
     let ready = c .enum-told .given .1 in
     (begins-ready (S s) _ (s .args .input .now) (r .run .result .answer) (r .run .ensures .0) ready, (store-of (r .run .ensures .0), r .run .ensures .1 ready))
-
-same-length-4 : tie.Need-same-length-4
-same-length-4 c = search needs
-
-same-length-5 : tie.Need-same-length-5
-same-length-5 c = search needs
-
-same-length-6 : tie.Need-same-length-6
-same-length-6 c = search needs
 
 returns-2 : tie.Need-returns-2
 returns-2 c =
@@ -52,15 +25,5 @@ returns-2 c =
 pub begin-spec : {M : Type 1} → statement M
 begin-spec =
     tie.close
-    (tie.spec
-    run-requires
-    enum-told
-    enum-known-answer
-    same-length
-    same-length-2
-    same-length-3
-    returns
-    same-length-4
-    same-length-5
-    same-length-6
-    returns-2)
+    (tie.spec (search needs) (search needs) (search needs) (search needs) (search needs) (search needs) returns (search needs)
+    (search needs) (search needs) returns-2)

@@ -11,9 +11,6 @@ S c = lent (c .args .counts) (c .args .literals .now) (c .args .ends .now) (c .a
 fill-requires : tie.Need-fill-requires
 fill-requires c κs = c .before .before .before .before .before .pre .0
 
-same-length : tie.Need-same-length
-same-length c = search needs
-
 returns : tie.Need-returns
 returns c =
     let f = c .before .before .before in
@@ -22,4 +19,4 @@ returns c =
     clauses-step (S s) (s .pre .0 .0) (s .args .cursor) _ _ _ _ (e .0) (e .1 .0) (λ none. e .1 .1 (s .pre .1) none)
 
 pub clauses-spec : {M : Type 1} → statement M
-clauses-spec = tie.close (tie.spec fill-requires same-length returns)
+clauses-spec = tie.close (tie.spec fill-requires (search needs) returns)

@@ -28,9 +28,6 @@ put-header-requires c κs =
 start-requires : tie.Need-start-requires
 start-requires c κs = let s = c .before .before .before .before .before .before .before .before .before in formed-rows (S s) (s .pre .0)
 
-same-length : tie.Need-same-length
-same-length c = search needs
-
 returns : tie.Need-returns
 returns c =
     let w = c .before .before .before in
@@ -41,5 +38,4 @@ returns c =
     (c .start .result) (c .start .ensures .0) (start-left (S s) (c .start .result) (c .start .ensures .1))
 
 pub header-spec : {M : Type 1} → statement M
-header-spec =
-    tie.close (tie.spec totals-of-requires put-header-requires start-requires same-length returns)
+header-spec = tie.close (tie.spec totals-of-requires put-header-requires start-requires (search needs) returns)

@@ -11,47 +11,23 @@ use Rattle.program.proofs.page.Tie as tie
 abbrev S : tie.Start → Store
 S c = lent (c .args .counts) (c .args .literals .now) (c .args .ends .now) (c .args .images .now)
 
-enum-known-stage : tie.Need-enum-known-stage
-enum-known-stage c = search needs
-
-refused-requires : tie.Need-refused-requires
-refused-requires c κs = search needs
-
-enum-told : tie.Need-enum-told
-enum-told c = search needs
-
 header-requires : tie.Need-header-requires
 header-requires c κs =
     let s = c .before .before .before .before .before .before .before in
     (subst (λ (stage : Stage). StageStands stage (S s)) (c .before .enum-told .given .1) (s .pre .0), s .pre .1)
-
-enum-known-stage-2 : tie.Need-enum-known-stage-2
-enum-known-stage-2 c = search needs
 
 clauses-requires : tie.Need-clauses-requires
 clauses-requires c κs =
     let s = c .before .before .before .before .before .before .before .before in
     (subst (λ (stage : Stage). StageStands stage (S s)) (c .before .before .stage2 .given .1) (s .pre .0), s .pre .1)
 
-enum-told-2 : tie.Need-enum-told-2
-enum-told-2 c = search needs
-
-same-length : tie.Need-same-length
-same-length c = search needs
-
 returns : tie.Need-returns
 returns c =
     let s = c .before .before .before .before .before .before .before .before .before .before .before in
     at-stage (c .before .before .before .before .before .stage .given .1) (c .before .before .refused .ensures (S s))
 
-same-length-2 : tie.Need-same-length-2
-same-length-2 c = search needs
-
 returns-2 : tie.Need-returns-2
 returns-2 c = at-stage (c .before .before .before .before .enum-told .given .1) (c .before .before .header .ensures)
-
-same-length-3 : tie.Need-same-length-3
-same-length-3 c = search needs
 
 returns-3 : tie.Need-returns-3
 returns-3 c = at-stage (c .before .before .before .before .before .stage2 .given .1) (c .before .before .clauses .ensures)
@@ -64,18 +40,5 @@ returns-4 c =
 pub page-spec : {M : Type 1} → statement M
 page-spec =
     tie.close
-    (tie.spec
-    enum-known-stage
-    refused-requires
-    enum-told
-    header-requires
-    enum-known-stage-2
-    clauses-requires
-    enum-told-2
-    same-length
-    returns
-    same-length-2
-    returns-2
-    same-length-3
-    returns-3
-    returns-4)
+    (tie.spec (search needs) (search needs) (search needs) header-requires (search needs) clauses-requires (search needs) (search needs)
+    returns (search needs) returns-2 (search needs) returns-3 returns-4)

@@ -17,26 +17,11 @@ abbrev μ-loop : tie.MeasureT-loop
 loop-holds : tie.Need-loop-holds Inv-loop μ-loop
 loop-holds c = measured-start _ (c .before .pre)
 
-mul-literal-length : tie.Need-mul-literal-length Inv-loop μ-loop
-mul-literal-length c = omega arith
-
-shared-slice-read-literal-length : tie.Need-shared-slice-read-literal-length Inv-loop μ-loop
-shared-slice-read-literal-length c = omega arith
-
-literal-length-requires : tie.Need-literal-length-requires Inv-loop μ-loop
-literal-length-requires c κs = search needs
-
 add-length : tie.Need-add-length Inv-loop μ-loop
 add-length c = omega (arith, measured-fits (c .before .before .before .loop .inv) (c .before .before .loop-test .taken) refl (c .literal-length .ensures))
 
 add-length-2 : tie.Need-add-length-2 Inv-loop μ-loop
 add-length-2 c = omega (arith, measured-fits (c .before .before .before .loop .inv) (c .before .before .loop-test .taken) refl (c .literal-length .ensures))
-
-add-i : tie.Need-add-i Inv-loop μ-loop
-add-i c = omega arith
-
-loop-less : tie.Need-loop-less Inv-loop μ-loop
-loop-less c = omega arith
 
 loop-again : tie.Need-loop-again Inv-loop μ-loop
 loop-again c = measured-more (c .before .before .before .loop .inv) (c .before .before .loop-test .taken) refl (c .literal-length .ensures)
@@ -47,16 +32,5 @@ returns c = measured-all (c .before .loop .inv) (c .loop-test .left)
 pub clause-length-spec : {M : Type 1} → statement M
 clause-length-spec =
     tie.close
-    (tie.spec
-    Inv-loop
-    μ-loop
-    loop-holds
-    mul-literal-length
-    shared-slice-read-literal-length
-    literal-length-requires
-    add-length
-    add-length-2
-    add-i
-    loop-less
-    loop-again
-    returns)
+    (tie.spec Inv-loop μ-loop loop-holds (search needs) (search needs) (search needs) add-length add-length-2 (search needs) (search needs)
+    loop-again returns)

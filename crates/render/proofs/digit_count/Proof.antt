@@ -2,6 +2,7 @@
 use Prim.Native.Nat.{_-_}
 use Rattle.render.proofs.DigitLaws.{digits-most, digits-some, Counted, counted-none, counted-more, counted-all}
 use native.Mathlib.Omega.{arith}
+use borrow.Author.Needs.{needs}
 use Rattle.render.proofs.digit_count.Statement.{statement}
 use Rattle.render.proofs.digit_count.Tie as tie
 
@@ -17,9 +18,6 @@ loop-holds c = counted-none (c .fits .x .fits)
 add-n : tie.Need-add-n Inv-loop μ-loop
 add-n c = omega (arith, c .before .loop .inv .count, digits-most (c .before .before .args .x), digits-some (c .before .loop .rest))
 
-loop-less : tie.Need-loop-less Inv-loop μ-loop
-loop-less c = omega arith
-
 loop-again : tie.Need-loop-again Inv-loop μ-loop
 loop-again c = counted-more (c .before .loop .inv) (c .loop-test .taken)
 
@@ -27,4 +25,4 @@ returns : tie.Need-returns Inv-loop μ-loop
 returns c = counted-all (c .before .loop .inv) (c .loop-test .left)
 
 pub digit-count-spec : {M : Type 1} → statement M
-digit-count-spec = tie.close (tie.spec Inv-loop μ-loop loop-holds add-n loop-less loop-again returns)
+digit-count-spec = tie.close (tie.spec Inv-loop μ-loop loop-holds add-n (search needs) loop-again returns)

@@ -6,12 +6,6 @@ use native.Mathlib.Omega.{arith}
 use Rattle.render.proofs.header_length.Statement.{statement}
 use Rattle.render.proofs.header_length.Tie as tie
 
-digit-count-requires : tie.Need-digit-count-requires
-digit-count-requires c κs = search needs
-
-digit-count-requires-2 : tie.Need-digit-count-requires-2
-digit-count-requires-2 c κs = search needs
-
 add-result : tie.Need-add-result
 add-result c = omega (arith, digits-most (c .before .before .args .variables), digits-most (c .before .before .args .clauses))
 
@@ -22,6 +16,4 @@ returns : tie.Need-returns
 returns c = omega (arith, length-header (c .before .before .args .variables) (c .before .before .args .clauses))
 
 pub header-length-spec : {M : Type 1} → statement M
-header-length-spec =
-    tie.close
-    (tie.spec digit-count-requires digit-count-requires-2 add-result add-result-2 returns)
+header-length-spec = tie.close (tie.spec (search needs) (search needs) add-result add-result-2 returns)

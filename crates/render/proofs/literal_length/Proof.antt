@@ -22,18 +22,6 @@ byte : (b : Bool) → boolByte b ≤ 1
 byte true = omega arith
 byte false = omega arith
 
-variable-requires : tie.Need-variable-requires
-variable-requires c κs = search needs
-
-digit-count-requires : tie.Need-digit-count-requires
-digit-count-requires c κs = search needs
-
-is-negative-requires : tie.Need-is-negative-requires
-is-negative-requires c κs = search needs
-
-cast-result : tie.Need-cast-result
-cast-result c = search needs
-
 add-result : tie.Need-add-result
 add-result c = let d = c .before in omega (arith, d .digit-count .ensures, digits-most (d .before .variable .result), byte (c .is-negative .result))
 
@@ -44,5 +32,4 @@ returns c =
     sized (v .before .args .code) (v .variable .result) (d .digit-count .result) (v .variable .ensures) (d .digit-count .ensures) (c .is-negative .result) (c .is-negative .ensures)
 
 pub literal-length-spec : {M : Type 1} → statement M
-literal-length-spec =
-    tie.close (tie.spec variable-requires digit-count-requires is-negative-requires cast-result add-result returns)
+literal-length-spec = tie.close (tie.spec (search needs) (search needs) (search needs) (search needs) add-result returns)

@@ -10,9 +10,6 @@ use native.Mathlib.Omega.{arith}
 use Rattle.render.proofs.put_end.Statement.{statement}
 use Rattle.render.proofs.put_end.Tie as tie
 
-add-feed : tie.Need-add-feed
-add-feed c = search needs
-
 slice-write-out : tie.Need-slice-write-out
 unfolding clauseLine
 slice-write-out c = search needs
@@ -21,16 +18,9 @@ slice-write-out-2 : tie.Need-slice-write-out-2
 unfolding clauseLine
 slice-write-out-2 c = simp length-set (omega arith)
 
-add-result : tie.Need-add-result
-add-result c = search needs
-
-same-length : tie.Need-same-length
-same-length c = search needs
-
 returns : tie.Need-returns
 unfolding clauseLine
 returns c = (omega arith, simp towards-suc (sym (stores (c .args .at) (clauseLine []) (c .args .out .now) (c .pre))))
 
 pub put-end-spec : {M : Type 1} → statement M
-put-end-spec =
-    tie.close (tie.spec add-feed slice-write-out slice-write-out-2 add-result same-length returns)
+put-end-spec = tie.close (tie.spec (search needs) slice-write-out slice-write-out-2 (search needs) (search needs) returns)

@@ -18,9 +18,6 @@ put-numbers-requires : tie.Need-put-numbers-requires
 unfolding headerLine
 put-numbers-requires c κs = omega (arith, c .before .before .before .before .before .before .before .pre)
 
-same-length : tie.Need-same-length
-same-length c = search needs
-
 returns : tie.Need-returns
 unfolding headerLine
 returns c =
@@ -28,4 +25,4 @@ returns c =
     (put-then (put (first .put-bytes .ensures)) (put (c .before .before .put-numbers .ensures))) .told (first .before .before .before .before .pre)
 
 pub put-header-spec : {M : Type 1} → statement M
-put-header-spec = tie.close (tie.spec slice-aggregate-put-bytes put-bytes-requires put-numbers-requires same-length returns)
+put-header-spec = tie.close (tie.spec slice-aggregate-put-bytes put-bytes-requires put-numbers-requires (search needs) returns)

@@ -17,17 +17,8 @@ negative c = text-negative _ _ (c .before .before .variable .ensures) (sym (c .b
 plain : (c : tie.Else1) → literalText (c .before .before .before .before .args .code) ≡ decimal (c .before .before .variable .result)
 plain c = text-plain _ _ (c .before .before .variable .ensures) (sym (c .before .is-negative .ensures) ∙ c .if1 .left)
 
-variable-requires : tie.Need-variable-requires
-variable-requires c κs = search needs
-
-is-negative-requires : tie.Need-is-negative-requires
-is-negative-requires c κs = search needs
-
 slice-write-out : tie.Need-slice-write-out
 slice-write-out c = omega (arith, ap length (negative c))
-
-add-put-number : tie.Need-add-put-number
-add-put-number c = search needs
 
 put-number-requires : tie.Need-put-number-requires
 put-number-requires c κs = simp length-set (omega (arith, ap length (negative (c .before))))
@@ -44,23 +35,11 @@ returns c =
 put-number-requires-2 : tie.Need-put-number-requires-2
 put-number-requires-2 c κs = omega (arith, ap length (plain (c .before)))
 
-same-length-2 : tie.Need-same-length-2
-same-length-2 c = search needs
-
 returns-2 : tie.Need-returns-2
 returns-2 c = rw (plain (c .before .before .before .before)) (c .before .before .put-number2 .ensures)
 
 pub put-literal-spec : {M : Type 1} → statement M
 put-literal-spec =
     tie.close
-    (tie.spec
-    variable-requires
-    is-negative-requires
-    slice-write-out
-    add-put-number
-    put-number-requires
-    same-length
-    returns
-    put-number-requires-2
-    same-length-2
-    returns-2)
+    (tie.spec (search needs) (search needs) slice-write-out (search needs) put-number-requires same-length returns put-number-requires-2
+    (search needs) returns-2)

@@ -48,12 +48,4 @@ returns c =
 pub put-numbers-spec : {M : Type 1} → statement M
 put-numbers-spec =
     tie.close
-    (tie.spec
-    put-number-requires
-    slice-write-out
-    add-put-number
-    put-number-requires-2
-    slice-write-out-2
-    add-result
-    same-length
-    returns)
+    (tie.spec put-number-requires slice-write-out add-put-number put-number-requires-2 slice-write-out-2 add-result same-length returns)

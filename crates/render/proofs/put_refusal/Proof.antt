@@ -18,9 +18,6 @@ put-numbers-requires : tie.Need-put-numbers-requires
 unfolding refusalLine
 put-numbers-requires c κs = omega (arith, c .before .before .before .before .before .before .before .pre)
 
-same-length : tie.Need-same-length
-same-length c = search needs
-
 returns : tie.Need-returns
 unfolding refusalLine
 returns c =
@@ -28,4 +25,4 @@ returns c =
     (put-then (put (first .put-bytes .ensures)) (put (c .before .before .put-numbers .ensures))) .told (first .before .before .before .before .pre)
 
 pub put-refusal-spec : {M : Type 1} → statement M
-put-refusal-spec = tie.close (tie.spec slice-aggregate-put-bytes put-bytes-requires put-numbers-requires same-length returns)
+put-refusal-spec = tie.close (tie.spec slice-aggregate-put-bytes put-bytes-requires put-numbers-requires (search needs) returns)

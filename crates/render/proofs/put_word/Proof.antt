@@ -15,12 +15,8 @@ slice-write-out c = omega (arith, simp length-append at (c .before .before .befo
 add-result : tie.Need-add-result
 add-result c = omega (arith, simp length-append at (c .before .before .before .before .before .pre))
 
-same-length : tie.Need-same-length
-same-length c = search needs
-
 returns : tie.Need-returns
 returns c = (put-then (put (c .before .before .put-literal .ensures)) (put-byte _ 32 _)) .told (c .before .before .before .before .before .pre)
 
 pub put-word-spec : {M : Type 1} → statement M
-put-word-spec =
-    tie.close (tie.spec put-literal-requires slice-write-out add-result same-length returns)
+put-word-spec = tie.close (tie.spec put-literal-requires slice-write-out add-result (λ c. search needs) returns)

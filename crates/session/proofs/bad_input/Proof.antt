@@ -3,11 +3,8 @@ use borrow.Author.Needs.{needs}
 use Rattle.session.proofs.bad_input.Statement.{statement}
 use Rattle.session.proofs.bad_input.Tie as tie
 
-new-record-requires : tie.Need-new-record-requires
-new-record-requires c κs = search needs
-
 returns : tie.Need-returns
 returns c = rw (c .new-record .ensures)
 
 pub bad-input-spec : {M : Type 1} → statement M
-bad-input-spec = tie.close (tie.spec new-record-requires returns)
+bad-input-spec = tie.close (tie.spec (search needs) returns)

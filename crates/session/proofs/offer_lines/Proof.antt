@@ -74,9 +74,6 @@ returns c =
     let s = c .before .before .before .before .before in
     sym (no-names (S s) (s .args .input .now) (s .args .at) (c .if1 .taken))
 
-line-end-requires : tie.Need-line-end-requires Inv-loop μ-loop
-line-end-requires c κs = search needs
-
 add-from : tie.Need-add-from Inv-loop μ-loop
 add-from c =
     let s = c .before .before .before .before .before .before in
@@ -85,47 +82,20 @@ add-from c =
 loop-holds : tie.Need-loop-holds Inv-loop μ-loop
 loop-holds c = (refl, refl)
 
-line-end-requires-2 : tie.Need-line-end-requires-2 Inv-loop μ-loop
-line-end-requires-2 c κs = search needs
-
-sub-offer : tie.Need-sub-offer Inv-loop μ-loop
-sub-offer c = omega arith
-
-part-offer-start : tie.Need-part-offer-start Inv-loop μ-loop
-part-offer-start c = search needs
-
 part-offer-end : tie.Need-part-offer-end Inv-loop μ-loop
 part-offer-end c =
     let s = start (c .before .before .before) in
     omega (arith, run-within isLineByte (s .args .input .now) (s .args .at) (omega arith))
-
-sub-offer-2 : tie.Need-sub-offer-2 Inv-loop μ-loop
-sub-offer-2 c = omega arith
-
-part-offer-start-2 : tie.Need-part-offer-start-2 Inv-loop μ-loop
-part-offer-start-2 c = search needs
 
 part-offer-end-2 : tie.Need-part-offer-end-2 Inv-loop μ-loop
 part-offer-end-2 c =
     let l = c .before .before .before .before in
     omega (arith, run-within isLineByte (start l .args .input .now) (l .loop .from) (omega arith))
 
-offer-requires : tie.Need-offer-requires Inv-loop μ-loop
-offer-requires c κs = search needs
-
-enum-known-answer : tie.Need-enum-known-answer Inv-loop μ-loop
-enum-known-answer c = search needs
-
-same-length : tie.Need-same-length Inv-loop μ-loop
-same-length c = search needs
-
 returns-2 : tie.Need-returns-2 Inv-loop μ-loop
 returns-2 c =
     let o = c .before .before .before .before .before .before in
     sym (whole (head o) ∙ turned o _ (c .before .answer .given .1))
-
-enum-told : tie.Need-enum-told Inv-loop μ-loop
-enum-told c = search needs
 
 add-from-2 : tie.Need-add-from-2 Inv-loop μ-loop
 add-from-2 c =
@@ -133,16 +103,10 @@ add-from-2 c =
     let s = start (i .before) in
     omega (arith, run-within isLineByte (s .args .input .now) (i .before .loop .from) (omega (arith, i .loop-test .taken)))
 
-loop-less : tie.Need-loop-less Inv-loop μ-loop
-loop-less c = omega arith
-
 loop-again : tie.Need-loop-again Inv-loop μ-loop
 loop-again c =
     let o = c .before .before .before .before .before in
     (head o .loop .inv .0 ∙ taken o (c .enum-told .given .1), search needs)
-
-same-length-2 : tie.Need-same-length-2 Inv-loop μ-loop
-same-length-2 c = search needs
 
 returns-3 : tie.Need-returns-3 Inv-loop μ-loop
 returns-3 c = sym (whole (c .before) ∙ no-values _ _ _ (c .before .loop .from) (omega arith))
@@ -150,27 +114,6 @@ returns-3 c = sym (whole (c .before) ∙ no-values _ _ _ (c .before .loop .from)
 pub offer-lines-spec : {M : Type 1} → statement M
 offer-lines-spec =
     tie.close
-    (tie.spec
-    Inv-loop
-    μ-loop
-    returns
-    line-end-requires
-    add-from
-    loop-holds
-    line-end-requires-2
-    sub-offer
-    part-offer-start
-    part-offer-end
-    sub-offer-2
-    part-offer-start-2
-    part-offer-end-2
-    offer-requires
-    enum-known-answer
-    same-length
-    returns-2
-    enum-told
-    add-from-2
-    loop-less
-    loop-again
-    same-length-2
-    returns-3)
+    (tie.spec Inv-loop μ-loop returns (search needs) add-from loop-holds (search needs) (search needs) (search needs) part-offer-end
+    (search needs) (search needs) part-offer-end-2 (search needs) (search needs) (search needs) returns-2 (search needs) add-from-2
+    (search needs) loop-again (search needs) returns-3)

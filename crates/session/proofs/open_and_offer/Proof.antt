@@ -16,25 +16,10 @@ start o = o .before .before .before .before .before .before .before .before .bef
 abbrev new : tie.After-open → tie.After-new-record
 new o = o .before .before .before .before
 
-new-record-requires : tie.Need-new-record-requires
-new-record-requires c κs = search needs
-
 slice-aggregate-open : tie.Need-slice-aggregate-open
 slice-aggregate-open c =
     let s = c .before .before .before .before .before .before in
     sym (length-take-le (s .args .at) (s .args .input .now) (omega (arith, s .pre)))
-
-open-requires : tie.Need-open-requires
-open-requires c κs = search needs
-
-enum-known-answer : tie.Need-enum-known-answer
-enum-known-answer c = search needs
-
-same-length : tie.Need-same-length
-same-length c = search needs
-
-same-length-2 : tie.Need-same-length-2
-same-length-2 c = search needs
 
 returns : tie.Need-returns
 returns c =
@@ -43,28 +28,10 @@ returns c =
     let law = refused-opening _ _ (s .args .images .now) _ (s .args .at) (s .pre) _ (new o .new-record .ensures) in
     sym (law _ _ _ _ (o .«open» .ensures .0) (o .«open» .ensures .1) _ (c .before .answer .given .1))
 
-enum-told : tie.Need-enum-told
-enum-told c = search needs
-
-line-end-requires : tie.Need-line-end-requires
-line-end-requires c κs = search needs
-
 add-offer-lines : tie.Need-add-offer-lines
 add-offer-lines c =
     let s = start (c .before .before .before .before .before .before .before .before .before .before .before) in
     omega (arith, run-within isLineByte (s .args .input .now) (s .args .at) (omega (arith, s .pre)))
-
-offer-lines-requires : tie.Need-offer-lines-requires
-offer-lines-requires c κs = search needs
-
-same-length-3 : tie.Need-same-length-3
-same-length-3 c = search needs
-
-same-length-4 : tie.Need-same-length-4
-same-length-4 c = search needs
-
-same-length-5 : tie.Need-same-length-5
-same-length-5 c = search needs
 
 returns-2 : tie.Need-returns-2
 returns-2 c =
@@ -78,19 +45,5 @@ returns-2 c =
 pub open-and-offer-spec : {M : Type 1} → statement M
 open-and-offer-spec =
     tie.close
-    (tie.spec
-    new-record-requires
-    slice-aggregate-open
-    open-requires
-    enum-known-answer
-    same-length
-    same-length-2
-    returns
-    enum-told
-    line-end-requires
-    add-offer-lines
-    offer-lines-requires
-    same-length-3
-    same-length-4
-    same-length-5
-    returns-2)
+    (tie.spec (search needs) slice-aggregate-open (search needs) (search needs) (search needs) (search needs) returns (search needs)
+    (search needs) add-offer-lines (search needs) (search needs) (search needs) (search needs) returns-2)

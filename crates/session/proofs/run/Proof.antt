@@ -27,20 +27,11 @@ meets s input answer t ends = (ends, formed)
         let ready = sym (ap (λ (end : Ended). end .said) ends) ∙ ap saidAnswer q in
         ap (λ (end : Ended). wellFormed (end .store)) ends ∙ ready-formed s input ready .formed
 
-bad-input-requires : tie.Need-bad-input-requires
-bad-input-requires c κs = search needs
-
 returns : tie.Need-returns
 returns c =
     let s = c .before .before .before .before .before .before in
     let law = too-long (S s) (s .args .input .now) (omega arith) in
     meets _ (s .args .input .now) _ _ (rw (c .bad-input .ensures) (sym law))
-
-divider-requires : tie.Need-divider-requires
-divider-requires c κs = search needs
-
-bad-input-requires-2 : tie.Need-bad-input-requires-2
-bad-input-requires-2 c κs = search needs
 
 returns-2 : tie.Need-returns-2
 returns-2 c =
@@ -48,18 +39,6 @@ returns-2 c =
     let s = d .before .before .before .before .before .before in
     let law = not-split (S s) (s .args .input .now) (omega arith) _ (d .divider .ensures) (omega arith) in
     meets _ (s .args .input .now) _ _ (rw (c .bad-input2 .ensures) (sym law))
-
-open-and-offer-requires : tie.Need-open-and-offer-requires
-open-and-offer-requires c κs = search needs
-
-same-length : tie.Need-same-length
-same-length c = search needs
-
-same-length-2 : tie.Need-same-length-2
-same-length-2 c = search needs
-
-same-length-3 : tie.Need-same-length-3
-same-length-3 c = search needs
 
 returns-3 : tie.Need-returns-3
 returns-3 c =
@@ -72,14 +51,5 @@ returns-3 c =
 pub run-spec : {M : Type 1} → statement M
 run-spec =
     tie.close
-    (tie.spec
-    bad-input-requires
-    returns
-    divider-requires
-    bad-input-requires-2
-    returns-2
-    open-and-offer-requires
-    same-length
-    same-length-2
-    same-length-3
+    (tie.spec (search needs) returns (search needs) (search needs) returns-2 (search needs) (search needs) (search needs) (search needs)
     returns-3)

@@ -54,25 +54,10 @@ moved c =
 loop-holds : tie.Need-loop-holds Inv-loop μ-loop
 loop-holds c = (omega arith, refl)
 
-sub-read : tie.Need-sub-read Inv-loop μ-loop
-sub-read c = omega arith
-
-part-read-start : tie.Need-part-read-start Inv-loop μ-loop
-part-read-start c = omega arith
-
-part-read-end : tie.Need-part-read-end Inv-loop μ-loop
-part-read-end c = omega arith
-
-read-requires : tie.Need-read-requires Inv-loop μ-loop
-read-requires c κs = search needs
-
 read-on-requires : tie.Need-read-on-requires Inv-loop μ-loop
 read-on-requires c κs =
     let l = head c in
     subst (λ (z : ℤ). l .loop .done + natAbs z < 2 ^ 64) (sym (same c)) (omega (arith, small (got c) (room c) (moved c) (omega arith)))
-
-enum-known-count : tie.Need-enum-known-count Inv-loop μ-loop
-enum-known-count c = search needs
 
 -- reading that goes on has read more, within the buffer
 more : (c : tie.After-read-on Inv-loop μ-loop) (count : ℕ) → c .read-on .result ≡ Reading.More count
@@ -92,21 +77,12 @@ loop-again c =
     let r = c .before .before .before in
     (omega (arith, more r _ (c .before .count .given .1), kept (r .before)), kept (r .before) ∙ head (r .before) .loop .inv .1)
 
-enum-known-input : tie.Need-enum-known-input Inv-loop μ-loop
-enum-known-input c = search needs
-
-same-length : tie.Need-same-length Inv-loop μ-loop
-same-length c = search needs
-
 returns : tie.Need-returns Inv-loop μ-loop
 returns c = λ bytes e.
     let r = c .before .before .before in
     let k = r .before in
     let told = ap (readOn (head k .loop .done)) (sym (same k)) ∙ sym (r .read-on .ensures) ∙ c .before .input .given .1 ∙ ap (λ (i : Input). Reading.Over i) e in
     omega (arith, over (head k .loop .done) (got k) bytes told, kept k, head k .loop .inv .0)
-
-same-length-2 : tie.Need-same-length-2 Inv-loop μ-loop
-same-length-2 c = search needs
 
 returns-2 : tie.Need-returns-2 Inv-loop μ-loop
 returns-2 c = λ bytes e.
@@ -116,20 +92,5 @@ returns-2 c = λ bytes e.
 pub read-spec : {M : Type 1} → statement M
 read-spec =
     tie.close
-    (tie.spec
-    Inv-loop
-    μ-loop
-    loop-holds
-    sub-read
-    part-read-start
-    part-read-end
-    read-requires
-    read-on-requires
-    enum-known-count
-    loop-less
-    loop-again
-    enum-known-input
-    same-length
-    returns
-    same-length-2
-    returns-2)
+    (tie.spec Inv-loop μ-loop loop-holds (search needs) (search needs) (search needs) (search needs) read-on-requires (search needs)
+    loop-less loop-again (search needs) (search needs) returns (search needs) returns-2)

@@ -13,14 +13,8 @@ counted : (all : Bool) (length count : ℕ) → cond all (Output.Bytes length) O
 counted true length count e = cc
 counted false length count e = let z : _≡_ {A = ℕ} 0 1 = cc in absurd (omega arith)
 
-write-all-requires : tie.Need-write-all-requires
-write-all-requires c κs = search needs
-
-write-answer-requires : tie.Need-write-answer-requires
-write-answer-requires c κs = search needs
-
 returns : tie.Need-returns
 returns c = λ count e. counted (c .before .write-all .result) _ count (sym (c .write-answer .ensures) ∙ e)
 
 pub write-spec : {M : Type 1} → statement M
-write-spec = tie.close (tie.spec write-all-requires write-answer-requires returns)
+write-spec = tie.close (tie.spec (search needs) (search needs) returns)

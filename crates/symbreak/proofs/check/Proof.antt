@@ -33,26 +33,14 @@ form c =
     let t = c .before .before in
     sym (ap (λ (n : ℕ). isAssignment n (start c .args .a .now)) (counted-variables (S (start c)) (t .totals-of .ensures))) ∙ sym (c .before .is-assignment .ensures) ∙ not-false _ (c .if1 .left)
 
-admit-requires : tie.Need-admit-requires
-admit-requires c κs = search needs
-
-enum-known-refusal : tie.Need-enum-known-refusal
-enum-known-refusal c = search needs
-
 returns : tie.Need-returns
 returns c = let s = c .before .before .before .before .before .before .before .before in check-unready (S s) (s .args .a .now) _ (sym (c .before .before .before .admit .ensures) ∙ c .before .refusal .given .1)
-
-enum-told : tie.Need-enum-told
-enum-told c = search needs
 
 totals-of-requires : tie.Need-totals-of-requires
 totals-of-requires c κs =
     let s = S (c .before .before .before .before .before .before .before) in
     let well = ready s (admitted c) .1 in
     (formed s well .clauses-fit, formed-rows s well)
-
-is-assignment-requires : tie.Need-is-assignment-requires
-is-assignment-requires c κs = search needs
 
 returns-2 : tie.Need-returns-2
 returns-2 c =
@@ -74,13 +62,5 @@ returns-3 c =
 pub check-spec : {M : Type 1} → statement M
 check-spec =
     tie.close
-    (tie.spec
-    admit-requires
-    enum-known-refusal
-    returns
-    enum-told
-    totals-of-requires
-    is-assignment-requires
-    returns-2
-    first-false-requires
+    (tie.spec (search needs) (search needs) returns (search needs) totals-of-requires (search needs) returns-2 first-false-requires
     returns-3)

@@ -17,37 +17,16 @@ S c = lent (c .args .counts) (c .args .literals .now) (c .args .ends .now) (c .a
 admitted : (c : tie.After-enum-told) → standingOf (S (c .before .before .before .before .before .before .before)) ≡ Standing.Ready
 admitted c = sym (c .before .before .admit .ensures) ∙ c .enum-told .given .1
 
-admit-requires : tie.Need-admit-requires
-admit-requires c κs = search needs
-
-enum-known-refusal : tie.Need-enum-known-refusal
-enum-known-refusal c = search needs
-
 returns : tie.Need-returns
 unfolding clauseSays clauseLeaves
 returns c = let s = c .before .before .before .before .before .before .before .before in unready-written (S s) (clauseBy (S s) (s .args .q) (length (s .args .out .now))) (lineOf (S s) (s .args .q)) (s .args .out .now) _ (sym (c .before .before .before .admit .ensures) ∙ c .before .refusal .given .1)
 
-enum-told : tie.Need-enum-told
-enum-told c = search needs
-
 clause-requires : tie.Need-clause-requires
 clause-requires c κs = ready (S (c .before .before .before .before .before .before .before .before)) (admitted (c .before)) .1
-
-same-length : tie.Need-same-length
-same-length c = search needs
 
 returns-2 : tie.Need-returns-2
 unfolding clauseSays clauseLeaves
 returns-2 c = let s = c .before .before .before .before .before .before .before .before .before .before .before in let w = c .before .before in ready-written (S s) (clauseBy (S s) (s .args .q) (length (s .args .out .now))) (lineOf (S s) (s .args .q)) (s .args .out .now) (admitted (c .before .before .before .before)) (w .clause .result) (w .clause .last .1 .1 .1 .1 .1 .0) (w .clause .ensures .0) (w .clause .ensures .1)
 
 pub clause-spec : {M : Type 1} → statement M
-clause-spec =
-    tie.close
-    (tie.spec
-    admit-requires
-    enum-known-refusal
-    returns
-    enum-told
-    clause-requires
-    same-length
-    returns-2)
+clause-spec = tie.close (tie.spec (search needs) (search needs) returns (search needs) clause-requires (search needs) returns-2)

@@ -15,12 +15,9 @@ returns-2 : tie.Need-returns-2
 unfolding compareSays
 returns-2 c = simp (eq-eqb _ _ (c .before .if1 .left), lt-leb _ _ (c .if2 .taken))
 
-first-difference-requires : tie.Need-first-difference-requires
-first-difference-requires c κs = search needs
-
 returns-3 : tie.Need-returns-3
 unfolding compareSays
 returns-3 c = simp (eq-eqb _ _ (c .before .before .if1 .left), le-leb _ _ (c .before .if2 .left)) (ap done (c .first-difference .ensures))
 
 pub compare-spec : {M : Type 1} → statement M
-compare-spec = tie.close (tie.spec returns returns-2 first-difference-requires returns-3)
+compare-spec = tie.close (tie.spec returns returns-2 (search needs) returns-3)

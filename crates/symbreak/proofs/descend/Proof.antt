@@ -28,23 +28,8 @@ start c = told c .before .before .before .before .before .before .before
 form : (c : tie.Else1) → isAssignment (start c .args .counts .variables) (start c .args .a .now) ≡ true
 form c = sym (c .before .is-assignment .ensures) ∙ not-false _ (c .if1 .left)
 
-admit-requires : tie.Need-admit-requires
-admit-requires c κs = search needs
-
-enum-known-refusal : tie.Need-enum-known-refusal
-enum-known-refusal c = search needs
-
 returns : tie.Need-returns
 returns c = let s = c .before .before .before .before .before .before .before .before in descend-unready (S s) (s .args .a .now) (s .args .limit) _ (sym (c .before .before .before .admit .ensures) ∙ c .before .refusal .given .1)
-
-enum-told : tie.Need-enum-told
-enum-told c = search needs
-
-is-assignment-requires : tie.Need-is-assignment-requires
-is-assignment-requires c κs = search needs
-
-same-length : tie.Need-same-length
-same-length c = search needs
 
 returns-2 : tie.Need-returns-2
 returns-2 c =
@@ -59,9 +44,6 @@ descend-requires c κs =
     let s = start i in
     (formed-rows (S s) (ready (S s) (admitted (told i)) .1), form i)
 
-same-length-2 : tie.Need-same-length-2
-same-length-2 c = search needs
-
 returns-3 : tie.Need-returns-3
 unfolding heldRows
 returns-3 c =
@@ -73,14 +55,5 @@ returns-3 c =
 pub descend-spec : {M : Type 1} → statement M
 descend-spec =
     tie.close
-    (tie.spec
-    admit-requires
-    enum-known-refusal
-    returns
-    enum-told
-    is-assignment-requires
-    same-length
-    returns-2
-    descend-requires
-    same-length-2
+    (tie.spec (search needs) (search needs) returns (search needs) (search needs) (search needs) returns-2 descend-requires (search needs)
     returns-3)

@@ -7,9 +7,6 @@ use borrow.Author.Needs.{needs}
 use Rattle.symbreak.proofs.efficiency.Statement.{statement}
 use Rattle.symbreak.proofs.efficiency.Tie as tie
 
-has-efficiency-requires : tie.Need-has-efficiency-requires
-has-efficiency-requires c κs = search needs
-
 returns : tie.Need-returns
 unfolding efficiencySays
 returns c = rw (sym (c .before .has-efficiency .ensures) ∙ not-true _ (c .if1 .taken))
@@ -22,5 +19,4 @@ unfolding efficiencySays
 returns-2 c = rw (sym (c .before .before .has-efficiency .ensures) ∙ not-false _ (c .before .if1 .left)) (ap done (c .efficiency .ensures))
 
 pub efficiency-spec : {M : Type 1} → statement M
-efficiency-spec =
-    tie.close (tie.spec has-efficiency-requires returns efficiency-requires returns-2)
+efficiency-spec = tie.close (tie.spec (search needs) returns efficiency-requires returns-2)

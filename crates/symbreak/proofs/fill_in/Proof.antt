@@ -35,20 +35,8 @@ form c = sym (c .before .is-assignment .ensures) ∙ not-false _ (c .if1 .left)
 needed : (c : tie.After-word-count) → c .word-count .result ≡ wordCount (variablesOf (S (start (c .before .before))))
 needed c = c .word-count .ensures ∙ ap wordCount (counted-variables (S (start (c .before .before))) (c .before .totals-of .ensures))
 
-admit-requires : tie.Need-admit-requires
-admit-requires c κs = search needs
-
-enum-known-refusal : tie.Need-enum-known-refusal
-enum-known-refusal c = search needs
-
 returns : tie.Need-returns
 returns c = let s = c .before .before .before .before .before .before .before .before .before in fill-unready (S s) (s .args .a .now) (s .args .out .now) _ (sym (c .before .before .before .admit .ensures) ∙ c .before .refusal .given .1)
-
-enum-told : tie.Need-enum-told
-enum-told c = search needs
-
-is-assignment-requires : tie.Need-is-assignment-requires
-is-assignment-requires c κs = search needs
 
 returns-2 : tie.Need-returns-2
 returns-2 c =
@@ -83,9 +71,6 @@ fill-requires c κs =
     let room = needed w in
     (formed-rows (S s) (ready (S s) (admitted (told e)) .1), form e, omega (arith, room, c .before .if2 .left))
 
-same-length : tie.Need-same-length
-same-length c = search needs
-
 returns-4 : tie.Need-returns-4
 unfolding variablesOf heldRows
 returns-4 c =
@@ -100,16 +85,5 @@ returns-4 c =
 pub fill-in-spec : {M : Type 1} → statement M
 fill-in-spec =
     tie.close
-    (tie.spec
-    admit-requires
-    enum-known-refusal
-    returns
-    enum-told
-    is-assignment-requires
-    returns-2
-    totals-of-requires
-    word-count-requires
-    returns-3
-    fill-requires
-    same-length
-    returns-4)
+    (tie.spec (search needs) (search needs) returns (search needs) (search needs) returns-2 totals-of-requires word-count-requires
+    returns-3 fill-requires (search needs) returns-4)

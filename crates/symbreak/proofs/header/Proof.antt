@@ -19,32 +19,17 @@ S c = lent (c .args .counts) (c .args .literals .now) (c .args .ends .now) (c .a
 admitted : (c : tie.After-enum-told) → standingOf (S (c .before .before .before .before .before .before .before)) ≡ Standing.Ready
 admitted c = sym (c .before .before .admit .ensures) ∙ c .enum-told .given .1
 
-admit-requires : tie.Need-admit-requires
-admit-requires c κs = search needs
-
-enum-known-refusal : tie.Need-enum-known-refusal
-enum-known-refusal c = search needs
-
 returns : tie.Need-returns
 unfolding headerSays headerLeaves
 returns c =
     let s = c .before .before .before .before .before .before .before .before in
     unready-written (S s) (headerBy (S s) (length (s .args .out .now))) (headerOf (S s)) (s .args .out .now) _ (sym (c .before .before .before .admit .ensures) ∙ c .before .refusal .given .1)
 
-enum-told : tie.Need-enum-told
-enum-told c = search needs
-
 totals-of-requires : tie.Need-totals-of-requires
 totals-of-requires c κs =
     let s = S (c .before .before .before .before .before .before .before) in
     let well = ready s (admitted c) .1 in
     (formed s well .clauses-fit, formed-rows s well)
-
-header-requires : tie.Need-header-requires
-header-requires c κs = search needs
-
-same-length : tie.Need-same-length
-same-length c = search needs
 
 returns-2 : tie.Need-returns-2
 unfolding headerSays headerLeaves headerBy
@@ -61,12 +46,4 @@ returns-2 c =
 pub header-spec : {M : Type 1} → statement M
 header-spec =
     tie.close
-    (tie.spec
-    admit-requires
-    enum-known-refusal
-    returns
-    enum-told
-    totals-of-requires
-    header-requires
-    same-length
-    returns-2)
+    (tie.spec (search needs) (search needs) returns (search needs) totals-of-requires (search needs) (search needs) returns-2)

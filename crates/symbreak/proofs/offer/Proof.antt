@@ -21,29 +21,8 @@ admitted c = sym (c .before .before .admit .ensures) ∙ c .enum-told .given .1
 formed : (c : tie.After-enum-told) → wellFormed (S (c .before .before .before .before .before .before .before .before .before)) ≡ true
 formed c = ready (S (c .before .before .before .before .before .before .before .before .before)) (admitted c) .1
 
-admit-requires : tie.Need-admit-requires
-admit-requires c κs = search needs
-
-enum-known-refusal : tie.Need-enum-known-refusal
-enum-known-refusal c = search needs
-
-turned-back-requires : tie.Need-turned-back-requires
-turned-back-requires c κs = search needs
-
-same-length : tie.Need-same-length
-same-length c = search needs
-
 returns : tie.Need-returns
 returns c = turned-back (S (c .before .before .before .before .before .before .before .before .before .before .before)) _ _ _ _ (c .turned-back .ensures) (unready (S (c .before .before .before .before .before .before .before .before .before .before .before)) _ _ _ (sym (c .before .before .before .before .admit .ensures) ∙ c .before .before .refusal .given .1))
-
-enum-told : tie.Need-enum-told
-enum-told c = search needs
-
-turned-back-requires-2 : tie.Need-turned-back-requires-2
-turned-back-requires-2 c κs = search needs
-
-same-length-2 : tie.Need-same-length-2
-same-length-2 c = search needs
 
 returns-2 : tie.Need-returns-2
 returns-2 c = turned-back (S (c .before .before .before .before .before .before .before .before .before .before .before .before)) _ _ _ _ (c .turned-back2 .ensures) (full (S (c .before .before .before .before .before .before .before .before .before .before .before .before)) _ _ (admitted (c .before .before .before)) (c .before .if1 .taken))
@@ -51,23 +30,11 @@ returns-2 c = turned-back (S (c .before .before .before .before .before .before 
 offer-requires : tie.Need-offer-requires
 offer-requires c κs = (formed (c .before .before .before), lt-of-le-ne (rest-of (S (c .before .before .before .before .before .before .before .before .before .before .before .before)) (formed (c .before .before .before)) .rows-fit) (c .before .if1 .left))
 
-enum-told-2 : tie.Need-enum-told-2
-enum-told-2 c = search needs
-
-enum-told-3 : tie.Need-enum-told-3
-enum-told-3 c = search needs
-
-same-length-3 : tie.Need-same-length-3
-same-length-3 c = search needs
-
 returns-3 : tie.Need-returns-3
 returns-3 c = refuses (S (c .before .before .before .before .before .before .before .before .before .before .before .before .before .before .before .before .before)) _ _ (c .before .before .before .before .offer .result) (c .before .before .before .before .offer .ensures .0) (tried (S (c .before .before .before .before .before .before .before .before .before .before .before .before .before .before .before .before .before)) _ _ (admitted (c .before .before .before .before .before .before .before .before)) (c .before .before .before .before .before .before .if1 .left)) (c .before .before .before .before .offer .last .1 .1 .1 .0) (c .before .before .before .before .offer .ensures .1) _ (c .enum-told3 .given .1)
 
 add-t16 : tie.Need-add-t16
 add-t16 c = omega (arith, rest-of (S (c .before .before .before .before .before .before .before .before .before .before .before .before .before .before .before .before .before .before)) (formed (c .before .before .before .before .before .before .before .before .before)) .rows-fit)
-
-same-length-4 : tie.Need-same-length-4
-same-length-4 c = search needs
 
 returns-4 : tie.Need-returns-4
 returns-4 c = accepts (S (c .before .before .before .before .before .before .before .before .before .before .before .before .before .before .before .before .before .before)) _ _ (c .before .before .before .before .before .offer .result) (c .before .before .before .before .before .offer .ensures .0) (tried (S (c .before .before .before .before .before .before .before .before .before .before .before .before .before .before .before .before .before .before)) _ _ (admitted (c .before .before .before .before .before .before .before .before .before)) (c .before .before .before .before .before .before .before .if1 .left)) (c .before .before .before .before .before .offer .last .1 .1 .1 .0) (c .before .before .before .before .before .offer .ensures .1) (c .before .enum-told2 .given .1)
@@ -75,21 +42,5 @@ returns-4 c = accepts (S (c .before .before .before .before .before .before .bef
 pub offer-spec : {M : Type 1} → statement M
 offer-spec =
     tie.close
-    (tie.spec
-    admit-requires
-    enum-known-refusal
-    turned-back-requires
-    same-length
-    returns
-    enum-told
-    turned-back-requires-2
-    same-length-2
-    returns-2
-    offer-requires
-    enum-told-2
-    enum-told-3
-    same-length-3
-    returns-3
-    add-t16
-    same-length-4
-    returns-4)
+    (tie.spec (search needs) (search needs) (search needs) (search needs) returns (search needs) (search needs) (search needs) returns-2
+    offer-requires (search needs) (search needs) (search needs) returns-3 add-t16 (search needs) returns-4)

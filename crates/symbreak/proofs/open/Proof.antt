@@ -9,29 +9,8 @@ use borrow.Author.Needs.{needs}
 use Rattle.symbreak.proofs.open.Statement.{statement}
 use Rattle.symbreak.proofs.open.Tie as tie
 
-open-requires : tie.Need-open-requires
-open-requires c κs = search needs
-
-enum-known-answer : tie.Need-enum-known-answer
-enum-known-answer c = search needs
-
-enum-told : tie.Need-enum-told
-enum-told c = search needs
-
-same-length : tie.Need-same-length
-same-length c = search needs
-
-same-length-2 : tie.Need-same-length-2
-same-length-2 c = search needs
-
 returns : tie.Need-returns
 returns c = let s = c .before .before .before .before .before .before .before .before .before .before .before .before in let o = c .before .before .before .before .before .before in open-meets (lent (s .args .counts) (s .args .literals .now) (s .args .ends .now) []) (s .args .text .now) (o .«open» .last .1 .0) (o .«open» .last .1 .1 .0) (o .«open» .result) (o .«open» .ensures .0) (o .«open» .ensures .1 .0) (o .«open» .ensures .1 .1) _ refl _ (sym (ap (λ (a : Opened). countsOpened a (s .args .counts)) (c .enum-told .given .1)))
-
-same-length-3 : tie.Need-same-length-3
-same-length-3 c = search needs
-
-same-length-4 : tie.Need-same-length-4
-same-length-4 c = search needs
 
 returns-2 : tie.Need-returns-2
 returns-2 c = let s = c .before .before .before .before .before .before .before .before .before .before .before .before .before in let o = c .before .before .before .before .before .before .before in open-meets (lent (s .args .counts) (s .args .literals .now) (s .args .ends .now) []) (s .args .text .now) (o .«open» .last .1 .0) (o .«open» .last .1 .1 .0) (o .«open» .result) (o .«open» .ensures .0) (o .«open» .ensures .1 .0) (o .«open» .ensures .1 .1) _ (c .before .answer .given .1) _ (sym (ap (λ (a : Opened). countsOpened a (s .args .counts)) (c .before .answer .given .1)))
@@ -39,13 +18,4 @@ returns-2 c = let s = c .before .before .before .before .before .before .before 
 pub open-spec : {M : Type 1} → statement M
 open-spec =
     tie.close
-    (tie.spec
-    open-requires
-    enum-known-answer
-    enum-told
-    same-length
-    same-length-2
-    returns
-    same-length-3
-    same-length-4
-    returns-2)
+    (tie.spec (search needs) (search needs) (search needs) (search needs) (search needs) returns (search needs) (search needs) returns-2)

@@ -6,7 +6,6 @@ use lib.ListN.{length, drop}
 use Rattle.lists.specs.Tests.{has}
 use Rattle.lists.proofs.Steps.{any-drop-hit, any-drop-miss, any-drop-end}
 use borrow.Author.Needs.{needs}
-use native.Mathlib.Omega.{arith}
 use Rattle.symmetry.proofs.contains.Statement.{statement}
 use Rattle.symmetry.proofs.contains.Tie as tie
 
@@ -19,25 +18,10 @@ abbrev μ-loop : tie.MeasureT-loop
 loop-holds : tie.Need-loop-holds Inv-loop μ-loop
 loop-holds c = refl
 
-mul-wide : tie.Need-mul-wide Inv-loop μ-loop
-mul-wide c = omega arith
-
-shared-slice-read-wide : tie.Need-shared-slice-read-wide Inv-loop μ-loop
-shared-slice-read-wide c = omega arith
-
-wide-requires : tie.Need-wide-requires Inv-loop μ-loop
-wide-requires c κs = search needs
-
 returns : tie.Need-returns Inv-loop μ-loop
 returns c =
     let at = c .before .before .before .before in
     sym (at .loop .inv ∙ any-drop-hit _ _ (at .loop .place) 0 (search needs) (eq-eqb _ _ (sym (c .before .wide .ensures .0) ∙ c .if1 .taken)))
-
-add-place : tie.Need-add-place Inv-loop μ-loop
-add-place c = omega arith
-
-loop-less : tie.Need-loop-less Inv-loop μ-loop
-loop-less c = omega arith
 
 loop-again : tie.Need-loop-again Inv-loop μ-loop
 loop-again c =
@@ -50,15 +34,5 @@ returns-2 c = let at = c .before in sym (at .loop .inv ∙ any-drop-end _ _ (at 
 pub contains-spec : {M : Type 1} → statement M
 contains-spec =
     tie.close
-    (tie.spec
-    Inv-loop
-    μ-loop
-    loop-holds
-    mul-wide
-    shared-slice-read-wide
-    wide-requires
-    returns
-    add-place
-    loop-less
-    loop-again
+    (tie.spec Inv-loop μ-loop loop-holds (search needs) (search needs) (search needs) returns (search needs) (search needs) loop-again
     returns-2)

@@ -4,12 +4,6 @@ use borrow.Author.Needs.{needs}
 use Rattle.symmetry.proofs.first_missing.Statement.{statement}
 use Rattle.symmetry.proofs.first_missing.Tie as tie
 
-slice-aggregate-index-clauses : tie.Need-slice-aggregate-index-clauses
-slice-aggregate-index-clauses c = search needs
-
-slice-aggregate-index-clauses-2 : tie.Need-slice-aggregate-index-clauses-2
-slice-aggregate-index-clauses-2 c = search needs
-
 index-clauses-requires : tie.Need-index-clauses-requires
 index-clauses-requires c κs = let s = c .before .before .before .before .before in (s .pre .clauses, s .pre .clauses-fit, refl, s .pre .clauses-fit)
 
@@ -31,11 +25,5 @@ returns c = c .first-missing-by .ensures
 pub first-missing-spec : {M : Type 1} → statement M
 first-missing-spec =
     tie.close
-    (tie.spec
-    slice-aggregate-index-clauses
-    slice-aggregate-index-clauses-2
-    index-clauses-requires
-    slice-aggregate-first-missing-by
-    slice-aggregate-first-missing-by-2
-    first-missing-by-requires
-    returns)
+    (tie.spec (search needs) (search needs) index-clauses-requires slice-aggregate-first-missing-by slice-aggregate-first-missing-by-2
+    first-missing-by-requires returns)

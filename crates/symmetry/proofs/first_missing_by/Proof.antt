@@ -12,6 +12,7 @@ use Rattle.store.proofs.Cuts.{clauses-count, clause-is}
 use Rattle.symmetry.specs.Symmetry.{missingFrom, firstMissing}
 use Rattle.symmetry.proofs.Missing.{missing-here, missing-later, missing-end}
 use native.Mathlib.Omega.{arith}
+use borrow.Author.Needs.{needs}
 use Rattle.symmetry.proofs.first_missing_by.Statement.{statement}
 use Rattle.symmetry.proofs.first_missing_by.Tie as tie
 
@@ -49,20 +50,11 @@ has-image-requires c κs =
     let h = at-hand c in
     (rw (h .1) (all-at (allOf (isLiteral _)) (formula s) [] (s .pre .0 .literals-fit) (at .loop .c) (h .0)), s .pre .0 .clauses, s .pre .1)
 
-add-result : tie.Need-add-result Inv-loop μ-loop
-add-result c = omega arith
-
 returns : tie.Need-returns Inv-loop μ-loop
 returns c =
     let at = c .before .before .before .before in
     let h = at-hand (c .before .before) in
     sym (at .loop .inv ∙ missing-here _ _ _ (at .loop .c) _ (h .1) (h .0) (sym (c .before .has-image .ensures) ∙ not-true _ (c .if1 .taken)))
-
-add-c : tie.Need-add-c Inv-loop μ-loop
-add-c c = omega arith
-
-loop-less : tie.Need-loop-less Inv-loop μ-loop
-loop-less c = omega arith
 
 loop-again : tie.Need-loop-again Inv-loop μ-loop
 loop-again c =
@@ -78,15 +70,5 @@ returns-2 c =
 pub first-missing-by-spec : {M : Type 1} → statement M
 first-missing-by-spec =
     tie.close
-    (tie.spec
-    Inv-loop
-    μ-loop
-    loop-holds
-    clause-requires
-    has-image-requires
-    add-result
-    returns
-    add-c
-    loop-less
-    loop-again
+    (tie.spec Inv-loop μ-loop loop-holds clause-requires has-image-requires (search needs) returns (search needs) (search needs) loop-again
     returns-2)

@@ -10,6 +10,7 @@ use Rattle.symmetry.specs.Symmetry.{clauseImage}
 use Rattle.symmetry.proofs.BucketLaws.{bucket-low}
 use Rattle.symmetry.proofs.Looking.{Looking, look-begin, look-on, look-falls, look-hit, look-end}
 use native.Mathlib.Omega.{arith}
+use borrow.Author.Needs.{needs}
 use Rattle.symmetry.proofs.has_image.Statement.{statement}
 use Rattle.symmetry.proofs.has_image.Tie as tie
 
@@ -52,9 +53,6 @@ loop-holds c =
     let s = c .before .before .before .before .before .before .before .before in
     look-begin _ _ _ (s .args .heads .now) (s .args .nexts .now) (s .pre .2) _ _ (c .before .of-image .ensures) (c .head .ensures)
 
-sub-c : tie.Need-sub-c Inv-loop μ-loop
-sub-c c = omega arith
-
 clause-requires : tie.Need-clause-requires Inv-loop μ-loop
 clause-requires c κs = (c .before .before .before .before .before .before .before .before .before .before .pre .1, inside c)
 
@@ -91,17 +89,5 @@ returns-2 c = let at = c .before in sym (look-end _ _ _ (at .loop .number) (at .
 pub has-image-spec : {M : Type 1} → statement M
 has-image-spec =
     tie.close
-    (tie.spec
-    Inv-loop
-    μ-loop
-    of-image-requires
-    head-requires
-    loop-holds
-    sub-c
-    clause-requires
-    is-image-requires
-    returns
-    next-requires
-    loop-less
-    loop-again
-    returns-2)
+    (tie.spec Inv-loop μ-loop of-image-requires head-requires loop-holds (search needs) clause-requires is-image-requires returns
+    next-requires loop-less loop-again returns-2)

@@ -21,9 +21,6 @@ read c =
     let a = c .before .before .before .before .args in
     c .wide .ensures .0 ∙ ap (λ (k : ℕ). getD (a .row .now) (k - 1) 0) (c .before .before .variable .ensures)
 
-variable-requires : tie.Need-variable-requires
-variable-requires c κs = search needs
-
 sub-wide : tie.Need-sub-wide
 sub-wide c = omega (arith, bounds c)
 
@@ -32,15 +29,6 @@ mul-wide c = omega (arith, bounds c)
 
 shared-slice-read-wide : tie.Need-shared-slice-read-wide
 shared-slice-read-wide c = omega (arith, bounds (c .before))
-
-wide-requires : tie.Need-wide-requires
-wide-requires c κs = search needs
-
-is-negative-requires : tie.Need-is-negative-requires
-is-negative-requires c κs = search needs
-
-opposite-requires : tie.Need-opposite-requires
-opposite-requires c κs = search needs
 
 returns : tie.Need-returns
 returns c =
@@ -53,13 +41,4 @@ returns-2 c = read (c .before .before) ∙ sym (image-of-positive _ _ (sym (c .b
 pub image-spec : {M : Type 1} → statement M
 image-spec =
     tie.close
-    (tie.spec
-    variable-requires
-    sub-wide
-    mul-wide
-    shared-slice-read-wide
-    wide-requires
-    is-negative-requires
-    opposite-requires
-    returns
-    returns-2)
+    (tie.spec (search needs) sub-wide mul-wide shared-slice-read-wide (search needs) (search needs) (search needs) returns returns-2)

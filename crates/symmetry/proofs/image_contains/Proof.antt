@@ -30,15 +30,6 @@ compared c =
 loop-holds : tie.Need-loop-holds Inv-loop μ-loop
 loop-holds c = refl
 
-mul-wide : tie.Need-mul-wide Inv-loop μ-loop
-mul-wide c = omega arith
-
-shared-slice-read-wide : tie.Need-shared-slice-read-wide Inv-loop μ-loop
-shared-slice-read-wide c = omega arith
-
-wide-requires : tie.Need-wide-requires Inv-loop μ-loop
-wide-requires c κs = search needs
-
 image-requires : tie.Need-image-requires Inv-loop μ-loop
 image-requires c κs =
     let at = c .before .before .before in
@@ -50,12 +41,6 @@ returns c =
     let at = c .before .before .before .before .before in
     let i = compared (c .before) in
     sym (at .loop .inv ∙ any-drop-hit _ _ (at .loop .at) 0 (i .0) (eq-eqb _ _ (sym (i .1) ∙ c .if1 .taken)))
-
-add-at : tie.Need-add-at Inv-loop μ-loop
-add-at c = omega arith
-
-loop-less : tie.Need-loop-less Inv-loop μ-loop
-loop-less c = omega arith
 
 loop-again : tie.Need-loop-again Inv-loop μ-loop
 loop-again c =
@@ -72,16 +57,5 @@ returns-2 c =
 pub image-contains-spec : {M : Type 1} → statement M
 image-contains-spec =
     tie.close
-    (tie.spec
-    Inv-loop
-    μ-loop
-    loop-holds
-    mul-wide
-    shared-slice-read-wide
-    wide-requires
-    image-requires
-    returns
-    add-at
-    loop-less
-    loop-again
-    returns-2)
+    (tie.spec Inv-loop μ-loop loop-holds (search needs) (search needs) (search needs) image-requires returns (search needs) (search needs)
+    loop-again returns-2)

@@ -34,35 +34,17 @@ loop-holds : tie.Need-loop-holds Inv-loop μ-loop
 unfolding within
 loop-holds c = refl
 
-mul-wide : tie.Need-mul-wide Inv-loop μ-loop
-mul-wide c = omega arith
-
-shared-slice-read-wide : tie.Need-shared-slice-read-wide Inv-loop μ-loop
-shared-slice-read-wide c = omega arith
-
-wide-requires : tie.Need-wide-requires Inv-loop μ-loop
-wide-requires c κs = search needs
-
 image-requires : tie.Need-image-requires Inv-loop μ-loop
 image-requires c κs =
     let at = c .before .before .before in
     let s = at .before .before .before .before in
     fitting-at (s .args .row .now) (s .args .clause .now) (at .loop .i) _ (omega arith) (c .wide .ensures .0) (s .pre)
 
-contains-requires : tie.Need-contains-requires Inv-loop μ-loop
-contains-requires c κs = search needs
-
 returns : tie.Need-returns Inv-loop μ-loop
 returns c =
     let at = c .before .before .before .before .before .before in
     let a = at .before .before .before .before .args in
     sym (at .loop .inv ∙ all-drop-miss (has (a .other .now)) _ (at .loop .i) 0 (omega (arith, image-length (a .row .now) (a .clause .now))) (sym (tested (c .before)) ∙ not-true _ (c .if1 .taken)))
-
-add-i : tie.Need-add-i Inv-loop μ-loop
-add-i c = omega arith
-
-loop-less : tie.Need-loop-less Inv-loop μ-loop
-loop-less c = omega arith
 
 loop-again : tie.Need-loop-again Inv-loop μ-loop
 loop-again c =
@@ -79,17 +61,5 @@ returns-2 c =
 pub images-within-spec : {M : Type 1} → statement M
 images-within-spec =
     tie.close
-    (tie.spec
-    Inv-loop
-    μ-loop
-    loop-holds
-    mul-wide
-    shared-slice-read-wide
-    wide-requires
-    image-requires
-    contains-requires
-    returns
-    add-i
-    loop-less
-    loop-again
-    returns-2)
+    (tie.spec Inv-loop μ-loop loop-holds (search needs) (search needs) (search needs) image-requires (search needs) returns (search needs)
+    (search needs) loop-again returns-2)

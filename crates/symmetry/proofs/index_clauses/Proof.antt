@@ -45,21 +45,12 @@ loop-holds c =
 clause-requires : tie.Need-clause-requires Inv-loop μ-loop
 clause-requires c κs = (c .before .before .before .before .before .before .pre .0, omega arith)
 
-of-clause-requires : tie.Need-of-clause-requires Inv-loop μ-loop
-of-clause-requires c κs = search needs
-
 put-requires : tie.Need-put-requires Inv-loop μ-loop
 put-requires c κs =
     let at = c .before .before .before .before .before in
     let s = at .before .before .before .before .before in
     let inv = at .loop .inv in
     (omega (arith, found c, bucket-low (getD (formula s) (at .loop .c) []), inv .2, heads-long s), omega (arith, inv .3, s .pre .3), omega (arith, s .pre .1))
-
-add-c : tie.Need-add-c Inv-loop μ-loop
-add-c c = omega arith
-
-loop-less : tie.Need-loop-less Inv-loop μ-loop
-loop-less c = omega arith
 
 loop-again : tie.Need-loop-again Inv-loop μ-loop
 loop-again c =
@@ -87,16 +78,5 @@ returns c =
 pub index-clauses-spec : {M : Type 1} → statement M
 index-clauses-spec =
     tie.close
-    (tie.spec
-    Inv-loop
-    μ-loop
-    loop-holds
-    clause-requires
-    of-clause-requires
-    put-requires
-    add-c
-    loop-less
-    loop-again
-    same-length
-    same-length-2
-    returns)
+    (tie.spec Inv-loop μ-loop loop-holds clause-requires (search needs) put-requires (search needs) (search needs) loop-again same-length
+    same-length-2 returns)

@@ -5,15 +5,9 @@ use borrow.Author.Needs.{needs}
 use Rattle.symmetry.proofs.is_image.Statement.{statement}
 use Rattle.symmetry.proofs.is_image.Tie as tie
 
-images-within-requires : tie.Need-images-within-requires
-images-within-requires c κs = search needs
-
 returns : tie.Need-returns
 unfolding sameSet
 returns c = rw (← (c .before .images-within .ensures), not-true (c .before .images-within .result) (c .if1 .taken))
-
-within-images-requires : tie.Need-within-images-requires
-within-images-requires c κs = search needs
 
 returns-2 : tie.Need-returns-2
 unfolding sameSet
@@ -22,5 +16,4 @@ returns-2 c =
     rw (← (at .images-within .ensures), not-false (at .images-within .result) (c .before .if1 .left)) (c .within-images .ensures)
 
 pub is-image-spec : {M : Type 1} → statement M
-is-image-spec =
-    tie.close (tie.spec images-within-requires returns within-images-requires returns-2)
+is-image-spec = tie.close (tie.spec (λ c κs. search needs) returns (λ c κs. search needs) returns-2)

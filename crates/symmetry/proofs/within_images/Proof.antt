@@ -9,7 +9,6 @@ use Rattle.lists.proofs.Steps.{all-drop-hit, all-drop-miss, all-drop-end}
 use Rattle.symmetry.specs.Sets.{within}
 use Rattle.symmetry.specs.Symmetry.{clauseImage}
 use borrow.Author.Needs.{needs}
-use native.Mathlib.Omega.{arith}
 use Rattle.symmetry.proofs.within_images.Statement.{statement}
 use Rattle.symmetry.proofs.within_images.Tie as tie
 
@@ -29,28 +28,10 @@ loop-holds : tie.Need-loop-holds Inv-loop μ-loop
 unfolding within
 loop-holds c = refl
 
-mul-wide : tie.Need-mul-wide Inv-loop μ-loop
-mul-wide c = omega arith
-
-shared-slice-read-wide : tie.Need-shared-slice-read-wide Inv-loop μ-loop
-shared-slice-read-wide c = omega arith
-
-wide-requires : tie.Need-wide-requires Inv-loop μ-loop
-wide-requires c κs = search needs
-
-image-contains-requires : tie.Need-image-contains-requires Inv-loop μ-loop
-image-contains-requires c κs = search needs
-
 returns : tie.Need-returns Inv-loop μ-loop
 returns c =
     let at = c .before .before .before .before .before in
     sym (at .loop .inv ∙ all-drop-miss (has _) _ (at .loop .i) 0 (search needs) (sym (tested (c .before)) ∙ not-true _ (c .if1 .taken)))
-
-add-i : tie.Need-add-i Inv-loop μ-loop
-add-i c = omega arith
-
-loop-less : tie.Need-loop-less Inv-loop μ-loop
-loop-less c = omega arith
 
 loop-again : tie.Need-loop-again Inv-loop μ-loop
 loop-again c =
@@ -63,16 +44,5 @@ returns-2 c = let at = c .before in sym (at .loop .inv ∙ all-drop-end (has _) 
 pub within-images-spec : {M : Type 1} → statement M
 within-images-spec =
     tie.close
-    (tie.spec
-    Inv-loop
-    μ-loop
-    loop-holds
-    mul-wide
-    shared-slice-read-wide
-    wide-requires
-    image-contains-requires
-    returns
-    add-i
-    loop-less
-    loop-again
-    returns-2)
+    (tie.spec Inv-loop μ-loop loop-holds (search needs) (search needs) (search needs) (λ c κs. search needs) returns (search needs)
+    (search needs) loop-again returns-2)

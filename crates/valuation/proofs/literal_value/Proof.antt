@@ -11,14 +11,8 @@ use Rattle.valuation.proofs.Values.{negative-value, positive-value}
 use Rattle.valuation.proofs.literal_value.Statement.{statement}
 use Rattle.valuation.proofs.literal_value.Tie as tie
 
-variable-requires : tie.Need-variable-requires
-variable-requires c κs = search needs
-
 value-requires : tie.Need-value-requires
 value-requires c κs = let s = c .before .before in rw (c .variable .ensures) (s .pre)
-
-is-negative-requires : tie.Need-is-negative-requires
-is-negative-requires c κs = search needs
 
 -- the value of the literal's variable
 found : (c : tie.After-value) (n : ℕ) → let a = c .before .before .before .args in variableOf (a .code) ≤ n → c .value .result ≡ valueOf (bitsOf n (a .a .now)) (variableOf (a .code))
@@ -33,4 +27,4 @@ returns-2 : tie.Need-returns-2
 returns-2 c n h = positive-value _ _ _ (found (c .before .before) n h) (eqb-false _ 1 (sym (c .before .is-negative .ensures) ∙ c .if1 .left))
 
 pub literal-value-spec : {M : Type 1} → statement M
-literal-value-spec = tie.close (tie.spec variable-requires value-requires is-negative-requires returns returns-2)
+literal-value-spec = tie.close (tie.spec (search needs) value-requires (search needs) returns returns-2)

@@ -20,29 +20,8 @@ abbrev μ-loop : tie.MeasureT-loop
 loop-holds : tie.Need-loop-holds Inv-loop μ-loop
 loop-holds c = (omega arith, omega arith, refl, begun-none _ _)
 
-value-requires : tie.Need-value-requires Inv-loop μ-loop
-value-requires c κs = search needs
-
-mul-values : tie.Need-mul-values Inv-loop μ-loop
-mul-values c = omega arith
-
-slice-write-values : tie.Need-slice-write-values Inv-loop μ-loop
-slice-write-values c = omega arith
-
-mul-values-2 : tie.Need-mul-values-2 Inv-loop μ-loop
-mul-values-2 c = omega arith
-
-add-values : tie.Need-add-values Inv-loop μ-loop
-add-values c = omega arith
-
 slice-write-values-2 : tie.Need-slice-write-values-2 Inv-loop μ-loop
 slice-write-values-2 c = simp length-set (omega arith)
-
-add-i : tie.Need-add-i Inv-loop μ-loop
-add-i c = omega arith
-
-loop-less : tie.Need-loop-less Inv-loop μ-loop
-loop-less c = omega arith
 
 loop-again : tie.Need-loop-again Inv-loop μ-loop
 loop-again c =
@@ -63,18 +42,5 @@ returns c =
 pub tabulate-spec : {M : Type 1} → statement M
 tabulate-spec =
     tie.close
-    (tie.spec
-    Inv-loop
-    μ-loop
-    loop-holds
-    value-requires
-    mul-values
-    slice-write-values
-    mul-values-2
-    add-values
-    slice-write-values-2
-    add-i
-    loop-less
-    loop-again
-    same-length
-    returns)
+    (tie.spec Inv-loop μ-loop loop-holds (search needs) (search needs) (search needs) (search needs) (search needs) slice-write-values-2
+    (search needs) (search needs) loop-again same-length returns)

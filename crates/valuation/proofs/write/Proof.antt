@@ -20,15 +20,6 @@ abbrev μ-loop : tie.MeasureT-loop
 loop-holds : tie.Need-loop-holds Inv-loop μ-loop
 loop-holds c = let a = c .before .before .before .args in (omega arith, rw (bits-none (a .values .now)) (c .begin .ensures (a .out .now)))
 
-begin-requires : tie.Need-begin-requires Inv-loop μ-loop
-begin-requires c κs = search needs
-
-mul-push : tie.Need-mul-push Inv-loop μ-loop
-mul-push c = omega arith
-
-add-push : tie.Need-add-push Inv-loop μ-loop
-add-push c = omega arith
-
 shared-slice-read-push : tie.Need-shared-slice-read-push Inv-loop μ-loop
 shared-slice-read-push c = let s = c .before .before .before .before .before .before .before in omega (arith, s .pre .1 .room)
 
@@ -39,12 +30,6 @@ push-requires c κs =
     let taken = length-in (l .loop .i) (l .before .before .before .before .args .values .now) in
     let h = l .loop .inv .1 in
     (room-for h 1 (omega (arith, taken)) (omega (arith, taken)), omega arith, omega arith, omega arith)
-
-add-i : tie.Need-add-i Inv-loop μ-loop
-add-i c = omega arith
-
-loop-less : tie.Need-loop-less Inv-loop μ-loop
-loop-less c = omega arith
 
 loop-again : tie.Need-loop-again Inv-loop μ-loop
 loop-again c =
@@ -65,17 +50,5 @@ returns c =
 pub write-spec : {M : Type 1} → statement M
 write-spec =
     tie.close
-    (tie.spec
-    Inv-loop
-    μ-loop
-    begin-requires
-    loop-holds
-    mul-push
-    add-push
-    shared-slice-read-push
-    push-requires
-    add-i
-    loop-less
-    loop-again
-    same-length
-    returns)
+    (tie.spec Inv-loop μ-loop (search needs) loop-holds (search needs) (search needs) shared-slice-read-push push-requires (search needs)
+    (search needs) loop-again same-length returns)

@@ -8,18 +8,9 @@ use native.Mathlib.Omega.{arith}
 use Rattle.lexleader.proofs.counting.added_by.Statement.{statement}
 use Rattle.lexleader.proofs.counting.added_by.Tie as tie
 
-pair-count-requires : tie.Need-pair-count-requires
-pair-count-requires c κs = search needs
-
 returns : tie.Need-returns
 unfolding auxiliaries
 returns c = let row = c .before .before .before .args .row .now in (omega arith, λ e. c .before .pair-count .ensures ∙ sym (row-few e row (omega arith)))
-
-sub-t4 : tie.Need-sub-t4
-sub-t4 c = search needs
-
-sub-t5 : tie.Need-sub-t5
-sub-t5 c = search needs
 
 mul-t6 : tie.Need-mul-t6
 mul-t6 c = omega (arith, pairs-length (c .before .before .before .args .row .now))
@@ -29,4 +20,4 @@ unfolding auxiliaries
 returns-2 c = let row = c .before .before .before .args .row .now in (omega arith, λ e. omega (arith, row-many e row (omega arith)))
 
 pub added-by-spec : {M : Type 1} → statement M
-added-by-spec = tie.close (tie.spec pair-count-requires returns sub-t4 sub-t5 mul-t6 returns-2)
+added-by-spec = tie.close (tie.spec (search needs) returns (search needs) (search needs) mul-t6 returns-2)

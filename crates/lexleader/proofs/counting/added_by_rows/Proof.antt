@@ -6,6 +6,7 @@ use native.Mathlib.Omega.{arith}
 use lib.ListN.{length}
 use Rattle.store.proofs.RowLaws.{row-room, row-size}
 use Rattle.lexleader.proofs.Left.{Adds, Summed, summed-none, summed-more, summed-all}
+use borrow.Author.Needs.{needs}
 use Rattle.lexleader.proofs.counting.added_by_rows.Statement.{statement}
 use Rattle.lexleader.proofs.counting.added_by_rows.Tie as tie
 
@@ -42,12 +43,6 @@ add-auxiliaries c = omega (arith, more (c .before) .few-auxiliaries, c .before .
 add-clauses : tie.Need-add-clauses Inv-loop μ-loop
 add-clauses c = omega (arith, more (c .before .before) .few-clauses, c .before .before .before .before .before .before .before .pre .few)
 
-add-r : tie.Need-add-r Inv-loop μ-loop
-add-r c = omega arith
-
-loop-less : tie.Need-loop-less Inv-loop μ-loop
-loop-less c = omega arith
-
 loop-again : tie.Need-loop-again Inv-loop μ-loop
 loop-again c = more (c .before .before)
 
@@ -61,15 +56,5 @@ returns c =
 pub added-by-rows-spec : {M : Type 1} → statement M
 added-by-rows-spec =
     tie.close
-    (tie.spec
-    Inv-loop
-    μ-loop
-    loop-holds
-    row-requires
-    added-by-requires
-    add-auxiliaries
-    add-clauses
-    add-r
-    loop-less
-    loop-again
-    returns)
+    (tie.spec Inv-loop μ-loop loop-holds row-requires added-by-requires add-auxiliaries add-clauses (search needs) (search needs)
+    loop-again returns)

@@ -6,6 +6,7 @@ use lib.ListN.{length}
 use Rattle.lexleader.specs.Rows.{pairsOf}
 use Rattle.lexleader.specs.Clause.{pairsAt}
 use Rattle.lexleader.proofs.Walk.{pairs-start, walk-counts, walk-end}
+use borrow.Author.Needs.{needs}
 use Rattle.lexleader.proofs.counting.pair_count.Statement.{statement}
 use Rattle.lexleader.proofs.counting.pair_count.Tie as tie
 
@@ -18,37 +19,16 @@ abbrev μ-loop : tie.MeasureT-loop
 loop-holds : tie.Need-loop-holds Inv-loop μ-loop
 loop-holds c = (omega arith, omega arith, omega arith, omega (arith, ap length (pairs-start (c .args .row .now))))
 
-mul-count : tie.Need-mul-count Inv-loop μ-loop
-mul-count c = omega arith
-
-shared-slice-read-count : tie.Need-shared-slice-read-count Inv-loop μ-loop
-shared-slice-read-count c = omega arith
-
-cast-count : tie.Need-cast-count Inv-loop μ-loop
-cast-count c = omega arith
-
 add-count : tie.Need-add-count Inv-loop μ-loop
 add-count c =
     let l = c .before .before in
     omega (arith, walk-counts (l .before .args .row .now) (l .loop .i) (l .loop .own) (omega arith) (l .loop .inv .2))
-
-add-own : tie.Need-add-own Inv-loop μ-loop
-add-own c = omega arith
-
-add-i : tie.Need-add-i Inv-loop μ-loop
-add-i c = omega arith
-
-loop-less : tie.Need-loop-less Inv-loop μ-loop
-loop-less c = omega arith
 
 loop-again : tie.Need-loop-again Inv-loop μ-loop
 loop-again c =
     let l = c .before .before in
     let step = walk-counts (l .before .args .row .now) (l .loop .i) (l .loop .own) (omega arith) (l .loop .inv .2) in
     (omega arith, omega (arith, step), omega arith, omega (arith, step))
-
-cast-result : tie.Need-cast-result Inv-loop μ-loop
-cast-result c = omega arith
 
 returns : tie.Need-returns Inv-loop μ-loop
 returns c =
@@ -58,17 +38,5 @@ returns c =
 pub pair-count-spec : {M : Type 1} → statement M
 pair-count-spec =
     tie.close
-    (tie.spec
-    Inv-loop
-    μ-loop
-    loop-holds
-    mul-count
-    shared-slice-read-count
-    cast-count
-    add-count
-    add-own
-    add-i
-    loop-less
-    loop-again
-    cast-result
-    returns)
+    (tie.spec Inv-loop μ-loop loop-holds (search needs) (search needs) (search needs) add-count (search needs) (search needs)
+    (search needs) loop-again (search needs) returns)

@@ -7,15 +7,6 @@ use borrow.Author.Needs.{needs}
 use Rattle.lexleader.proofs.counting.totals_of.Statement.{statement}
 use Rattle.lexleader.proofs.counting.totals_of.Tie as tie
 
-added-by-rows-requires : tie.Need-added-by-rows-requires
-added-by-rows-requires c κs = search needs
-
-add-t4 : tie.Need-add-t4
-add-t4 c = search needs
-
-add-t5 : tie.Need-add-t5
-add-t5 c = search needs
-
 returns : tie.Need-returns
 unfolding madeVariables
 returns c =
@@ -30,4 +21,4 @@ returns c =
     }
 
 pub totals-of-spec : {M : Type 1} → statement M
-totals-of-spec = tie.close (tie.spec added-by-rows-requires add-t4 add-t5 returns)
+totals-of-spec = tie.close (tie.spec (λ c κs. search needs) (search needs) (search needs) returns)

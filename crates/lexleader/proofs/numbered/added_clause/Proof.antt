@@ -98,17 +98,5 @@ loop-again c = later c
 pub added-clause-spec : {M : Type 1} → statement M
 added-clause-spec =
     tie.close
-    (tie.spec
-    Inv-loop
-    μ-loop
-    add-e
-    loop-holds
-    row-requires
-    added-by-requires
-    cast-row-clause
-    row-clause-requires
-    returns
-    add-e-2
-    add-r
-    loop-less
-    loop-again)
+    (tie.spec Inv-loop μ-loop add-e loop-holds row-requires added-by-requires cast-row-clause row-clause-requires returns add-e-2 add-r
+    loop-less loop-again)

@@ -18,26 +18,11 @@ Inv-loop row j i₀ k₀ i k = (1 ≤ k) × (k ≤ j) × (i < length row) × (dr
 abbrev μ-loop : tie.MeasureT-loop
 μ-loop row j i₀ k₀ i k = j - k
 
-next-moved-requires : tie.Need-next-moved-requires Inv-loop μ-loop
-next-moved-requires c κs = search needs
-
 loop-holds : tie.Need-loop-holds Inv-loop μ-loop
 loop-holds c =
     let a = c .before .before in
     let f = next-found (a .args .row .now) 0 0 (c .next-moved .result) (c .next-moved .ensures) (pairs-start (a .args .row .now)) (omega arith) in
     (omega arith, omega arith, f .0, f .1, f .2)
-
-add-next-moved : tie.Need-add-next-moved Inv-loop μ-loop
-add-next-moved c = omega arith
-
-next-moved-requires-2 : tie.Need-next-moved-requires-2 Inv-loop μ-loop
-next-moved-requires-2 c κs = search needs
-
-add-k : tie.Need-add-k Inv-loop μ-loop
-add-k c = omega arith
-
-loop-less : tie.Need-loop-less Inv-loop μ-loop
-loop-less c = omega arith
 
 loop-again : tie.Need-loop-again Inv-loop μ-loop
 loop-again c =
@@ -55,14 +40,4 @@ returns c = let l = c .before in let e : l .loop .k ≡ l .before .before .befor
 pub moved-at-spec : {M : Type 1} → statement M
 moved-at-spec =
     tie.close
-    (tie.spec
-    Inv-loop
-    μ-loop
-    next-moved-requires
-    loop-holds
-    add-next-moved
-    next-moved-requires-2
-    add-k
-    loop-less
-    loop-again
-    returns)
+    (tie.spec Inv-loop μ-loop (search needs) loop-holds (search needs) (search needs) (search needs) (search needs) loop-again returns)

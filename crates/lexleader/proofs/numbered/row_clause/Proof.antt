@@ -20,17 +20,8 @@ number c =
     let row = c .args .row .now in
     (omega (arith, row-most (c .args .e) row), omega (arith, row-most (c .args .e) row, pairs-length row))
 
-add-moved-at : tie.Need-add-moved-at
-add-moved-at c = search needs
-
 moved-at-requires : tie.Need-moved-at-requires
 moved-at-requires c κs = let s = c .before in (s .pre .0, omega arith, number s .0)
-
-add-next-moved : tie.Need-add-next-moved
-add-next-moved c = search needs
-
-next-moved-requires : tie.Need-next-moved-requires
-next-moved-requires c κs = search needs
 
 cast-t9 : tie.Need-cast-t9
 cast-t9 c = omega (arith, number (c .before .before .before) .1)
@@ -40,9 +31,6 @@ add-t10 c = omega (arith, number (c .before .before .before) .1)
 
 add-t8 : tie.Need-add-t8
 add-t8 c = omega (arith, number (c .before .before .before) .1)
-
-add-t12 : tie.Need-add-t12
-add-t12 c = search needs
 
 clause-at-requires : tie.Need-clause-at-requires
 clause-at-requires c κs =
@@ -69,14 +57,5 @@ returns c =
 pub row-clause-spec : {M : Type 1} → statement M
 row-clause-spec =
     tie.close
-    (tie.spec
-    add-moved-at
-    moved-at-requires
-    add-next-moved
-    next-moved-requires
-    cast-t9
-    add-t10
-    add-t8
-    add-t12
-    clause-at-requires
+    (tie.spec (search needs) moved-at-requires (search needs) (search needs) cast-t9 add-t10 add-t8 (search needs) clause-at-requires
     returns)

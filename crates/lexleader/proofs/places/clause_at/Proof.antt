@@ -8,18 +8,6 @@ use borrow.Author.Needs.{needs}
 use Rattle.lexleader.proofs.places.clause_at.Statement.{statement}
 use Rattle.lexleader.proofs.places.clause_at.Tie as tie
 
-own-code-requires : tie.Need-own-code-requires
-own-code-requires c κs = search needs
-
-mul-wide : tie.Need-mul-wide
-mul-wide c = search needs
-
-shared-slice-read-wide : tie.Need-shared-slice-read-wide
-shared-slice-read-wide c = search needs
-
-wide-requires : tie.Need-wide-requires
-wide-requires c κs = search needs
-
 table-clause-requires : tie.Need-table-clause-requires
 table-clause-requires c κs =
     let s = c .before .before .before .before .before in
@@ -40,14 +28,8 @@ returns c =
 own-code-requires-2 : tie.Need-own-code-requires-2
 own-code-requires-2 c κs = let s = c .before .before .before .before .before in omega (arith, s .pre .stands .then (s .pre .inside) .within)
 
-mul-wide-2 : tie.Need-mul-wide-2
-mul-wide-2 c = search needs
-
 shared-slice-read-wide-2 : tie.Need-shared-slice-read-wide-2
 shared-slice-read-wide-2 c = let s = c .before .before .before .before .before .before .before in omega (arith, s .pre .stands .then (s .pre .inside) .within)
-
-wide-requires-2 : tie.Need-wide-requires-2
-wide-requires-2 c κs = search needs
 
 table-clause-requires-2 : tie.Need-table-clause-requires-2
 table-clause-requires-2 c κs =
@@ -72,16 +54,5 @@ returns-2 c =
 pub clause-at-spec : {M : Type 1} → statement M
 clause-at-spec =
     tie.close
-    (tie.spec
-    own-code-requires
-    mul-wide
-    shared-slice-read-wide
-    wide-requires
-    table-clause-requires
-    returns
-    own-code-requires-2
-    mul-wide-2
-    shared-slice-read-wide-2
-    wide-requires-2
-    table-clause-requires-2
-    returns-2)
+    (tie.spec (search needs) (search needs) (search needs) (search needs) table-clause-requires returns own-code-requires-2 (search needs)
+    shared-slice-read-wide-2 (search needs) table-clause-requires-2 returns-2)

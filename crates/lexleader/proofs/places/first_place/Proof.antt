@@ -6,24 +6,12 @@ use borrow.Author.Needs.{needs}
 use Rattle.lexleader.proofs.places.first_place.Statement.{statement}
 use Rattle.lexleader.proofs.places.first_place.Tie as tie
 
-next-moved-requires : tie.Need-next-moved-requires
-next-moved-requires c κs = search needs
-
-no-place-requires : tie.Need-no-place-requires
-no-place-requires c κs = search needs
-
 returns : tie.Need-returns
 returns c =
     let n = c .before .before in
     let a = n .before .before .args in
     let none = first-none (a .row .now) (a .e) (n .next-moved .result) (n .next-moved .ensures) (omega arith) in
     at-last (a .row .now) (a .e) (c .no-place .result) (c .no-place .ensures) (omega (arith, none .1)) (none .0) (none .1)
-
-add-next-moved : tie.Need-add-next-moved
-add-next-moved c = search needs
-
-next-moved-requires-2 : tie.Need-next-moved-requires-2
-next-moved-requires-2 c κs = search needs
 
 returns-2 : tie.Need-returns-2
 returns-2 c =
@@ -37,12 +25,4 @@ returns-2 c =
     (n .before .before .pre .1)
 
 pub first-place-spec : {M : Type 1} → statement M
-first-place-spec =
-    tie.close
-    (tie.spec
-    next-moved-requires
-    no-place-requires
-    returns
-    add-next-moved
-    next-moved-requires-2
-    returns-2)
+first-place-spec = tie.close (tie.spec (search needs) (search needs) returns (search needs) (search needs) returns-2)

@@ -10,15 +10,6 @@ use Rattle.lexleader.proofs.places.next_auxiliary.Tie as tie
 add-e : tie.Need-add-e
 add-e c = let s = c .before .before in omega (arith, few-auxiliaries (s .args .row .now) (s .args .place) (s .pre .0 .stands))
 
-add-next-moved : tie.Need-add-next-moved
-add-next-moved c = search needs
-
-next-moved-requires : tie.Need-next-moved-requires
-next-moved-requires c κs = search needs
-
-no-place-requires : tie.Need-no-place-requires
-no-place-requires c κs = search needs
-
 returns : tie.Need-returns
 returns c =
     let n = c .before .before in
@@ -50,5 +41,4 @@ returns-2 c =
     (λ last. absurd (omega arith)) (omega arith) (omega (arith, r .stands .early, then .onward)) refl refl (omega (arith, few, r .stands .few)))
 
 pub next-auxiliary-spec : {M : Type 1} → statement M
-next-auxiliary-spec =
-    tie.close (tie.spec add-e add-next-moved next-moved-requires no-place-requires returns add-t5 returns-2)
+next-auxiliary-spec = tie.close (tie.spec add-e (search needs) (search needs) (search needs) returns add-t5 returns-2)

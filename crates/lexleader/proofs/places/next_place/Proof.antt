@@ -10,9 +10,6 @@ use borrow.Author.Needs.{needs}
 use Rattle.lexleader.proofs.places.next_place.Statement.{statement}
 use Rattle.lexleader.proofs.places.next_place.Tie as tie
 
-no-place-requires : tie.Need-no-place-requires
-no-place-requires c κs = search needs
-
 returns : tie.Need-returns
 returns c =
     let s = c .before .before .before .before in
@@ -23,9 +20,6 @@ returns c =
     let z = at-last row (p .auxiliary) (c .no-place .result) (c .no-place .ensures) (few-auxiliaries row p (r .stands)) refl (sym after) in
     let left = then-one row p (r .stands) (r .inside) (omega arith) ∙ ap (λ (l : List (List ℕ)). getD (clausesAt row p) 0 [] ∷ l) (sym (z .left)) in
     record { stands = z .stands; left = left; auxiliary = z .auxiliary }
-
-add-t5 : tie.Need-add-t5
-add-t5 c = search needs
 
 returns-2 : tie.Need-returns-2
 returns-2 c =
@@ -44,12 +38,4 @@ returns-3 c =
     record { stands = z .stands; left = left; auxiliary = z .auxiliary }
 
 pub next-place-spec : {M : Type 1} → statement M
-next-place-spec =
-    tie.close
-    (tie.spec
-    no-place-requires
-    returns
-    add-t5
-    returns-2
-    next-auxiliary-requires
-    returns-3)
+next-place-spec = tie.close (tie.spec (search needs) returns (search needs) returns-2 next-auxiliary-requires returns-3)

@@ -32,60 +32,6 @@ not-e o = o .before .before .opposite .ensures
 before : (o : tie.After-opposite3) → o .before .before .before .one-less .result ≡ start o .args .e - 1
 before o = o .before .before .before .one-less .ensures
 
-mul-ej : tie.Need-mul-ej
-mul-ej c = search needs
-
-one-less-requires : tie.Need-one-less-requires
-one-less-requires c κs = search needs
-
-mul-before : tie.Need-mul-before
-mul-before c = search needs
-
-opposite-requires : tie.Need-opposite-requires
-opposite-requires c κs = search needs
-
-opposite-requires-2 : tie.Need-opposite-requires-2
-opposite-requires-2 c κs = search needs
-
-opposite-requires-3 : tie.Need-opposite-requires-3
-opposite-requires-3 c κs = search needs
-
-two-requires : tie.Need-two-requires
-two-requires c κs = search needs
-
-two-requires-2 : tie.Need-two-requires-2
-two-requires-2 c κs = search needs
-
-three-requires : tie.Need-three-requires
-three-requires c κs = search needs
-
-three-requires-2 : tie.Need-three-requires-2
-three-requires-2 c κs = search needs
-
-three-requires-3 : tie.Need-three-requires-3
-three-requires-3 c κs = search needs
-
-opposite-requires-4 : tie.Need-opposite-requires-4
-opposite-requires-4 c κs = search needs
-
-four-requires : tie.Need-four-requires
-four-requires c κs = search needs
-
-three-requires-4 : tie.Need-three-requires-4
-three-requires-4 c κs = search needs
-
-opposite-requires-5 : tie.Need-opposite-requires-5
-opposite-requires-5 c κs = search needs
-
-four-requires-2 : tie.Need-four-requires-2
-four-requires-2 c κs = search needs
-
-opposite-requires-6 : tie.Need-opposite-requires-6
-opposite-requires-6 c κs = search needs
-
-three-requires-5 : tie.Need-three-requires-5
-three-requires-5 c κs = search needs
-
 returns : tie.Need-returns
 returns c =
     let o = c .before .before .before in
@@ -160,31 +106,6 @@ returns-9 c =
 pub table-clause-spec : {M : Type 1} → statement M
 table-clause-spec =
     tie.close
-    (tie.spec
-    mul-ej
-    one-less-requires
-    mul-before
-    opposite-requires
-    opposite-requires-2
-    opposite-requires-3
-    two-requires
-    two-requires-2
-    three-requires
-    three-requires-2
-    three-requires-3
-    opposite-requires-4
-    four-requires
-    three-requires-4
-    opposite-requires-5
-    four-requires-2
-    opposite-requires-6
-    three-requires-5
-    returns
-    returns-2
-    returns-3
-    returns-4
-    returns-5
-    returns-6
-    returns-7
-    returns-8
-    returns-9)
+    (tie.spec (search needs) (search needs) (search needs) (search needs) (search needs) (search needs) (search needs) (search needs)
+    (search needs) (search needs) (search needs) (search needs) (search needs) (search needs) (search needs) (search needs) (search needs)
+    (search needs) returns returns-2 returns-3 returns-4 returns-5 returns-6 returns-7 returns-8 returns-9)

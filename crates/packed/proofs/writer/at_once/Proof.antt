@@ -4,15 +4,6 @@ use borrow.Author.Needs.{needs}
 use Rattle.packed.proofs.writer.at_once.Statement.{statement}
 use Rattle.packed.proofs.writer.at_once.Tie as tie
 
-sub-room : tie.Need-sub-room
-sub-room c = search needs
-
-min-requires : tie.Need-min-requires
-min-requires c κs = search needs
-
-min-requires-2 : tie.Need-min-requires-2
-min-requires-2 c κs = search needs
-
 returns : tie.Need-returns
 returns c =
     let m = c .before .min .ensures in
@@ -20,4 +11,4 @@ returns c =
     (r .2 1 (m .2 1 (omega arith) (omega arith)) (omega arith), omega (arith, m .0, r .0), r .1, omega (arith, m .1, r .0))
 
 pub at-once-spec : {M : Type 1} → statement M
-at-once-spec = tie.close (tie.spec sub-room min-requires min-requires-2 returns)
+at-once-spec = tie.close (tie.spec (search needs) (search needs) (search needs) returns)

@@ -7,17 +7,11 @@ use Rattle.packed.proofs.Form.{one-shl, mask-fits}
 use Rattle.packed.proofs.writer.digits.Statement.{statement}
 use Rattle.packed.proofs.writer.digits.Tie as tie
 
-shl-result : tie.Need-shl-result
-shl-result c = search needs
-
 sub-result : tie.Need-sub-result
 sub-result c = mask-fits (c .before .args .k) (omega arith)
 
 returns : tie.Need-returns
 returns c = let a = c .before .args in rw (c .if1 .taken) (ap (λ (m : ℕ). m - 1) (one-shl (a .k) (omega arith)))
 
-returns-2 : tie.Need-returns-2
-returns-2 c = search needs
-
 pub digits-spec : {M : Type 1} → statement M
-digits-spec = tie.close (tie.spec shl-result sub-result returns returns-2)
+digits-spec = tie.close (tie.spec (search needs) sub-result returns (λ c. search needs))

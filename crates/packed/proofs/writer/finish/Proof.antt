@@ -10,24 +10,6 @@ returns : tie.Need-returns
 unfolding wordCount
 returns c = (omega arith, λ values old h. finished-whole h (omega arith) (omega arith))
 
-sub-out : tie.Need-sub-out
-sub-out c = search needs
-
-shl-out : tie.Need-shl-out
-shl-out c = search needs
-
-mul-out : tie.Need-mul-out
-mul-out c = search needs
-
-slice-write-out : tie.Need-slice-write-out
-slice-write-out c = search needs
-
-add-result : tie.Need-add-result
-add-result c = search needs
-
-same-length : tie.Need-same-length
-same-length c = search needs
-
 returns-2 : tie.Need-returns-2
 unfolding wordCount
 returns-2 c = (omega arith, λ values old h. finished-begun h (omega arith) (omega arith))
@@ -35,4 +17,4 @@ returns-2 c = (omega arith, λ values old h. finished-begun h (omega arith) (ome
 pub finish-spec : {M : Type 1} → statement M
 finish-spec =
     tie.close
-    (tie.spec returns sub-out shl-out mul-out slice-write-out add-result same-length returns-2)
+    (tie.spec returns (search needs) (search needs) (search needs) (search needs) (search needs) (search needs) returns-2)

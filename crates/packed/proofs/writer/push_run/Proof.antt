@@ -18,9 +18,6 @@ abbrev μ-loop : tie.MeasureT-loop
 loop-holds : tie.Need-loop-holds Inv-loop μ-loop
 loop-holds c = let a = c .before .args in run-start (a .w) (a .out .now) (replicate (a .k) (a .value))
 
-at-once-requires : tie.Need-at-once-requires Inv-loop μ-loop
-at-once-requires c κs = search needs
-
 push-requires : tie.Need-push-requires Inv-loop μ-loop
 push-requires c κs =
     let o = c .before .at-once .ensures in
@@ -61,14 +58,4 @@ returns c =
 pub push-run-spec : {M : Type 1} → statement M
 push-run-spec =
     tie.close
-    (tie.spec
-    Inv-loop
-    μ-loop
-    loop-holds
-    at-once-requires
-    push-requires
-    sub-left
-    loop-less
-    loop-again
-    same-length
-    returns)
+    (tie.spec Inv-loop μ-loop loop-holds (search needs) push-requires sub-left loop-less loop-again same-length returns)

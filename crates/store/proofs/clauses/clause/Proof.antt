@@ -19,15 +19,6 @@ bounds c =
     let end = end-is (s .args .c) (s .args .ends .now) in
     (omega (arith, f .rise (s .args .c) (s .pre .1)), omega (arith, f .within (s .args .c) (s .pre .1)))
 
-literal-count-requires : tie.Need-literal-count-requires
-literal-count-requires c κs = search needs
-
-mul-end : tie.Need-mul-end
-mul-end c = search needs
-
-shared-slice-read-end : tie.Need-shared-slice-read-end
-shared-slice-read-end c = search needs
-
 cast-end : tie.Need-cast-end
 cast-end c = omega (arith, c .shared-slice-known3 .given (c .before .before .before .before .args .c))
 
@@ -53,13 +44,4 @@ returns c =
 pub clause-spec : {M : Type 1} → statement M
 clause-spec =
     tie.close
-    (tie.spec
-    literal-count-requires
-    mul-end
-    shared-slice-read-end
-    cast-end
-    mul-result
-    sub-result
-    part-result-start
-    part-result-end
-    returns)
+    (tie.spec (search needs) (search needs) (search needs) cast-end mul-result sub-result part-result-start part-result-end returns)

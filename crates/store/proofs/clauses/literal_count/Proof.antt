@@ -10,15 +10,6 @@ use Rattle.store.proofs.clauses.literal_count.Tie as tie
 returns : tie.Need-returns
 returns c = sym (count-none _ _ (c .if1 .taken))
 
-sub-result : tie.Need-sub-result
-sub-result c = search needs
-
-mul-result : tie.Need-mul-result
-mul-result c = search needs
-
-shared-slice-read-result : tie.Need-shared-slice-read-result
-shared-slice-read-result c = search needs
-
 cast-result : tie.Need-cast-result
 cast-result c = omega (arith, c .shared-slice-known .given (c .before .before .args .m - 1))
 
@@ -26,6 +17,4 @@ returns-2 : tie.Need-returns-2
 returns-2 c = sym (count-last _ _ (c .before .if1 .left))
 
 pub literal-count-spec : {M : Type 1} → statement M
-literal-count-spec =
-    tie.close
-    (tie.spec returns sub-result mul-result shared-slice-read-result cast-result returns-2)
+literal-count-spec = tie.close (tie.spec returns (search needs) (search needs) (search needs) cast-result returns-2)

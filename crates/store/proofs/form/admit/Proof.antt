@@ -9,9 +9,6 @@ use Rattle.store.proofs.form.admit.Tie as tie
 returns : tie.Need-returns
 returns c = sym (not-open _ (not-true _ (c .if1 .taken)))
 
-well-formed-requires : tie.Need-well-formed-requires
-well-formed-requires c κs = search needs
-
 returns-2 : tie.Need-returns-2
 returns-2 c = sym (badly-formed _ (not-false _ (c .before .before .if1 .left)) (sym (c .before .well-formed .ensures) ∙ not-true _ (c .if2 .taken)))
 
@@ -19,4 +16,4 @@ returns-3 : tie.Need-returns-3
 returns-3 c = sym (ready-of _ (not-false _ (c .before .before .if1 .left)) (sym (c .before .well-formed .ensures) ∙ not-false _ (c .if2 .left)))
 
 pub admit-spec : {M : Type 1} → statement M
-admit-spec = tie.close (tie.spec returns well-formed-requires returns-2 returns-3)
+admit-spec = tie.close (tie.spec returns (search needs) returns-2 returns-3)

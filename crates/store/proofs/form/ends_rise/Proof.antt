@@ -5,7 +5,6 @@ use lib.ListN.{length, drop}
 use Rattle.store.specs.Stores.{rising}
 use Rattle.store.proofs.FormLaws.{rising-fall, rising-on, rising-end}
 use borrow.Author.Needs.{needs}
-use native.Mathlib.Omega.{arith}
 use Rattle.store.proofs.form.ends_rise.Statement.{statement}
 use Rattle.store.proofs.form.ends_rise.Tie as tie
 
@@ -18,20 +17,8 @@ abbrev μ-loop : tie.MeasureT-loop
 loop-holds : tie.Need-loop-holds Inv-loop μ-loop
 loop-holds c = refl
 
-mul-end : tie.Need-mul-end Inv-loop μ-loop
-mul-end c = omega arith
-
-shared-slice-read-end : tie.Need-shared-slice-read-end Inv-loop μ-loop
-shared-slice-read-end c = omega arith
-
 returns : tie.Need-returns Inv-loop μ-loop
 returns c = sym (c .before .before .before .loop .inv ∙ rising-fall _ _ (c .before .before .before .loop .i) (search needs) (c .if1 .taken))
-
-add-i : tie.Need-add-i Inv-loop μ-loop
-add-i c = omega arith
-
-loop-less : tie.Need-loop-less Inv-loop μ-loop
-loop-less c = omega arith
 
 loop-again : tie.Need-loop-again Inv-loop μ-loop
 loop-again c = c .before .before .before .loop .inv ∙ rising-on _ _ (c .before .before .before .loop .i) (search needs) (c .if1 .left)
@@ -42,14 +29,4 @@ returns-2 c = sym (c .before .loop .inv ∙ rising-end _ _ (c .before .loop .i) 
 pub ends-rise-spec : {M : Type 1} → statement M
 ends-rise-spec =
     tie.close
-    (tie.spec
-    Inv-loop
-    μ-loop
-    loop-holds
-    mul-end
-    shared-slice-read-end
-    returns
-    add-i
-    loop-less
-    loop-again
-    returns-2)
+    (tie.spec Inv-loop μ-loop loop-holds (search needs) (search needs) returns (search needs) (search needs) loop-again returns-2)

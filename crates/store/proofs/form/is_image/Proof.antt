@@ -5,17 +5,11 @@ use borrow.Author.Needs.{needs}
 use Rattle.store.proofs.form.is_image.Statement.{statement}
 use Rattle.store.proofs.form.is_image.Tie as tie
 
-is-negative-requires : tie.Need-is-negative-requires
-is-negative-requires c κs = search needs
-
 returns : tie.Need-returns
 returns c = sym (image-negative _ _ (sym (c .before .is-negative .ensures) ∙ c .if1 .taken))
-
-is-literal-requires : tie.Need-is-literal-requires
-is-literal-requires c κs = search needs
 
 returns-2 : tie.Need-returns-2
 returns-2 c = c .is-literal .ensures ∙ sym (image-positive _ _ (sym (c .before .before .is-negative .ensures) ∙ c .before .if1 .left))
 
 pub is-image-spec : {M : Type 1} → statement M
-is-image-spec = tie.close (tie.spec is-negative-requires returns is-literal-requires returns-2)
+is-image-spec = tie.close (tie.spec (search needs) returns (search needs) returns-2)

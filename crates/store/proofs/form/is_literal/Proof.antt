@@ -7,9 +7,6 @@ use borrow.Author.Needs.{needs}
 use Rattle.store.proofs.form.is_literal.Statement.{statement}
 use Rattle.store.proofs.form.is_literal.Tie as tie
 
-variable-requires : tie.Need-variable-requires
-variable-requires c κs = search needs
-
 returns : tie.Need-returns
 returns c = sym (literal-zero _ _ (sym (c .before .variable .ensures) ∙ c .if1 .taken))
 
@@ -19,4 +16,4 @@ returns-2 c =
     ap (λ (k : ℕ). leb k (c .before .before .args .n)) v ∙ sym (literal-most _ _ (λ e. c .if1 .left (v ∙ e)))
 
 pub is-literal-spec : {M : Type 1} → statement M
-is-literal-spec = tie.close (tie.spec variable-requires returns returns-2)
+is-literal-spec = tie.close (tie.spec (search needs) returns returns-2)

@@ -38,25 +38,10 @@ returns c = sym (row-length _ _ (c .if1 .taken))
 loop-holds : tie.Need-loop-holds Inv-loop μ-loop
 loop-holds c = passed-none _ _
 
-mul-wide : tie.Need-mul-wide Inv-loop μ-loop
-mul-wide c = omega arith
-
-shared-slice-read-wide : tie.Need-shared-slice-read-wide Inv-loop μ-loop
-shared-slice-read-wide c = omega arith
-
-wide-requires : tie.Need-wide-requires Inv-loop μ-loop
-wide-requires c κs = search needs
-
-is-image-requires : tie.Need-is-image-requires Inv-loop μ-loop
-is-image-requires c κs = search needs
-
 returns-2 : tie.Need-returns-2 Inv-loop μ-loop
 returns-2 c =
     let at = c .before .before .before .before .before in
     sym (row-image _ _ (at .loop .i) (search needs) (ap (isImage _) (sym (c .before .before .wide .ensures .0)) ∙ sym (c .before .is-image .ensures) ∙ not-true _ (c .if2 .taken)))
-
-variable-requires : tie.Need-variable-requires Inv-loop μ-loop
-variable-requires c κs = search needs
 
 array-read-if3 : tie.Need-array-read-if3 Inv-loop μ-loop
 array-read-if3 c = low c
@@ -69,12 +54,6 @@ returns-3 c =
 array-write-seen : tie.Need-array-write-seen Inv-loop μ-loop
 array-write-seen c = low (c .before)
 
-add-i : tie.Need-add-i Inv-loop μ-loop
-add-i c = omega arith
-
-loop-less : tie.Need-loop-less Inv-loop μ-loop
-loop-less c = omega arith
-
 loop-again : tie.Need-loop-again Inv-loop μ-loop
 loop-again c =
     let at = c .before .before .before .before .before .before .before in
@@ -86,21 +65,5 @@ returns-4 c = sym (row-all _ _ _ _ (c .before .loop .inv) (c .before .before .if
 pub is-row-spec : {M : Type 1} → statement M
 is-row-spec =
     tie.close
-    (tie.spec
-    Inv-loop
-    μ-loop
-    returns
-    loop-holds
-    mul-wide
-    shared-slice-read-wide
-    wide-requires
-    is-image-requires
-    returns-2
-    variable-requires
-    array-read-if3
-    returns-3
-    array-write-seen
-    add-i
-    loop-less
-    loop-again
-    returns-4)
+    (tie.spec Inv-loop μ-loop returns loop-holds (search needs) (search needs) (search needs) (search needs) returns-2 (search needs)
+    array-read-if3 returns-3 array-write-seen (search needs) (search needs) loop-again returns-4)

@@ -7,7 +7,6 @@ use Rattle.lists.proofs.Steps.{all-drop-miss, all-drop-hit, all-drop-end}
 use Rattle.store.specs.Literals.{isLiteral}
 use borrow.Author.Tests.{not-true, not-false}
 use borrow.Author.Needs.{needs}
-use native.Mathlib.Omega.{arith}
 use Rattle.store.proofs.form.literals_within.Statement.{statement}
 use Rattle.store.proofs.form.literals_within.Tie as tie
 
@@ -26,26 +25,8 @@ tested c = c .is-literal .ensures ∙ ap (isLiteral _) (c .before .wide .ensures
 loop-holds : tie.Need-loop-holds Inv-loop μ-loop
 loop-holds c = refl
 
-mul-wide : tie.Need-mul-wide Inv-loop μ-loop
-mul-wide c = omega arith
-
-shared-slice-read-wide : tie.Need-shared-slice-read-wide Inv-loop μ-loop
-shared-slice-read-wide c = omega arith
-
-wide-requires : tie.Need-wide-requires Inv-loop μ-loop
-wide-requires c κs = search needs
-
-is-literal-requires : tie.Need-is-literal-requires Inv-loop μ-loop
-is-literal-requires c κs = search needs
-
 returns : tie.Need-returns Inv-loop μ-loop
 returns c = let at = c .before .before .before .before .before in sym (at .loop .inv ∙ all-drop-miss (isLiteral _) _ (at .loop .i) 0 (search needs) (sym (tested (c .before)) ∙ not-true _ (c .if1 .taken)))
-
-add-i : tie.Need-add-i Inv-loop μ-loop
-add-i c = omega arith
-
-loop-less : tie.Need-loop-less Inv-loop μ-loop
-loop-less c = omega arith
 
 loop-again : tie.Need-loop-again Inv-loop μ-loop
 loop-again c = let at = c .before .before .before .before .before in at .loop .inv ∙ all-drop-hit (isLiteral _) _ (at .loop .i) 0 (search needs) (sym (tested (c .before)) ∙ not-false _ (c .if1 .left))
@@ -56,16 +37,5 @@ returns-2 c = sym (c .before .loop .inv ∙ all-drop-end (isLiteral _) _ (c .bef
 pub literals-within-spec : {M : Type 1} → statement M
 literals-within-spec =
     tie.close
-    (tie.spec
-    Inv-loop
-    μ-loop
-    loop-holds
-    mul-wide
-    shared-slice-read-wide
-    wide-requires
-    is-literal-requires
-    returns
-    add-i
-    loop-less
-    loop-again
-    returns-2)
+    (tie.spec Inv-loop μ-loop loop-holds (search needs) (search needs) (search needs) (search needs) returns (search needs) (search needs)
+    loop-again returns-2)

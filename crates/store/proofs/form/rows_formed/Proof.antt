@@ -30,20 +30,11 @@ loop-holds c = let a = c .before .args in (omega arith, ap (allOf (isRow (a .n))
 row-requires : tie.Need-row-requires Inv-loop μ-loop
 row-requires c κs = let l = c .before in let s = l .before .before in let a = s .args in row-room (a .n) (a .k) (a .images .now) (s .pre .1) (l .loop .r) (omega arith)
 
-is-row-requires : tie.Need-is-row-requires Inv-loop μ-loop
-is-row-requires c κs = search needs
-
 returns : tie.Need-returns Inv-loop μ-loop
 returns c =
     let l = c .before .before .before .before in
     let a = l .before .before .args in
     sym (l .loop .inv .1 ∙ bad-here (a .n) (a .k) (a .images .now) (l .loop .r) (omega arith) (sym (tested (c .before)) ∙ not-true _ (c .if1 .taken)))
-
-add-r : tie.Need-add-r Inv-loop μ-loop
-add-r c = omega arith
-
-loop-less : tie.Need-loop-less Inv-loop μ-loop
-loop-less c = omega arith
 
 loop-again : tie.Need-loop-again Inv-loop μ-loop
 loop-again c =
@@ -55,4 +46,6 @@ returns-2 : tie.Need-returns-2 Inv-loop μ-loop
 returns-2 c = let l = c .before in let a = l .before .before .args in sym (l .loop .inv .1 ∙ good-end (a .n) (a .k) (a .images .now) (l .loop .r) (omega arith))
 
 pub rows-formed-spec : {M : Type 1} → statement M
-rows-formed-spec = tie.close (tie.spec Inv-loop μ-loop loop-holds row-requires is-row-requires returns add-r loop-less loop-again returns-2)
+rows-formed-spec =
+    tie.close
+    (tie.spec Inv-loop μ-loop loop-holds row-requires (search needs) returns (search needs) (search needs) loop-again returns-2)

@@ -38,14 +38,8 @@ returns-4 c = sym (short-ends _ (c .if4 .taken))
 slice-aggregate-ends-rise : tie.Need-slice-aggregate-ends-rise
 slice-aggregate-ends-rise c = sym (length-take-le _ _ (omega arith))
 
-ends-rise-requires : tie.Need-ends-rise-requires
-ends-rise-requires c κs = search needs
-
 returns-5 : tie.Need-returns-5
 returns-5 c = sym (falling-ends _ (sym (c .before .ends-rise .ensures) ∙ not-true _ (c .if5 .taken)))
-
-literal-count-requires : tie.Need-literal-count-requires
-literal-count-requires c κs = search needs
 
 returns-6 : tie.Need-returns-6
 returns-6 c = sym (many-literals _ (omega (arith, c .before .literal-count .ensures)))
@@ -55,9 +49,6 @@ returns-7 c = sym (short-literals _ (omega (arith, c .before .before .literal-co
 
 slice-aggregate-literals-within : tie.Need-slice-aggregate-literals-within
 slice-aggregate-literals-within c = sym (length-take-le _ _ (omega arith))
-
-literals-within-requires : tie.Need-literals-within-requires
-literals-within-requires c κs = search needs
 
 returns-8 : tie.Need-returns-8
 returns-8 c = sym (bad-literal _ (sym (inside (c .before)) ∙ not-true _ (c .if8 .taken)))
@@ -69,9 +60,6 @@ mul-if9 c =
 
 returns-9 : tie.Need-returns-9
 returns-9 c = sym (short-images _ (c .if9 .taken))
-
-rows-formed-requires : tie.Need-rows-formed-requires
-rows-formed-requires c κs = search needs
 
 returns-10 : tie.Need-returns-10
 unfolding heldRows
@@ -100,21 +88,5 @@ returns-10 c =
 pub well-formed-spec : {M : Type 1} → statement M
 well-formed-spec =
     tie.close
-    (tie.spec
-    returns
-    returns-2
-    returns-3
-    returns-4
-    slice-aggregate-ends-rise
-    ends-rise-requires
-    returns-5
-    literal-count-requires
-    returns-6
-    returns-7
-    slice-aggregate-literals-within
-    literals-within-requires
-    returns-8
-    mul-if9
-    returns-9
-    rows-formed-requires
-    returns-10)
+    (tie.spec returns returns-2 returns-3 returns-4 slice-aggregate-ends-rise (search needs) returns-5 (search needs) returns-6 returns-7
+    slice-aggregate-literals-within (search needs) returns-8 mul-if9 returns-9 (search needs) returns-10)

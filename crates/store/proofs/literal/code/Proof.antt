@@ -4,20 +4,11 @@ use borrow.Author.Needs.{needs}
 use Rattle.store.proofs.literal.code.Statement.{statement}
 use Rattle.store.proofs.literal.code.Tie as tie
 
-mul-result : tie.Need-mul-result
-mul-result c = search needs
-
-add-result : tie.Need-add-result
-add-result c = search needs
-
 returns : tie.Need-returns
 returns c = rw (c .if1 .taken)
-
-mul-result-2 : tie.Need-mul-result-2
-mul-result-2 c = search needs
 
 returns-2 : tie.Need-returns-2
 returns-2 c = rw (c .if1 .left) (omega arith)
 
 pub code-spec : {M : Type 1} → statement M
-code-spec = tie.close (tie.spec mul-result add-result returns mul-result-2 returns-2)
+code-spec = tie.close (tie.spec (search needs) (search needs) returns (search needs) returns-2)

@@ -6,6 +6,7 @@ use native.Mathlib.Numerals.{add-one}
 use lib.ListN.{length, getD, take, drop, set, length-set}
 use lib.Seq.{paste, paste-zero, paste-suc, take-length}
 use native.Mathlib.Omega.{arith}
+use borrow.Author.Needs.{needs}
 use Rattle.store.proofs.rows.append.Statement.{statement}
 use Rattle.store.proofs.rows.append.Tie as tie
 
@@ -25,32 +26,8 @@ whole images d row at j k e f g =
     e ∙ ap (λ (m : ℕ). take at d ++ take j row ++ drop m d) g
     ∙ ap (λ (r : List ℕ). take at d ++ r ++ drop k d) (ap (λ (m : ℕ). take m row) f ∙ take-length row)
 
-mul-at : tie.Need-mul-at Inv-loop μ-loop
-mul-at c = omega arith
-
 loop-holds : tie.Need-loop-holds Inv-loop μ-loop
 loop-holds c = (paste-zero _ (c .args .k * c .args .n) (c .args .row .now), omega arith, refl)
-
-mul-images : tie.Need-mul-images Inv-loop μ-loop
-mul-images c = omega arith
-
-shared-slice-read-images : tie.Need-shared-slice-read-images Inv-loop μ-loop
-shared-slice-read-images c = omega arith
-
-add-images : tie.Need-add-images Inv-loop μ-loop
-add-images c = omega arith
-
-mul-images-2 : tie.Need-mul-images-2 Inv-loop μ-loop
-mul-images-2 c = omega arith
-
-slice-write-images : tie.Need-slice-write-images Inv-loop μ-loop
-slice-write-images c = omega arith
-
-add-j : tie.Need-add-j Inv-loop μ-loop
-add-j c = omega arith
-
-loop-less : tie.Need-loop-less Inv-loop μ-loop
-loop-less c = omega arith
 
 loop-again : tie.Need-loop-again Inv-loop μ-loop
 loop-again c =
@@ -70,18 +47,5 @@ returns c =
 pub append-spec : {M : Type 1} → statement M
 append-spec =
     tie.close
-    (tie.spec
-    Inv-loop
-    μ-loop
-    mul-at
-    loop-holds
-    mul-images
-    shared-slice-read-images
-    add-images
-    mul-images-2
-    slice-write-images
-    add-j
-    loop-less
-    loop-again
-    same-length
-    returns)
+    (tie.spec Inv-loop μ-loop (search needs) loop-holds (search needs) (search needs) (search needs) (search needs) (search needs)
+    (search needs) (search needs) loop-again same-length returns)

@@ -4,26 +4,8 @@ use borrow.Author.Needs.{needs}
 use Rattle.store.proofs.rows.row.Statement.{statement}
 use Rattle.store.proofs.rows.row.Tie as tie
 
-mul-from : tie.Need-mul-from
-mul-from c = search needs
-
-add-to : tie.Need-add-to
-add-to c = search needs
-
-mul-result : tie.Need-mul-result
-mul-result c = search needs
-
-sub-result : tie.Need-sub-result
-sub-result c = search needs
-
-part-result-start : tie.Need-part-result-start
-part-result-start c = search needs
-
-part-result-end : tie.Need-part-result-end
-part-result-end c = search needs
-
 returns : tie.Need-returns
 returns c = let a = c .before .args in part-is (a .n) (a .r) (a .images .now)
 
 pub row-spec : {M : Type 1} → statement M
-row-spec = tie.close (tie.spec mul-from add-to mul-result sub-result part-result-start part-result-end returns)
+row-spec = tie.close (tie.spec (search needs) (search needs) (search needs) (search needs) (search needs) (search needs) returns)

@@ -7,18 +7,6 @@ use borrow.Author.Needs.{needs}
 use Rattle.symbreak.proofs.exports.c_answer.Statement.{statement}
 use Rattle.symbreak.proofs.exports.c_answer.Tie as tie
 
-enum-known-answer : tie.Need-enum-known-answer
-enum-known-answer c = search needs
-
-enum-known-answer-2 : tie.Need-enum-known-answer-2
-enum-known-answer-2 c = search needs
-
-number-requires : tie.Need-number-requires
-number-requires c κs = search needs
-
-place-requires : tie.Need-place-requires
-place-requires c κs = search needs
-
 returns : tie.Need-returns
 returns c = ap (λ (a : Answer). cAnswer (said a)) (sym (c .before .answer .given .1))
 
@@ -26,4 +14,4 @@ returns-2 : tie.Need-returns-2
 returns-2 c = rw (c .before .number .ensures, c .place .ensures) (ap (λ (a : Answer). cAnswer (said a)) (sym (c .before .before .before .answer2 .given .1)))
 
 pub c-answer-spec : {M : Type 1} → statement M
-c-answer-spec = tie.close (tie.spec enum-known-answer enum-known-answer-2 number-requires place-requires returns returns-2)
+c-answer-spec = tie.close (tie.spec (search needs) (search needs) (search needs) (search needs) returns returns-2)

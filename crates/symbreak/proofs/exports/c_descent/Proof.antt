@@ -3,12 +3,6 @@ use borrow.Author.Needs.{needs}
 use Rattle.symbreak.proofs.exports.c_descent.Statement.{statement}
 use Rattle.symbreak.proofs.exports.c_descent.Tie as tie
 
-enum-known-ending : tie.Need-enum-known-ending
-enum-known-ending c = search needs
-
-enum-known-ending-2 : tie.Need-enum-known-ending-2
-enum-known-ending-2 c = search needs
-
 returns : tie.Need-returns
 returns c = rw (c .before .ending .given .1)
 
@@ -16,4 +10,4 @@ returns-2 : tie.Need-returns-2
 returns-2 c = rw (c .before .ending2 .given .1)
 
 pub c-descent-spec : {M : Type 1} → statement M
-c-descent-spec = tie.close (tie.spec enum-known-ending enum-known-ending-2 returns returns-2)
+c-descent-spec = tie.close (tie.spec (search needs) (search needs) returns returns-2)

@@ -3,11 +3,8 @@ use borrow.Author.Needs.{needs}
 use Rattle.symbreak.proofs.exports.c_record.Statement.{statement}
 use Rattle.symbreak.proofs.exports.c_record.Tie as tie
 
-flag-requires : tie.Need-flag-requires
-flag-requires c κs = search needs
-
 returns : tie.Need-returns
 returns c = cc
 
 pub c-record-spec : {M : Type 1} → statement M
-c-record-spec = tie.close (tie.spec flag-requires returns)
+c-record-spec = tie.close (tie.spec (search needs) returns)

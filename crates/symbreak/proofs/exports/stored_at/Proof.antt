@@ -3,11 +3,8 @@ use borrow.Author.Needs.{needs}
 use Rattle.symbreak.proofs.exports.stored_at.Statement.{statement}
 use Rattle.symbreak.proofs.exports.stored_at.Tie as tie
 
-flag-requires : tie.Need-flag-requires
-flag-requires c κs = search needs
-
 returns : tie.Need-returns
 returns c = cc
 
 pub stored-at-spec : {M : Type 1} → statement M
-stored-at-spec = tie.close (tie.spec flag-requires returns)
+stored-at-spec = tie.close (tie.spec (search needs) returns)

@@ -6,24 +6,6 @@ use borrow.Author.Needs.{needs}
 use Rattle.symbreak.proofs.exports.symbreak_check.Statement.{statement}
 use Rattle.symbreak.proofs.exports.symbreak_check.Tie as tie
 
-record-of-requires : tie.Need-record-of-requires
-record-of-requires c κs = search needs
-
-check-requires : tie.Need-check-requires
-check-requires c κs = search needs
-
-enum-known-found : tie.Need-enum-known-found
-enum-known-found c = search needs
-
-c-checked-requires : tie.Need-c-checked-requires
-c-checked-requires c κs = search needs
-
-enum-known-r : tie.Need-enum-known-r
-enum-known-r c = search needs
-
-c-answer-requires : tie.Need-c-answer-requires
-c-answer-requires c κs = search needs
-
 returns : tie.Need-returns
 returns c =
     let w = c .before .before .before .before in
@@ -39,12 +21,4 @@ returns-2 c =
 pub symbreak-check-spec : {M : Type 1} → statement M
 symbreak-check-spec =
     tie.close
-    (tie.spec
-    record-of-requires
-    check-requires
-    enum-known-found
-    c-checked-requires
-    enum-known-r
-    c-answer-requires
-    returns
-    returns-2)
+    (tie.spec (search needs) (search needs) (search needs) (search needs) (search needs) (search needs) returns returns-2)

@@ -5,14 +5,8 @@ use borrow.Author.Needs.{needs}
 use Rattle.symbreak.proofs.exports.symbreak_compare.Statement.{statement}
 use Rattle.symbreak.proofs.exports.symbreak_compare.Tie as tie
 
-compare-requires : tie.Need-compare-requires
-compare-requires c κs = search needs
-
-c-answer-requires : tie.Need-c-answer-requires
-c-answer-requires c κs = search needs
-
 returns : tie.Need-returns
 returns c = c .c-answer .ensures ∙ ap cAnswer (c .before .compare .ensures)
 
 pub symbreak-compare-spec : {M : Type 1} → statement M
-symbreak-compare-spec = tie.close (tie.spec compare-requires c-answer-requires returns)
+symbreak-compare-spec = tie.close (tie.spec (search needs) (search needs) returns)

@@ -25,35 +25,8 @@ leaves c =
     c .descend .ensures .1
     ∙ ap (λ (r : Record). descendLeaves (lent r (s .args .literals .now) (s .args .ends .now) (s .args .images .now)) (s .args .a .now) (s .args .limit)) (c .before .before .record-of .ensures)
 
-record-of-requires : tie.Need-record-of-requires
-record-of-requires c κs = search needs
-
-descend-requires : tie.Need-descend-requires
-descend-requires c κs = search needs
-
-enum-known-ending : tie.Need-enum-known-ending
-enum-known-ending c = search needs
-
-c-descent-requires : tie.Need-c-descent-requires
-c-descent-requires c κs = search needs
-
-enum-known-r : tie.Need-enum-known-r
-enum-known-r c = search needs
-
-number-requires : tie.Need-number-requires
-number-requires c κs = search needs
-
-place-requires : tie.Need-place-requires
-place-requires c κs = search needs
-
-same-length : tie.Need-same-length
-same-length c = search needs
-
 returns : tie.Need-returns
 returns c = let w = c .before .before .before .before .before .before in (c .c-descent .ensures ∙ ap cDescent (sym (ap saidDescent (c .before .before .ending .given .1)) ∙ says w), leaves w)
-
-same-length-2 : tie.Need-same-length-2
-same-length-2 c = search needs
 
 returns-2 : tie.Need-returns-2
 returns-2 c = let w = c .before .before .before .before .before .before .before in (rw (c .before .number .ensures, c .place .ensures) (ap cDescent (sym (ap saidDescent (c .before .before .before .r .given .1)) ∙ says w)), leaves w)
@@ -61,15 +34,5 @@ returns-2 c = let w = c .before .before .before .before .before .before .before 
 pub symbreak-descend-spec : {M : Type 1} → statement M
 symbreak-descend-spec =
     tie.close
-    (tie.spec
-    record-of-requires
-    descend-requires
-    enum-known-ending
-    c-descent-requires
-    enum-known-r
-    number-requires
-    place-requires
-    same-length
-    returns
-    same-length-2
-    returns-2)
+    (tie.spec (search needs) (search needs) (search needs) (search needs) (search needs) (search needs) (search needs) (search needs)
+    returns (search needs) returns-2)

@@ -5,18 +5,6 @@ use borrow.Author.Needs.{needs}
 use Rattle.symbreak.proofs.exports.symbreak_fill_in.Statement.{statement}
 use Rattle.symbreak.proofs.exports.symbreak_fill_in.Tie as tie
 
-record-of-requires : tie.Need-record-of-requires
-record-of-requires c κs = search needs
-
-fill-in-requires : tie.Need-fill-in-requires
-fill-in-requires c κs = search needs
-
-c-answer-requires : tie.Need-c-answer-requires
-c-answer-requires c κs = search needs
-
-same-length : tie.Need-same-length
-same-length c = search needs
-
 returns : tie.Need-returns
 returns c =
     let w = c .before .before .before in
@@ -24,4 +12,4 @@ returns c =
     (c .c-answer .ensures ∙ ap cAnswer (both .0), both .1)
 
 pub symbreak-fill-in-spec : {M : Type 1} → statement M
-symbreak-fill-in-spec = tie.close (tie.spec record-of-requires fill-in-requires c-answer-requires same-length returns)
+symbreak-fill-in-spec = tie.close (tie.spec (search needs) (search needs) (search needs) (search needs) returns)

@@ -5,14 +5,8 @@ use borrow.Author.Needs.{needs}
 use Rattle.symbreak.proofs.exports.symbreak_new_record.Statement.{statement}
 use Rattle.symbreak.proofs.exports.symbreak_new_record.Tie as tie
 
-new-record-requires : tie.Need-new-record-requires
-new-record-requires c κs = search needs
-
-c-record-requires : tie.Need-c-record-requires
-c-record-requires c κs = search needs
-
 returns : tie.Need-returns
 returns c = c .c-record .ensures ∙ ap cRecord (c .before .new-record .ensures)
 
 pub symbreak-new-record-spec : {M : Type 1} → statement M
-symbreak-new-record-spec = tie.close (tie.spec new-record-requires c-record-requires returns)
+symbreak-new-record-spec = tie.close (tie.spec (search needs) (search needs) returns)

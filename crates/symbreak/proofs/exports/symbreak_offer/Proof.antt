@@ -27,42 +27,12 @@ leaves c =
     c .offer .ensures .1
     ∙ ap (λ (r : Record). offerStore (lent r (s .args .literals .now) (s .args .ends .now) (s .args .images .now)) (s .args .names .now) (s .args .values .now)) (c .before .before .record-of .ensures)
 
-record-of-requires : tie.Need-record-of-requires
-record-of-requires c κs = search needs
-
-offer-requires : tie.Need-offer-requires
-offer-requires c κs = search needs
-
-enum-told : tie.Need-enum-told
-enum-told c = search needs
-
-stored-at-requires : tie.Need-stored-at-requires
-stored-at-requires c κs = search needs
-
-enum-known-answer : tie.Need-enum-known-answer
-enum-known-answer c = search needs
-
-number-requires : tie.Need-number-requires
-number-requires c κs = search needs
-
-place-requires : tie.Need-place-requires
-place-requires c κs = search needs
-
-stored-at-requires-2 : tie.Need-stored-at-requires-2
-stored-at-requires-2 c κs = search needs
-
-same-length : tie.Need-same-length
-same-length c = search needs
-
 returns : tie.Need-returns
 returns c =
     let o = c .before .before .before .before .before .before in (
       told-done _ accepted _ _ _ (c .stored-at .ensures) (sym (ap saidOffered (c .before .enum-told .given .1)) ∙ says o) (counts-of (leaves o)),
       images-of (leaves o),
     )
-
-same-length-2 : tie.Need-same-length-2
-same-length-2 c = search needs
 
 returns-2 : tie.Need-returns-2
 returns-2 c =
@@ -74,16 +44,5 @@ returns-2 c =
 pub symbreak-offer-spec : {M : Type 1} → statement M
 symbreak-offer-spec =
     tie.close
-    (tie.spec
-    record-of-requires
-    offer-requires
-    enum-told
-    stored-at-requires
-    enum-known-answer
-    number-requires
-    place-requires
-    stored-at-requires-2
-    same-length
-    returns
-    same-length-2
-    returns-2)
+    (tie.spec (search needs) (search needs) (search needs) (search needs) (search needs) (search needs) (search needs) (search needs)
+    (search needs) returns (search needs) returns-2)

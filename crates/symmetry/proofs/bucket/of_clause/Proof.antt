@@ -6,7 +6,6 @@ use lib.ListN.{length, drop}
 use Rattle.symmetry.specs.Bucket.{bucketFrom, bucketOf}
 use Rattle.symmetry.proofs.BucketLaws.{bucket-more, bucket-end}
 use borrow.Author.Needs.{needs}
-use native.Mathlib.Omega.{arith}
 use Rattle.symmetry.proofs.bucket.of_clause.Statement.{statement}
 use Rattle.symmetry.proofs.bucket.of_clause.Tie as tie
 
@@ -19,34 +18,10 @@ abbrev μ-loop : tie.MeasureT-loop
 loop-holds : tie.Need-loop-holds Inv-loop μ-loop
 loop-holds c = refl
 
-mul-wide : tie.Need-mul-wide Inv-loop μ-loop
-mul-wide c = omega arith
-
-shared-slice-read-wide : tie.Need-shared-slice-read-wide Inv-loop μ-loop
-shared-slice-read-wide c = omega arith
-
-wide-requires : tie.Need-wide-requires Inv-loop μ-loop
-wide-requires c κs = search needs
-
-lesser-requires : tie.Need-lesser-requires Inv-loop μ-loop
-lesser-requires c κs = search needs
-
-greater-requires : tie.Need-greater-requires Inv-loop μ-loop
-greater-requires c κs = search needs
-
-add-i : tie.Need-add-i Inv-loop μ-loop
-add-i c = omega arith
-
-loop-less : tie.Need-loop-less Inv-loop μ-loop
-loop-less c = omega arith
-
 loop-again : tie.Need-loop-again Inv-loop μ-loop
 loop-again c =
     let at = c .before .before .before .before .before in
     at .loop .inv ∙ bucket-more _ (at .loop .i) _ _ (search needs) _ _ _ (c .before .before .wide .ensures .0) (c .before .lesser .ensures) (c .greater .ensures)
-
-number-requires : tie.Need-number-requires Inv-loop μ-loop
-number-requires c κs = search needs
 
 returns : tie.Need-returns Inv-loop μ-loop
 returns c = let at = c .before .before in c .number .ensures ∙ sym (at .loop .inv ∙ bucket-end _ (at .loop .i) _ _ (search needs))
@@ -54,17 +29,5 @@ returns c = let at = c .before .before in c .number .ensures ∙ sym (at .loop .
 pub of-clause-spec : {M : Type 1} → statement M
 of-clause-spec =
     tie.close
-    (tie.spec
-    Inv-loop
-    μ-loop
-    loop-holds
-    mul-wide
-    shared-slice-read-wide
-    wide-requires
-    lesser-requires
-    greater-requires
-    add-i
-    loop-less
-    loop-again
-    number-requires
-    returns)
+    (tie.spec Inv-loop μ-loop loop-holds (search needs) (search needs) (search needs) (search needs) (search needs) (search needs)
+    (search needs) loop-again (search needs) returns)

@@ -21,32 +21,11 @@ abbrev μ-loop : tie.MeasureT-loop
 loop-holds : tie.Need-loop-holds Inv-loop μ-loop
 loop-holds c = refl
 
-mul-wide : tie.Need-mul-wide Inv-loop μ-loop
-mul-wide c = omega arith
-
-shared-slice-read-wide : tie.Need-shared-slice-read-wide Inv-loop μ-loop
-shared-slice-read-wide c = omega arith
-
-wide-requires : tie.Need-wide-requires Inv-loop μ-loop
-wide-requires c κs = search needs
-
 image-requires : tie.Need-image-requires Inv-loop μ-loop
 image-requires c κs =
     let at = c .before .before .before in
     let s = at .before .before .before in
     fitting-at (s .args .row .now) (s .args .clause .now) (at .loop .i) _ (omega arith) (c .wide .ensures .0) (s .pre)
-
-lesser-requires : tie.Need-lesser-requires Inv-loop μ-loop
-lesser-requires c κs = search needs
-
-greater-requires : tie.Need-greater-requires Inv-loop μ-loop
-greater-requires c κs = search needs
-
-add-i : tie.Need-add-i Inv-loop μ-loop
-add-i c = omega arith
-
-loop-less : tie.Need-loop-less Inv-loop μ-loop
-loop-less c = omega arith
 
 loop-again : tie.Need-loop-again Inv-loop μ-loop
 loop-again c =
@@ -57,9 +36,6 @@ loop-again c =
     ∙ bucket-more _ (at .loop .i) _ _ (omega (arith, image-length (a .row .now) (a .clause .now))) _ _ _
     (image-at (a .row .now) (a .clause .now) (at .loop .i) _ (omega arith) (w .wide .ensures .0) _ (c .before .before .image .ensures)) (c .before .lesser .ensures) (c .greater .ensures)
 
-number-requires : tie.Need-number-requires Inv-loop μ-loop
-number-requires c κs = search needs
-
 returns : tie.Need-returns Inv-loop μ-loop
 returns c =
     let at = c .before .before in
@@ -69,18 +45,5 @@ returns c =
 pub of-image-spec : {M : Type 1} → statement M
 of-image-spec =
     tie.close
-    (tie.spec
-    Inv-loop
-    μ-loop
-    loop-holds
-    mul-wide
-    shared-slice-read-wide
-    wide-requires
-    image-requires
-    lesser-requires
-    greater-requires
-    add-i
-    loop-less
-    loop-again
-    number-requires
-    returns)
+    (tie.spec Inv-loop μ-loop loop-holds (search needs) (search needs) (search needs) image-requires (search needs) (search needs)
+    (search needs) (search needs) loop-again (search needs) returns)

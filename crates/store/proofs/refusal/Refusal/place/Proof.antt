@@ -5,63 +5,6 @@ use Rattle.store.specs.Refusals.{placeOf}
 use Rattle.store.proofs.refusal.Refusal.place.Statement.{statement}
 use Rattle.store.proofs.refusal.Refusal.place.Tie as tie
 
-enum-known-self : tie.Need-enum-known-self
-enum-known-self c = search needs
-
-enum-known-self-2 : tie.Need-enum-known-self-2
-enum-known-self-2 c = search needs
-
-enum-known-self-3 : tie.Need-enum-known-self-3
-enum-known-self-3 c = search needs
-
-enum-known-self-4 : tie.Need-enum-known-self-4
-enum-known-self-4 c = search needs
-
-enum-known-self-5 : tie.Need-enum-known-self-5
-enum-known-self-5 c = search needs
-
-enum-known-self-6 : tie.Need-enum-known-self-6
-enum-known-self-6 c = search needs
-
-enum-known-self-7 : tie.Need-enum-known-self-7
-enum-known-self-7 c = search needs
-
-enum-known-self-8 : tie.Need-enum-known-self-8
-enum-known-self-8 c = search needs
-
-enum-known-self-9 : tie.Need-enum-known-self-9
-enum-known-self-9 c = search needs
-
-enum-known-self-10 : tie.Need-enum-known-self-10
-enum-known-self-10 c = search needs
-
-enum-known-self-11 : tie.Need-enum-known-self-11
-enum-known-self-11 c = search needs
-
-enum-told : tie.Need-enum-told
-enum-told c = search needs
-
-enum-told-2 : tie.Need-enum-told-2
-enum-told-2 c = search needs
-
-enum-told-3 : tie.Need-enum-told-3
-enum-told-3 c = search needs
-
-enum-told-4 : tie.Need-enum-told-4
-enum-told-4 c = search needs
-
-enum-told-5 : tie.Need-enum-told-5
-enum-told-5 c = search needs
-
-enum-told-6 : tie.Need-enum-told-6
-enum-told-6 c = search needs
-
-enum-told-7 : tie.Need-enum-told-7
-enum-told-7 c = search needs
-
-enum-known-self-12 : tie.Need-enum-known-self-12
-enum-known-self-12 c = search needs
-
 returns : tie.Need-returns
 returns c = sym (ap placeOf (c .before .self .given .1))
 
@@ -122,42 +65,7 @@ returns-19 c = sym (ap placeOf (c .before .self12 .given .1))
 pub place-spec : {M : Type 1} → statement M
 place-spec =
     tie.close
-    (tie.spec
-    enum-known-self
-    enum-known-self-2
-    enum-known-self-3
-    enum-known-self-4
-    enum-known-self-5
-    enum-known-self-6
-    enum-known-self-7
-    enum-known-self-8
-    enum-known-self-9
-    enum-known-self-10
-    enum-known-self-11
-    enum-told
-    enum-told-2
-    enum-told-3
-    enum-told-4
-    enum-told-5
-    enum-told-6
-    enum-told-7
-    enum-known-self-12
-    returns
-    returns-2
-    returns-3
-    returns-4
-    returns-5
-    returns-6
-    returns-7
-    returns-8
-    returns-9
-    returns-10
-    returns-11
-    returns-12
-    returns-13
-    returns-14
-    returns-15
-    returns-16
-    returns-17
-    returns-18
-    returns-19)
+    (tie.spec (search needs) (search needs) (search needs) (search needs) (search needs) (search needs) (search needs) (search needs)
+    (search needs) (search needs) (search needs) (search needs) (search needs) (search needs) (search needs) (search needs) (search needs)
+    (search needs) (search needs) returns returns-2 returns-3 returns-4 returns-5 returns-6 returns-7 returns-8 returns-9 returns-10
+    returns-11 returns-12 returns-13 returns-14 returns-15 returns-16 returns-17 returns-18 returns-19)

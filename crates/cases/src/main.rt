@@ -19,7 +19,7 @@ fn main() {
 fn opened(name: &[u8], text: &[u8]) {
     let mut literals = [0u16; 8];
     let mut ends = [0u16; 8];
-    let r = symbreak::open(symbreak::new_record(), text, &mut literals, &mut ends);
+    let r = calls::open(calls::new_record(), text, &mut literals, &mut ends);
     let answer = r.answer;
     match answer {
         Opened::Open(_, _) => show(name, 0, 0),
@@ -32,8 +32,8 @@ fn rows() {
     let mut literals = [0u16; 8];
     let mut ends = [0u16; 8];
     let mut images = [0u16; 130];
-    let r = symbreak::open(
-        symbreak::new_record(),
+    let r = calls::open(
+        calls::new_record(),
         b"p cnf 2 1\n1 2 0\n",
         &mut literals,
         &mut ends,
@@ -54,7 +54,7 @@ fn offers(
     let mut after = counts;
     let mut i = 0;
     while i < some {
-        let r = symbreak::offer(after, literals, ends, images, b"1 2", b"2 1");
+        let r = calls::offer(after, literals, ends, images, b"1 2", b"2 1");
         after = r.counts;
         i += 1;
     }
@@ -68,7 +68,7 @@ fn offered(
     ends: &[u16],
     images: &mut [u16],
 ) -> Record {
-    let r = symbreak::offer(counts, literals, ends, images, b"1 2", b"2 1");
+    let r = calls::offer(counts, literals, ends, images, b"1 2", b"2 1");
     let answer = r.answer;
     match answer {
         Offered::Accepted => show(name, 0, 0),

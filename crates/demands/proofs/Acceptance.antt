@@ -28,8 +28,8 @@ use Rattle.symmetry.proofs.Theorem.{none-missing-iff}
 use Rattle.offering.specs.Offering.{rowFor, imagesNeeded, ifRoom, ifSymmetry, ifStated, offeredBy}
 use Rattle.offering.specs.declared.Offered.{Offered}
 use Rattle.offering.proofs.OfferLaws.{held}
-use Rattle.symbreak.specs.Calls.{Accepted, accepted, onStore, saidOffered, offerSays, offerStore}
-use Rattle.symbreak.proofs.CallLaws.{tried}
+use Rattle.calls.specs.Calls.{Accepted, accepted, onStore, saidOffered, offerSays, offerStore}
+use Rattle.calls.proofs.CallLaws.{tried}
 
 module _ (s : Store) (names values : List ℕ) where
   -- everything that an acceptance rests on

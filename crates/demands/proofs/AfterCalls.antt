@@ -18,7 +18,7 @@ use Rattle.opening.specs.Opening.{openedBy, formulaOf}
 use Rattle.opening.specs.declared.Opened.{Opened}
 use Rattle.opening.proofs.Theorem.{opened-formed, opened-plain}
 use Rattle.offering.specs.Offering.{rowFor}
-use Rattle.symbreak.specs.Calls.{Accepted, accepted as yes, Sizes, saidOpened, openSays, openStore, offerSays, offerStore}
+use Rattle.calls.specs.Calls.{Accepted, accepted as yes, Sizes, saidOpened, openSays, openStore, offerSays, offerStore}
 use Rattle.demands.specs.Lists.{Call, offer, lend, lentAnew, afterCall, after, heldBy, heldAfter, acceptedFrom, accepted}
 use Rattle.demands.proofs.Acceptance.{store-refused, store-accepted, accepted-symmetry, accepted-held, accepted-formed}
 

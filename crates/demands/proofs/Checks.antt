@@ -18,7 +18,7 @@ use Rattle.lexleader.specs.Models.{Model}
 use Rattle.lexleader.specs.Store.{madeOf, variablesOf}
 use Rattle.checking.specs.Checking.{Verdict, yes, falseAt, firstFalse}
 use Rattle.checking.proofs.VerdictLaws.{yes-iff, FirstFalse, false-at, at-false}
-use Rattle.symbreak.specs.Calls.{onStore, checkSays}
+use Rattle.calls.specs.Calls.{onStore, checkSays}
 
 module _ (s : Store) (words : List ℕ) where
   -- the assignment that the words hold

@@ -20,7 +20,7 @@ use Rattle.lexleader.specs.Store.{madeOf, variablesOf, clausesOf}
 use Rattle.emit.specs.Emit.{headerOf, lineOf, linesOf, textOf, maxHeader, maxLine, writtenIf, headerBy, clauseBy}
 use Rattle.emit.proofs.Bounds.{header-most, line-longest}
 use Rattle.emit.proofs.Text.{linesFrom, text-is-plain-then-documented}
-use Rattle.symbreak.specs.Calls.{headerSays, headerLeaves, clauseSays, clauseLeaves}
+use Rattle.calls.specs.Calls.{headerSays, headerLeaves, clauseSays, clauseLeaves}
 use Rattle.demands.specs.Demand2.{writtenBy, clausesWritten, textWritten, Demand2}
 use Rattle.demands.proofs.Acceptance.{accepts-of, accepted-iff-symmetry, accepted-symmetry, accepted-held}
 

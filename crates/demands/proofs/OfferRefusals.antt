@@ -20,7 +20,7 @@ use Rattle.permutation.proofs.Faults.{number-end, name-missing, name-first, nam
 use Rattle.symmetry.specs.Symmetry.{missingFrom, firstMissing}
 use Rattle.offering.specs.Offering.{rowFor, imagesNeeded, offeredBy}
 use Rattle.offering.proofs.OfferLaws.{not-stated, not-symmetric, no-room, held as taken}
-use Rattle.symbreak.specs.Calls.{Accepted, accepted, saidOffered, offerSays}
+use Rattle.calls.specs.Calls.{Accepted, accepted, saidOffered, offerSays}
 use Rattle.demands.specs.Reasons.{Reason, AllPass, Numeric, wordNotNumber, Name, badName, Value, badValue, HasImage, noSymmetry, offerReasons}
 use Rattle.demands.proofs.Firsts.{none-yet, never-both, one-first, Walked, found, none}
 use Rattle.demands.proofs.OfferFirsts.{seen-from, seen, faultAt, numberWalk, number-walked, nameWalk, name-walked, valueWalk, value-walked, value-end, clauseWalk, numberAt, clause-walked}

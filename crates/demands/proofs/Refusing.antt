@@ -11,7 +11,7 @@ use Rattle.lists.proofs.Cases.{never}
 use Rattle.store.specs.Refusals.{Said, done, refused}
 use Rattle.store.specs.Stores.{Store, wellFormed, standingOf}
 use Rattle.store.proofs.StandingLaws.{not-open, badly-formed, ready-of}
-use Rattle.symbreak.specs.Calls.{onStore}
+use Rattle.calls.specs.Calls.{onStore}
 use Rattle.demands.specs.Reasons.{Reason, comesFirst, reason, tooShort, onStoreReasons}
 use Rattle.demands.specs.Demand1.{RefusesBy}
 

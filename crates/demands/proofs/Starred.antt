@@ -30,7 +30,7 @@ use Rattle.lexleader.specs.Descent.{stepBy, descendFrom}
 use Rattle.lexleader.specs.Store.{variablesOf}
 use Rattle.filling.specs.Written.{filledWords}
 use Rattle.descent.specs.Words.{Outcome, settledAfter, spentAfter, descended}
-use Rattle.symbreak.specs.Calls.{Accepted, accepted, openStore, offerSays, offerStore, fillSays, fillLeaves, descendSays, descendLeaves, efficiencySays}
+use Rattle.calls.specs.Calls.{Accepted, accepted, openStore, offerSays, offerStore, fillSays, fillLeaves, descendSays, descendLeaves, efficiencySays}
 
 -- the listing's formula, opened: `p cnf 3 2`, `1 2 0`, `2 3 0`
 abbrev listing : Store

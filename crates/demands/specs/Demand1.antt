@@ -9,8 +9,8 @@ use Prim.Native.Nat.{ℕ}
 use lib.ListN.{length}
 use Rattle.store.specs.Refusals.{Said, refused}
 use Rattle.store.specs.Stores.{Store}
-use Rattle.symbreak.specs.Calls.{openSays, openStore, offerSays, offerStore, headerSays, headerLeaves, clauseSays, clauseLeaves}
-use Rattle.symbreak.specs.Calls.{compareSays, fillSays, fillLeaves, checkSays, descendSays, descendLeaves, efficiencySays}
+use Rattle.calls.specs.Calls.{openSays, openStore, offerSays, offerStore, headerSays, headerLeaves, clauseSays, clauseLeaves}
+use Rattle.calls.specs.Calls.{compareSays, fillSays, fillLeaves, checkSays, descendSays, descendLeaves, efficiencySays}
 use Rattle.demands.specs.Reasons.{Reason, comesFirst, openReasons, offerReasons, headerReasons, clauseReasons}
 use Rattle.demands.specs.Reasons.{fillReasons, checkReasons, descendReasons, compareReasons, efficiencyReasons}
 

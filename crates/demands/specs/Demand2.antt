@@ -18,7 +18,7 @@ use Rattle.lexleader.specs.Made.{rowsClauses}
 use Rattle.render.specs.Text.{headerLine}
 use Rattle.lexleader.specs.Store.{variablesOf, clausesOf}
 use Rattle.emit.specs.Emit.{linesOf, maxHeader, maxLine}
-use Rattle.symbreak.specs.Calls.{accepted, offerSays, offerStore, headerSays, headerLeaves, clauseSays, clauseLeaves}
+use Rattle.calls.specs.Calls.{accepted, offerSays, offerStore, headerSays, headerLeaves, clauseSays, clauseLeaves}
 
 -- what a call that writes put at the start of its buffer: as many bytes as it says
 abbrev pub writtenBy : Said ℕ → List ℕ → List ℕ

@@ -16,7 +16,7 @@ use Rattle.lexleader.specs.Kept.{Completes, Kept, Least, Carried}
 use Rattle.lexleader.specs.Store.{madeOf, variablesOf}
 use Rattle.checking.specs.Checking.{yes}
 use Rattle.descent.specs.Words.{settledAfter}
-use Rattle.symbreak.specs.Calls.{openStore, fillSays, fillLeaves, checkSays, descendSays, descendLeaves}
+use Rattle.calls.specs.Calls.{openStore, fillSays, fillLeaves, checkSays, descendSays, descendLeaves}
 use Rattle.demands.specs.Lists.{Call, after, accepted}
 
 -- n, F and ps: the variables and the clauses of the text, and the permutations that the offers not refused state on their lines; and the store after the list

@@ -7,7 +7,7 @@ use lib.ListN.{take}
 use Rattle.store.specs.Refusals.{Said, done, refused}
 use Rattle.store.specs.Stores.{Store, lent}
 use Rattle.offering.specs.Offering.{rowFor}
-use Rattle.symbreak.specs.Calls.{Accepted, offerSays, offerStore}
+use Rattle.calls.specs.Calls.{Accepted, offerSays, offerStore}
 
 -- an offer of a names line and a value line; or another images slice, the entries in use as they were and these past them
 pub data Call : Type 0 where

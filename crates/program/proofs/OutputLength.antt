@@ -15,7 +15,7 @@ use Rattle.render.proofs.LineLaws.{length-refusal}
 use Rattle.render.proofs.DigitLaws.{digits-most}
 use Rattle.emit.specs.Emit.{headerOf, linesOf, textOf, maxLine}
 use Rattle.emit.proofs.Bounds.{header-most, line-longest}
-use Rattle.symbreak.specs.Calls.{Accepted, accepted}
+use Rattle.calls.specs.Calls.{Accepted, accepted}
 use Rattle.session.specs.Session.{sessionOf}
 use Rattle.session.proofs.Theorem.{ready-formed}
 use Rattle.program.specs.Program.{printedBy, outputOf, maxOutput}

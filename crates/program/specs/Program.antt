@@ -11,7 +11,7 @@ use Rattle.render.specs.Text.{refusalLine}
 use Rattle.lexleader.specs.Bounds.{maxMadeClauses}
 use Rattle.emit.specs.Emit.{linesOf, textOf, maxHeader, maxLine}
 use Rattle.cursor.specs.Cursors.{clausesLeft, Points}
-use Rattle.symbreak.specs.Calls.{Accepted}
+use Rattle.calls.specs.Calls.{Accepted}
 use Rattle.session.specs.Session.{sessionOf}
 use Rattle.program.specs.declared.Stage.{Stage}
 

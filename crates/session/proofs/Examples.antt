@@ -19,7 +19,7 @@ use Rattle.permutation.specs.Lines.{notNumber, badNameAfter, badName, badValueA
 use Rattle.permutation.specs.Stated.{statedBy, imageAmong, rowStated}
 use Rattle.symmetry.specs.Symmetry.{missingFrom}
 use Rattle.offering.specs.Offering.{ifRoom, ifSymmetry, offeredBy}
-use Rattle.symbreak.specs.Calls.{accepted, openSays, openStore, offerSays, offerStore}
+use Rattle.calls.specs.Calls.{accepted, openSays, openStore, offerSays, offerStore}
 use Rattle.session.specs.Input.{fromDivider}
 use Rattle.session.specs.Session.{ended, offerAll, sessionOf}
 

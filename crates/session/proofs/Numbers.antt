@@ -42,7 +42,7 @@ use Rattle.permutation.proofs.RowLaws.{row-length}
 use Rattle.symmetry.specs.Symmetry.{firstMissing}
 use Rattle.offering.specs.Offering.{rowFor, imagesNeeded, ifRoom, ifSymmetry, ifStated, offeredBy}
 use Rattle.offering.specs.declared.Offered.{Offered}
-use Rattle.symbreak.specs.Calls.{Accepted, accepted, Sizes as Opening, onStore, saidOpened, openSays, openStore, saidOffered, offerSays, offerStore}
+use Rattle.calls.specs.Calls.{Accepted, accepted, Sizes as Opening, onStore, saidOpened, openSays, openStore, saidOffered, offerSays, offerStore}
 use Rattle.demands.specs.Lists.{after}
 use Rattle.demands.proofs.Acceptance.{accepts-of, store-accepted, accepted-formed}
 use Rattle.demands.proofs.AfterCalls.{after-opening}

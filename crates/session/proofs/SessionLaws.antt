@@ -15,7 +15,7 @@ use Rattle.store.specs.declared.record.Record.{Record}
 use Rattle.store.specs.declared.refusal.Refusal.{Refusal}
 use Rattle.opening.specs.declared.Opened.{Opened}
 use Rattle.offering.specs.declared.Offered.{Offered}
-use Rattle.symbreak.specs.Calls.{accepted, saidOpened, openSays, openStore, saidOffered, offerSays, offerStore}
+use Rattle.calls.specs.Calls.{accepted, saidOpened, openSays, openStore, saidOffered, offerSays, offerStore}
 use Rattle.session.specs.Input.{maxInput, fromDivider}
 use Rattle.session.specs.Session.{ended, offerAll, offerLines, divided, sessionOf}
 

@@ -11,7 +11,7 @@ use Rattle.dimacs.specs.Words.{Piece}
 use Rattle.dimacs.specs.Lines.{linesAt}
 use Rattle.store.specs.Refusals.{Said, done, refused}
 use Rattle.store.specs.Stores.{Store, wellFormed}
-use Rattle.symbreak.specs.Calls.{Accepted, accepted, Sizes, openSays, openStore, offerSays, offerStore}
+use Rattle.calls.specs.Calls.{Accepted, accepted, Sizes, openSays, openStore, offerSays, offerStore}
 use Rattle.demands.specs.Lists.{Call, offer, after}
 use Rattle.demands.proofs.AfterCalls.{after-opening}
 use Rattle.session.specs.Input.{maxInput, fromDivider}

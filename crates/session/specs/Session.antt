@@ -9,7 +9,7 @@ use Rattle.dimacs.specs.Words.{Piece}
 use Rattle.dimacs.specs.Lines.{linesAt}
 use Rattle.store.specs.Refusals.{Said, done, refused, saidRefused}
 use Rattle.store.specs.Stores.{Store}
-use Rattle.symbreak.specs.Calls.{Accepted, accepted, Sizes, openSays, openStore, offerSays, offerStore}
+use Rattle.calls.specs.Calls.{Accepted, accepted, Sizes, openSays, openStore, offerSays, offerStore}
 use Rattle.session.specs.Input.{maxInput, fromDivider}
 use Rattle.session.specs.declared.Answer.{Answer}
 

@@ -51,7 +51,7 @@ fn bad_input() -> Session
 {
     Session {
         answer: Answer::Refused(Refusal::BadInput),
-        counts: symbreak::new_record(),
+        counts: calls::new_record(),
     }
 }
 
@@ -85,7 +85,7 @@ fn open_and_offer(
         let left = stored (r .counts) (literals .exit) (ends .exit) (images .exit) in
         ⌜ ended (saidAnswer (r .answer)) left ≡ divided s (now (input .entry)) (linesAt (now (input .entry)) at) ⌝ }
 {
-    let opening = symbreak::open(symbreak::new_record(), &input[..at], literals, ends);
+    let opening = calls::open(calls::new_record(), &input[..at], literals, ends);
     let answer = opening.answer;
     let counts = opening.counts;
     if let Opened::Refused(refusal) = answer {
@@ -128,7 +128,7 @@ fn offer_lines(
     let mut from = names + 1;
     while from < input.len() {
         let to = dimacs::line_end(input, from);
-        let r = symbreak::offer(
+        let r = calls::offer(
             held,
             literals,
             ends,

@@ -6,10 +6,10 @@ use Rattle.store.specs.Refusals.{Said, done, refused}
 use Rattle.store.specs.declared.record.Record.{Record}
 use Rattle.checking.specs.Checking.{Verdict, yes, falseAt}
 use Rattle.descent.specs.Words.{Outcome, settledAfter, spentAfter}
-use Rattle.symbreak.specs.declared.exports.CRecord.{CRecord}
-use Rattle.symbreak.specs.declared.exports.CAnswer.{CAnswer}
-use Rattle.symbreak.specs.declared.exports.CDescent.{CDescent}
-use Rattle.symbreak.specs.declared.exports.CStored.{CStored}
+use Rattle.symbreak.specs.declared.CRecord.{CRecord}
+use Rattle.symbreak.specs.declared.CAnswer.{CAnswer}
+use Rattle.symbreak.specs.declared.CDescent.{CDescent}
+use Rattle.symbreak.specs.declared.CStored.{CStored}
 
 -- the record that four numbers are: open is anything but 0
 abbrev pub recordOf : ℕ → ℕ → ℕ → ℕ → Record

@@ -1,270 +1,330 @@
-// The public calls. Each takes any bytes, any numbers and any store, and answers as document 01 says or refuses with its number; none asks
-// anything of its caller. `exports` has them for C.
+// The calls for C (include/symbreak.h): numbers and slices in, structs of numbers out. A slice passes as a pointer and a length.
+use calls::Descent;
+use calls::Finding;
 use checking::Checked;
 use descent::Descended;
 use offering::Offered;
 use opening::Opened;
 use store::answer::Answer;
-use store::form::Standing;
 use store::record::Record;
 use store::refusal::Refusal;
 ghost use mathlib.Core.Path.{_≡_};
+ghost use mathlib.Core.Bool.{cond};
 ghost use mathlib.Core.List.{[]};
 ghost use lib.ListN.{length};
-ghost use Rattle.store.specs.Refusals.{said};
+ghost use Rattle.store.specs.Refusals.{done, said};
 ghost use Rattle.store.specs.Stores.{lent, stored, closedRecord};
-ghost use Rattle.packed.specs.Order.{part, lesserOf};
-ghost use Rattle.symbreak.specs.Calls.{saidOpened, openSays, openStore, saidOffered, offerSays, offerStore};
-ghost use Rattle.symbreak.specs.Calls.{headerSays, headerLeaves, clauseSays, clauseLeaves, fillSays, fillLeaves};
-ghost use Rattle.symbreak.specs.Calls.{saidFinding, checkSays};
-ghost use Rattle.symbreak.specs.Calls.{saidDescent, descendSays, descendLeaves, compareSays, efficiencySays};
+ghost use Rattle.checking.specs.Checking.{verdictOf};
+ghost use Rattle.descent.specs.Words.{outcomeOf};
+ghost use Rattle.calls.specs.Calls.{openSays, openStore, offerSays, offerStore, headerSays, headerLeaves};
+ghost use Rattle.calls.specs.Calls.{clauseSays, clauseLeaves};
+ghost use Rattle.calls.specs.Calls.{fillSays, fillLeaves, checkSays, descendSays, descendLeaves, compareSays, efficiencySays};
+ghost use Rattle.symbreak.specs.Exports.{recordOf, cRecord, cAnswer, cChecked, cDescent, cStored, cStoredAt};
 
-pub mod exports;
-
-// What opening answers, with the record beside it.
-pub struct Opening {
-    pub answer: Opened,
-    pub counts: Record,
+#[repr(C)]
+pub struct CRecord {
+    pub variables: u64,
+    pub clauses: u64,
+    pub rows: u64,
+    pub is_open: u64,
 }
 
-// What an offer answers, with the record beside it.
-pub struct Offering {
-    pub answer: Offered,
-    pub counts: Record,
+#[repr(C)]
+pub struct CStored {
+    pub refusal: u32,
+    pub place: u64,
+    pub variables: u64,
+    pub clauses: u64,
+    pub rows: u64,
+    pub is_open: u64,
 }
 
-// What checking an assignment found.
-pub enum Finding {
-    Found(Checked),
-    Refused(Refusal),
+#[repr(C)]
+pub struct CAnswer {
+    pub refusal: u32,
+    pub place: u64,
+    pub value: u64,
 }
 
-// How a descent ends.
-pub enum Descent {
-    Ended(Descended),
-    Refused(Refusal),
+#[repr(C)]
+pub struct CDescent {
+    pub refusal: u32,
+    pub place: u64,
+    pub settled: u64,
+    pub moves: u64,
 }
 
-// ---- the store
-
-// A new store's record: closed.
-pub fn new_record() -> Record
-    ensures { λ r. ⌜ r ≡ closedRecord ⌝ }
+#[no_mangle]
+pub extern "C" fn symbreak_new_record() -> CRecord
+    ensures { λ r. ⌜ r ≡ cRecord closedRecord ⌝ }
 {
-    Record::closed()
+    c_record(calls::new_record())
 }
 
-// Opens a formula: the text replaces what the store held, and its rows are dropped.
-pub fn open(counts: Record, text: &[u8], literals: &mut [u16], ends: &mut [u16]) -> Opening
-    ensures says { λ r. let s = lent counts (now (literals .entry)) (now (ends .entry)) [] in
-        ⌜ saidOpened (r .answer) ≡ openSays s (now (text .entry)) ⌝ }
-    ensures leaves { λ r. let s = lent counts (now (literals .entry)) (now (ends .entry)) [] in
-        ⌜ lent (r .counts) (now (literals .exit)) (now (ends .exit)) [] ≡ openStore s (now (text .entry)) ⌝ }
+#[no_mangle]
+pub extern "C" fn symbreak_open(
+    variables: u64,
+    clauses: u64,
+    rows: u64,
+    flag: u64,
+    text: &[u8],
+    literals: &mut [u16],
+    ends: &mut [u16],
+) -> CStored
+    ensures says { λ r. let s = lent (recordOf variables clauses rows flag) (now (literals .entry)) (now (ends .entry)) [] in
+        ⌜ r ≡ cStored (openSays s (now (text .entry))) (openStore s (now (text .entry)) .counts) ⌝ }
+    ensures literals { λ _. let s = lent (recordOf variables clauses rows flag) (now (literals .entry)) (now (ends .entry)) [] in
+        ⌜ now (literals .exit) ≡ openStore s (now (text .entry)) .literals ⌝ }
+    ensures ends { λ _. let s = lent (recordOf variables clauses rows flag) (now (literals .entry)) (now (ends .entry)) [] in
+        ⌜ now (ends .exit) ≡ openStore s (now (text .entry)) .ends ⌝ }
 {
-    let answer = opening::open(text, literals, ends);
-    let Opened::Open(n, m) = answer else {
-        return Opening {
-            answer: answer,
-            counts: counts,
-        };
-    };
-    Opening {
-        answer: answer,
-        counts: Record {
-            variables: n,
-            clauses: m,
-            rows: 0,
-            is_open: true,
-        },
+    let counts = record_of(variables, clauses, rows, flag);
+    let r = calls::open(counts, text, literals, ends);
+    let answer = r.answer;
+    let after = r.counts;
+    match answer {
+        Opened::Open(_, _) => stored_at(0, 0, after),
+        Opened::Refused(refusal) => stored_at(refusal.number(), refusal.place() as u64, after),
     }
 }
 
-// Offers a permutation, stated by a names line and a value line: a symmetry of the formula is held as one row more.
-pub fn offer(
-    counts: Record,
+#[no_mangle]
+pub extern "C" fn symbreak_offer(
+    variables: u64,
+    clauses: u64,
+    rows: u64,
+    flag: u64,
     literals: &[u16],
     ends: &[u16],
     images: &mut [u16],
     names: &[u8],
     values: &[u8],
-) -> Offering
-    ensures says { λ r. let s = stored counts (literals .entry) (ends .entry) (images .entry) in
-        ⌜ saidOffered (r .answer) ≡ offerSays s (now (names .entry)) (now (values .entry)) ⌝ }
-    ensures leaves { λ r. let s = stored counts (literals .entry) (ends .entry) (images .entry) in
-        ⌜ stored (r .counts) (literals .entry) (ends .entry) (images .exit) ≡ offerStore s (now (names .entry)) (now (values .entry)) ⌝ }
+) -> CStored
+    ensures says { λ r. let s = stored (recordOf variables clauses rows flag) (literals .entry) (ends .entry) (images .entry) in
+        let left = offerStore s (now (names .entry)) (now (values .entry)) in
+        ⌜ r ≡ cStored (offerSays s (now (names .entry)) (now (values .entry))) (left .counts) ⌝ }
+    ensures images { λ _. let s = stored (recordOf variables clauses rows flag) (literals .entry) (ends .entry) (images .entry) in
+        ⌜ now (images .exit) ≡ offerStore s (now (names .entry)) (now (values .entry)) .images ⌝ }
 {
-    if let Standing::Refused(refusal) = store::form::admit(counts, literals, ends, images) {
-        return turned_back(refusal, counts);
-    }
-    if counts.rows == Record::MAX_ROWS {
-        return turned_back(Refusal::RowsFull, counts);
-    }
-    let answer = offering::offer(counts, literals, ends, images, names, values);
-    let Offered::Accepted = answer else {
-        return Offering {
-            answer: answer,
-            counts: counts,
-        };
-    };
-    Offering {
-        answer: answer,
-        counts: Record {
-            variables: counts.variables,
-            clauses: counts.clauses,
-            rows: counts.rows + 1,
-            is_open: counts.is_open,
-        },
+    let counts = record_of(variables, clauses, rows, flag);
+    let r = calls::offer(counts, literals, ends, images, names, values);
+    let answer = r.answer;
+    let after = r.counts;
+    match answer {
+        Offered::Accepted => stored_at(0, 0, after),
+        Offered::Refused(refusal) => stored_at(refusal.number(), refusal.place() as u64, after),
     }
 }
 
-fn turned_back(refusal: Refusal, counts: Record) -> Offering
-    ensures { λ r. ⌜ r ≡ record { answer = Offered.Refused refusal; counts = counts } ⌝ }
-{
-    Offering {
-        answer: Offered::Refused(refusal),
-        counts: counts,
-    }
-}
-
-// ---- the made formula
-
-// Writes the made formula's header line.
-pub fn header(
-    counts: Record,
+#[no_mangle]
+pub extern "C" fn symbreak_header(
+    variables: u64,
+    clauses: u64,
+    rows: u64,
+    flag: u64,
     literals: &[u16],
     ends: &[u16],
     images: &[u16],
     out: &mut [u8],
-) -> Answer
-    ensures says { λ r. let s = stored counts (literals .entry) (ends .entry) (images .entry) in
-        ⌜ said r ≡ headerSays s (length (now (out .entry))) ⌝ }
-    ensures leaves { λ _. let s = stored counts (literals .entry) (ends .entry) (images .entry) in
+) -> CAnswer
+    ensures says { λ r. let s = stored (recordOf variables clauses rows flag) (literals .entry) (ends .entry) (images .entry) in
+        ⌜ r ≡ cAnswer (headerSays s (length (now (out .entry)))) ⌝ }
+    ensures leaves { λ _. let s = stored (recordOf variables clauses rows flag) (literals .entry) (ends .entry) (images .entry) in
         ⌜ now (out .exit) ≡ headerLeaves s (now (out .entry)) ⌝ }
 {
-    if let Standing::Refused(refusal) = store::form::admit(counts, literals, ends, images) {
-        return Answer::Refused(refusal);
-    }
-    emit::header(lexleader::counting::totals_of(counts, images), out)
+    let counts = record_of(variables, clauses, rows, flag);
+    c_answer(calls::header(counts, literals, ends, images, out))
 }
 
-// Writes the line of the made formula's clause q, from 1.
-pub fn clause(
-    counts: Record,
+#[no_mangle]
+pub extern "C" fn symbreak_clause(
+    variables: u64,
+    clauses: u64,
+    rows: u64,
+    flag: u64,
     literals: &[u16],
     ends: &[u16],
     images: &[u16],
-    q: usize,
+    q: u64,
     out: &mut [u8],
-) -> Answer
-    ensures says { λ r. let s = stored counts (literals .entry) (ends .entry) (images .entry) in
-        ⌜ said r ≡ clauseSays s q (length (now (out .entry))) ⌝ }
-    ensures leaves { λ _. let s = stored counts (literals .entry) (ends .entry) (images .entry) in
+) -> CAnswer
+    ensures says { λ r. let s = stored (recordOf variables clauses rows flag) (literals .entry) (ends .entry) (images .entry) in
+        ⌜ r ≡ cAnswer (clauseSays s q (length (now (out .entry)))) ⌝ }
+    ensures leaves { λ _. let s = stored (recordOf variables clauses rows flag) (literals .entry) (ends .entry) (images .entry) in
         ⌜ now (out .exit) ≡ clauseLeaves s q (now (out .entry)) ⌝ }
 {
-    if let Standing::Refused(refusal) = store::form::admit(counts, literals, ends, images) {
-        return Answer::Refused(refusal);
-    }
-    emit::clause(counts, literals, ends, images, q, out)
+    let counts = record_of(variables, clauses, rows, flag);
+    c_answer(calls::clause(counts, literals, ends, images, q as usize, out))
 }
 
-// ---- models
-
-// Writes the assignment of 1..N that an assignment of 1..n fills in as.
-pub fn fill_in(
-    counts: Record,
+#[no_mangle]
+pub extern "C" fn symbreak_fill_in(
+    variables: u64,
+    clauses: u64,
+    rows: u64,
+    flag: u64,
     literals: &[u16],
     ends: &[u16],
     images: &[u16],
     a: &[u64],
     out: &mut [u64],
-) -> Answer
-    ensures says { λ r. let s = stored counts (literals .entry) (ends .entry) (images .entry) in
-        ⌜ said r ≡ fillSays s (now (a .entry)) (length (now (out .entry))) ⌝ }
-    ensures leaves { λ _. let s = stored counts (literals .entry) (ends .entry) (images .entry) in
+) -> CAnswer
+    ensures says { λ r. let s = stored (recordOf variables clauses rows flag) (literals .entry) (ends .entry) (images .entry) in
+        ⌜ r ≡ cAnswer (fillSays s (now (a .entry)) (length (now (out .entry)))) ⌝ }
+    ensures leaves { λ _. let s = stored (recordOf variables clauses rows flag) (literals .entry) (ends .entry) (images .entry) in
         ⌜ now (out .exit) ≡ fillLeaves s (now (a .entry)) (now (out .entry)) ⌝ }
 {
-    if let Standing::Refused(refusal) = store::form::admit(counts, literals, ends, images) {
-        return Answer::Refused(refusal);
-    }
-    if !packed::is_assignment(a, counts.variables) {
-        return Answer::Refused(Refusal::BadAssignment);
-    }
-    let total = lexleader::counting::totals_of(counts, images);
-    let needed = packed::word_count(total.variables);
-    if out.len() < needed {
-        return Answer::Refused(Refusal::TooShort(needed));
-    }
-    Answer::Value(filling::fill(images, counts.rows, counts.variables, a, out) as u64)
+    let counts = record_of(variables, clauses, rows, flag);
+    c_answer(calls::fill_in(counts, literals, ends, images, a, out))
 }
 
-// Whether an assignment of 1..N satisfies the made formula, or its first clause that is false.
-pub fn check(counts: Record, literals: &[u16], ends: &[u16], images: &[u16], a: &[u64]) -> Finding
-    ensures { λ r. let s = stored counts (literals .entry) (ends .entry) (images .entry) in
-        ⌜ saidFinding r ≡ checkSays s (now (a .entry)) ⌝ }
+#[no_mangle]
+pub extern "C" fn symbreak_check(
+    variables: u64,
+    clauses: u64,
+    rows: u64,
+    flag: u64,
+    literals: &[u16],
+    ends: &[u16],
+    images: &[u16],
+    a: &[u64],
+) -> CAnswer
+    ensures { λ r. let s = stored (recordOf variables clauses rows flag) (literals .entry) (ends .entry) (images .entry) in
+        ⌜ r ≡ cChecked (checkSays s (now (a .entry))) ⌝ }
 {
-    if let Standing::Refused(refusal) = store::form::admit(counts, literals, ends, images) {
-        return Finding::Refused(refusal);
+    let counts = record_of(variables, clauses, rows, flag);
+    match calls::check(counts, literals, ends, images, a) {
+        Finding::Found(found) => c_checked(found),
+        Finding::Refused(r) => c_answer(Answer::Refused(r)),
     }
-    let total = lexleader::counting::totals_of(counts, images);
-    if !packed::is_assignment(a, total.variables) {
-        return Finding::Refused(Refusal::BadAssignment);
-    }
-    Finding::Found(checking::first_false(counts, literals, ends, images, a))
 }
 
-// Moves an assignment of 1..n by the first row that makes it smaller, as often as the limit allows and one does.
-pub fn descend(
-    counts: Record,
+#[no_mangle]
+pub extern "C" fn symbreak_descend(
+    variables: u64,
+    clauses: u64,
+    rows: u64,
+    flag: u64,
     literals: &[u16],
     ends: &[u16],
     images: &[u16],
     a: &mut [u64],
     limit: u64,
-) -> Descent
-    ensures says { λ r. let s = stored counts (literals .entry) (ends .entry) (images .entry) in
-        ⌜ saidDescent r ≡ descendSays s (now (a .entry)) limit ⌝ }
-    ensures leaves { λ _. let s = stored counts (literals .entry) (ends .entry) (images .entry) in
+) -> CDescent
+    ensures says { λ r. let s = stored (recordOf variables clauses rows flag) (literals .entry) (ends .entry) (images .entry) in
+        ⌜ r ≡ cDescent (descendSays s (now (a .entry)) limit) ⌝ }
+    ensures leaves { λ _. let s = stored (recordOf variables clauses rows flag) (literals .entry) (ends .entry) (images .entry) in
         ⌜ now (a .exit) ≡ descendLeaves s (now (a .entry)) limit ⌝ }
 {
-    if let Standing::Refused(refusal) = store::form::admit(counts, literals, ends, images) {
-        return Descent::Refused(refusal);
+    let counts = record_of(variables, clauses, rows, flag);
+    match calls::descend(counts, literals, ends, images, a, limit) {
+        Descent::Ended(ending) => c_descent(ending),
+        Descent::Refused(r) => CDescent {
+            refusal: r.number(),
+            place: r.place() as u64,
+            settled: 0,
+            moves: 0,
+        },
     }
-    if !packed::is_assignment(a, counts.variables) {
-        return Descent::Refused(Refusal::BadAssignment);
-    }
-    Descent::Ended(descent::descend(images, counts.rows, counts.variables, a, limit))
 }
 
-// ---- assignments
-
-// Where two assignments first differ; words of any value.
-pub fn compare(a: &[u64], b: &[u64]) -> Answer
-    ensures { λ r. ⌜ said r ≡ compareSays (now (a .entry)) (now (b .entry)) ⌝ }
+#[no_mangle]
+pub extern "C" fn symbreak_compare(a: &[u64], b: &[u64]) -> CAnswer
+    ensures { λ r. ⌜ r ≡ cAnswer (compareSays (now (a .entry)) (now (b .entry))) ⌝ }
 {
-    if a.len() != b.len() {
-        return Answer::Refused(Refusal::BadAssignment);
-    }
-    if packed::MAX_WORDS < a.len() {
-        return Answer::Refused(Refusal::BadAssignment);
-    }
-    Answer::Value(packed::first_difference(a, b) as u64)
+    c_answer(calls::compare(a, b))
 }
 
-// The lesser of two assignments, itself: one of the two slices lent, or the empty beginning of the first where their lengths differ.
-pub fn lesser<'a>(a: &'a [u64], b: &'a [u64]) -> &'a [u64]
-    ensures { λ r. ⌜ part r ≡ lesserOf (part (a .entry)) (part (b .entry)) ⌝ }
+#[no_mangle]
+pub extern "C" fn symbreak_efficiency(labelled: u64, unlabelled: u64, allowed: u64) -> CAnswer
+    ensures { λ r. ⌜ r ≡ cAnswer (efficiencySays labelled unlabelled allowed) ⌝ }
 {
-    packed::lesser(a, b)
+    c_answer(calls::efficiency(labelled, unlabelled, allowed))
 }
 
-// ---- the quality figure
-
-// Hundredths of a percent.
-pub fn efficiency(labelled: u64, unlabelled: u64, allowed: u64) -> Answer
-    ensures { λ r. ⌜ said r ≡ efficiencySays labelled unlabelled allowed ⌝ }
+// An answer with one value, as numbers.
+fn c_answer(answer: Answer) -> CAnswer
+    ensures { λ r. ⌜ r ≡ cAnswer (said answer) ⌝ }
 {
-    if !quality::has_efficiency(labelled, unlabelled, allowed) {
-        return Answer::Refused(Refusal::NoFigure);
+    match answer {
+        Answer::Value(value) => CAnswer {
+            refusal: 0,
+            place: 0,
+            value: value,
+        },
+        Answer::Refused(r) => CAnswer {
+            refusal: r.number(),
+            place: r.place() as u64,
+            value: 0,
+        },
     }
-    Answer::Value(quality::efficiency(labelled, unlabelled, allowed))
+}
+
+fn c_record(r: Record) -> CRecord
+    ensures { λ c. ⌜ c ≡ cRecord r ⌝ }
+{
+    CRecord {
+        variables: r.variables as u64,
+        clauses: r.clauses as u64,
+        rows: r.rows as u64,
+        is_open: flag(r.is_open),
+    }
+}
+
+fn c_checked(found: Checked) -> CAnswer
+    ensures { λ r. ⌜ r ≡ cChecked (done (verdictOf found)) ⌝ }
+{
+    match found {
+        Checked::Satisfied => c_answer(Answer::Value(0)),
+        Checked::Falsified(clause) => c_answer(Answer::Value(clause as u64)),
+    }
+}
+
+fn c_descent(ending: Descended) -> CDescent
+    ensures { λ r. ⌜ r ≡ cDescent (done (outcomeOf ending)) ⌝ }
+{
+    match ending {
+        Descended::Settled(moves) => CDescent {
+            refusal: 0,
+            place: 0,
+            settled: 1,
+            moves: moves,
+        },
+        Descended::Spent(moves) => CDescent {
+            refusal: 0,
+            place: 0,
+            settled: 0,
+            moves: moves,
+        },
+    }
+}
+
+fn record_of(variables: u64, clauses: u64, rows: u64, flag: u64) -> Record
+    ensures { λ r. ⌜ r ≡ recordOf variables clauses rows flag ⌝ }
+{
+    Record {
+        variables: variables as usize,
+        clauses: clauses as usize,
+        rows: rows as usize,
+        is_open: flag != 0,
+    }
+}
+
+fn stored_at(refusal: u32, place: u64, r: Record) -> CStored
+    ensures { λ c. ⌜ c ≡ cStoredAt refusal place r ⌝ }
+{
+    CStored {
+        refusal: refusal,
+        place: place,
+        variables: r.variables as u64,
+        clauses: r.clauses as u64,
+        rows: r.rows as u64,
+        is_open: flag(r.is_open),
+    }
+}
+
+fn flag(b: bool) -> u64
+    ensures { λ r. ⌜ r ≡ cond b 1 0 ⌝ }
+{
+    if b { 1 } else { 0 }
 }

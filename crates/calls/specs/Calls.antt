@@ -1,0 +1,139 @@
+-- What each public call says, in document 01's numbers, and what the lent store holds afterwards. For each answer enum of the code a definition gives
+-- the numbers and the values of its cases. Assumes nothing.
+use Prim.Native.Nat.{ℕ}
+use mathlib.Core.Bool.{true, cond, _&&_}
+use mathlib.Core.List.{List}
+use lib.ListN.{length}
+use lib.Dec.{eqb, leb}
+use Rattle.packed.specs.Words.{maxWords, bitsOf, wordCount, isAssignment}
+use Rattle.packed.specs.Order.{allBits, firstDifference}
+use Rattle.quality.specs.Efficiency.{hasEfficiency, efficiencyOf}
+use Rattle.store.specs.Refusals.{Said, done, refused, saidRefused, bufferLeft}
+use Rattle.store.specs.Stores.{Store, lent, withRow, heldRows, standingOf, maxRows}
+use Rattle.store.specs.declared.form.Standing.{Standing}
+use Rattle.store.specs.declared.record.Record.{Record}
+use Rattle.opening.specs.Clauses.{literalsIn, endsFrom}
+use Rattle.opening.specs.Opening.{bodyOf, openedBy, written}
+use Rattle.opening.specs.declared.Opened.{Opened}
+use Rattle.offering.specs.Offering.{rowFor, offeredBy}
+use Rattle.offering.specs.declared.Offered.{Offered}
+use Rattle.lexleader.specs.Descent.{descend}
+use Rattle.lexleader.specs.Store.{variablesOf}
+use Rattle.emit.specs.Emit.{headerOf, lineOf, headerBy, clauseBy}
+use Rattle.filling.specs.Written.{filledWords}
+use Rattle.checking.specs.Checking.{Verdict, verdictOf, firstFalse}
+use Rattle.descent.specs.Words.{Outcome, answerOf, outcomeOf, descended}
+use Rattle.calls.specs.declared.Descent.{Descent}
+use Rattle.calls.specs.declared.Finding.{Finding}
+
+-- a call that answers without a value
+pub data Accepted : Type 0 where
+  accepted : Accepted
+
+-- what a call that needs an open store says: 20 and 21 come first
+abbrev pub onStore : {Values : Type 0} → Standing → Said Values → Said Values
+onStore Standing.Ready said = said
+onStore (Standing.Refused r) said = saidRefused r
+
+-- ---- open: 1 to 6 by place, then 23. It looks at no old store, replaces it and drops its rows; a refused opening changes nothing.
+
+-- n and m
+pub record Sizes : Type 0 where
+  pub variables : ℕ
+  pub clauses : ℕ
+
+abbrev pub saidOpened : Opened → Said Sizes
+saidOpened (Opened.Open n m) = done (record { variables = n; clauses = m })
+saidOpened (Opened.Refused r) = saidRefused r
+
+unfoldable pub openSays : Store → List ℕ → Said Sizes
+openSays s text = saidOpened (openedBy text (length (s .literals)) (length (s .ends)))
+
+abbrev pub countsOpened : Opened → Record → Record
+countsOpened (Opened.Open n m) old = record { variables = n; clauses = m; rows = 0; is_open = true }
+countsOpened (Opened.Refused r) old = old
+
+unfoldable pub openStore : Store → List ℕ → Store
+openStore s text =
+    let answer = openedBy text (length (s .literals)) (length (s .ends)) in
+    lent (countsOpened answer (s .counts)) (written answer (literalsIn (bodyOf text)) (s .literals)) (written answer (endsFrom 0 (bodyOf text)) (s .ends)) (s .images)
+
+-- ---- offer: 20, 21, 22, then 7, 8, 9, 10, 11, 23
+
+abbrev pub saidOffered : Offered → Said Accepted
+saidOffered Offered.Accepted = done accepted
+saidOffered (Offered.Refused r) = saidRefused r
+
+unfoldable pub offerSays : Store → List ℕ → List ℕ → Said Accepted
+offerSays s names values = onStore (standingOf s) (cond (eqb (s .counts .rows) maxRows) (refused 22 0) (saidOffered (offeredBy s names values)))
+
+-- the store with one row more, or as it was where the offer is refused
+abbrev pub storeOffered : Said Accepted → Store → List ℕ → Store
+storeOffered (done a) s row = withRow s row
+storeOffered (refused number place) s row = s
+
+unfoldable pub offerStore : Store → List ℕ → List ℕ → Store
+offerStore s names values = storeOffered (offerSays s names values) s (rowFor s names values)
+
+-- ---- header and clause q: "each returning its byte length; bytes past it stay". 20, 21, then 13 for a clause, then 23
+
+unfoldable pub headerSays : Store → ℕ → Said ℕ
+headerSays s room = onStore (standingOf s) (headerBy s room)
+
+unfoldable pub headerLeaves : Store → List ℕ → List ℕ
+headerLeaves s out = bufferLeft (headerSays s (length out)) (headerOf s) out
+
+unfoldable pub clauseSays : Store → ℕ → ℕ → Said ℕ
+clauseSays s q room = onStore (standingOf s) (clauseBy s q room)
+
+unfoldable pub clauseLeaves : Store → ℕ → List ℕ → List ℕ
+clauseLeaves s q out = bufferLeft (clauseSays s q (length out)) (lineOf s q) out
+
+-- ---- compare: "one call gives that variable, or 0 when equal, and refuses unequal lengths or more than 519 words .. with 12", place 0
+
+unfoldable pub compareSays : List ℕ → List ℕ → Said ℕ
+compareSays a b =
+    cond (eqb (length a) (length b) && leb (length a) maxWords) (done (firstDifference (allBits a) (allBits b))) (refused 12 0)
+
+-- ---- fill in: 20, 21, 12, 23. It answers how many words it wrote; "Words after it stay."
+
+unfoldable pub fillSays : Store → List ℕ → ℕ → Said ℕ
+fillSays s a room =
+    let needed = wordCount (variablesOf s) in
+    onStore (standingOf s) (cond (isAssignment (s .counts .variables) a) (cond (leb needed room) (done needed) (refused 23 needed)) (refused 12 0))
+
+unfoldable pub fillLeaves : Store → List ℕ → List ℕ → List ℕ
+fillLeaves s a out = bufferLeft (fillSays s a (length out)) (filledWords (s .counts .variables) (heldRows s) a) out
+
+-- ---- check: 20, 21, 12. It "answers yes, or the first clause of the made formula that an assignment of 1..N makes false"
+
+abbrev pub saidFinding : Finding → Said Verdict
+saidFinding (Finding.Found found) = done (verdictOf found)
+saidFinding (Finding.Refused r) = saidRefused r
+
+unfoldable pub checkSays : Store → List ℕ → Said Verdict
+checkSays s a = onStore (standingOf s) (cond (isAssignment (variablesOf s) a) (done (firstFalse s a)) (refused 12 0))
+
+-- ---- descend: 20, 21, 12. It answers settled or spent with the count of moves, and leaves the assignment reached
+
+abbrev pub saidDescent : Descent → Said Outcome
+saidDescent (Descent.Ended ending) = done (outcomeOf ending)
+saidDescent (Descent.Refused r) = saidRefused r
+
+unfoldable pub descendSays : Store → List ℕ → ℕ → Said Outcome
+descendSays s a limit =
+    let n = s .counts .variables in
+    onStore (standingOf s) (cond (isAssignment n a) (done (answerOf (descend limit (heldRows s) (bitsOf n a)))) (refused 12 0))
+
+abbrev pub wordsLeft : Said Outcome → List ℕ → List ℕ → List ℕ
+wordsLeft (done outcome) reached a = reached
+wordsLeft (refused number place) reached a = a
+
+unfoldable pub descendLeaves : Store → List ℕ → ℕ → List ℕ
+descendLeaves s a limit = wordsLeft (descendSays s a limit) (descended (s .counts .variables) limit (heldRows s) a) a
+
+-- ---- efficiency: 14, place 0
+
+unfoldable pub efficiencySays : ℕ → ℕ → ℕ → Said ℕ
+efficiencySays labelled unlabelled allowed =
+    cond (hasEfficiency labelled unlabelled allowed) (done (efficiencyOf labelled unlabelled allowed)) (refused 14 0)

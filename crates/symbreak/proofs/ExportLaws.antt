@@ -1,0 +1,30 @@
+-- What the exports of calls that change the store owe to the calls: the parts of the store, and what C is told. Assumes nothing.
+use mathlib.Core.Path.{_≡_, ap}
+use Prim.Native.Nat.{ℕ}
+use Rattle.store.specs.Refusals.{Said, done, numberOf, placeOf, saidRefused}
+use Rattle.store.specs.Stores.{Store}
+use Rattle.store.specs.declared.record.Record.{Record}
+use Rattle.store.specs.declared.refusal.Refusal.{Refusal}
+use Rattle.symbreak.specs.Exports.{cStored, cStoredAt}
+use Rattle.symbreak.specs.declared.CStored.{CStored}
+
+-- a store by its parts
+pub counts-of : {s t : Store} → s ≡ t → s .counts ≡ t .counts
+counts-of e = ap (λ (s : Store). s .counts) e
+
+pub literals-of : {s t : Store} → s ≡ t → s .literals ≡ t .literals
+literals-of e = ap (λ (s : Store). s .literals) e
+
+pub ends-of : {s t : Store} → s ≡ t → s .ends ≡ t .ends
+ends-of e = ap (λ (s : Store). s .ends) e
+
+pub images-of : {s t : Store} → s ≡ t → s .images ≡ t .images
+images-of e = ap (λ (s : Store). s .images) e
+
+-- what C is told where the call gave a value, and where it refused
+pub told-done : {Values : Type 0} (said : Said Values) (v : Values) (r counts : Record) (c : CStored) → c ≡ cStoredAt 0 0 r → done v ≡ said → r ≡ counts → c ≡ cStored said counts
+told-done said v r counts c e q k = rw (← q, ← k) e
+
+pub told-refused : {Values : Type 0} (said : Said Values) (refusal : Refusal) (number place : ℕ) (r counts : Record) (c : CStored)
+    → c ≡ cStoredAt number place r → number ≡ numberOf refusal → place ≡ placeOf refusal → saidRefused refusal ≡ said → r ≡ counts → c ≡ cStored said counts
+told-refused said refusal number place r counts c e n p q k = rw (← q, ← k, ← n, ← p) e

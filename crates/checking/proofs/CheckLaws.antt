@@ -17,7 +17,7 @@ use Rattle.lexleader.specs.Models.{clauseHolds, formulaHolds}
 use Rattle.lexleader.specs.Store.{madeOf, variablesOf, clausesOf}
 use Rattle.lexleader.proofs.MadeLaws.{plain-length}
 use Rattle.lexleader.proofs.StoreBounds.{store-within}
-use Rattle.cursor.specs.Cursors.{addedFrom, leftOf, clausesLeft, Points, ClauseLeft}
+use Rattle.cursor.specs.Cursors.{addedFrom, remaining, remainingOf, CursorStands, ClauseRemains}
 use Rattle.cursor.specs.declared.Cursor.{Cursor}
 use Rattle.cursor.proofs.CursorLaws.{some-left}
 use Rattle.checking.specs.Checking.{yes, falseAt, falseFrom, firstFalse}
@@ -57,10 +57,10 @@ front-within q front rest is h = and-l (allOf q front) (allOf q rest) (sym (all-
 
 -- What is known at the cursor `at`, whose clause has the number q of m: the first false clause of all is that of the clauses from there on.
 pub record LeftToTry (s : Store) (a : List ℕ) (m : ℕ) (at : Cursor) (q : ℕ) : Type 0 where
-  pub same : firstFalse s a ≡ falseFrom q (valueOf (bitsOf (variablesOf s) a)) (clausesLeft s at)
-  pub points : Points (s .counts) (s .images) at
-  pub count : q + length (clausesLeft s at) ≡ m + 1
-  pub within : LiteralsWithin (variablesOf s) (clausesLeft s at)
+  pub same : firstFalse s a ≡ falseFrom q (valueOf (bitsOf (variablesOf s) a)) (remainingOf s at)
+  pub stands : CursorStands (s .counts) (s .images) at
+  pub count : q + length (remainingOf s at) ≡ m + 1
+  pub within : LiteralsWithin (variablesOf s) (remainingOf s at)
 
 module _ (s : Store) (formed : wellFormed s ≡ true) (a : List ℕ) where
   abbrev N : ℕ
@@ -69,11 +69,11 @@ module _ (s : Store) (formed : wellFormed s ≡ true) (a : List ℕ) where
   abbrev values : ℕ → Bool
   values = valueOf (bitsOf N a)
 
-  pub try-first : {m : ℕ} → m ≡ clausesOf s → {at : Cursor} → Points (s .counts) (s .images) at → clausesLeft s at ≡ madeOf s → LeftToTry s a m at 1
+  pub try-first : {m : ℕ} → m ≡ clausesOf s → {at : Cursor} → CursorStands (s .counts) (s .images) at → remainingOf s at ≡ madeOf s → LeftToTry s a m at 1
   unfolding firstFalse clausesOf
-  try-first count points all = record {
+  try-first count stands all = record {
     same = ap (falseFrom 1 values) (sym all);
-    points = points;
+    stands = stands;
     count = omega (arith, ap length all);
     within = rw all (store-within s formed);
   }
@@ -81,34 +81,34 @@ module _ (s : Store) (formed : wellFormed s ≡ true) (a : List ℕ) where
   module _ {m : ℕ} {at : Cursor} {q : ℕ} (t : LeftToTry s a m at q) where
     -- a clause is left, and the words have a bit for each of its variables
     module _ (more : q ≤ m) where
-      some : 0 < length (clausesLeft s at)
+      some : 0 < length (remainingOf s at)
       some = omega (arith, t .count)
 
-      pub left-some : ClauseLeft (s .counts) at
+      pub left-some : ClauseRemains (s .counts) at
       left-some = some-left (plainOf s) (s .counts) (plain-length s formed) (s .images) at some
 
-      pub head-within : allOf (isLiteral N) (getD (clausesLeft s at) 0 []) ≡ true
-      head-within = all-at (allOf (isLiteral N)) (clausesLeft s at) [] (t .within) 0 some
+      pub head-within : allOf (isLiteral N) (getD (remainingOf s at) 0 []) ≡ true
+      head-within = all-at (allOf (isLiteral N)) (remainingOf s at) [] (t .within) 0 some
 
-      pub try-found : clauseHolds values (getD (clausesLeft s at) 0 []) ≡ false → falseAt q ≡ firstFalse s a
-      try-found h = sym (t .same ∙ found q values (clausesLeft s at) some h)
+      pub try-found : clauseHolds values (getD (remainingOf s at) 0 []) ≡ false → falseAt q ≡ firstFalse s a
+      try-found h = sym (t .same ∙ found q values (remainingOf s at) some h)
 
     pub added-within : LiteralsWithin N (addedFrom (s .counts) (s .images) (at .row) (at .place))
-    unfolding leftOf
+    unfolding remaining
     added-within = rest-within (allOf (isLiteral N)) (drop (at .plain) (plainOf s)) _ refl (t .within)
 
     pub try-all : m < q → yes ≡ firstFalse s a
-    try-all h = sym (t .same ∙ none-false q values (clausesLeft s at) (omega (arith, t .count)))
+    try-all h = sym (t .same ∙ none-false q values (remainingOf s at) (omega (arith, t .count)))
 
     -- past clauses that hold
-    module _ (clauses : List (List ℕ)) (d : Cursor) (is : clausesLeft s at ≡ clauses ++ clausesLeft s d) where
+    module _ (clauses : List (List ℕ)) (d : Cursor) (is : remainingOf s at ≡ clauses ++ remainingOf s d) where
       pub front-literals : LiteralsWithin N clauses
-      front-literals = front-within (allOf (isLiteral N)) clauses (clausesLeft s d) is (t .within)
+      front-literals = front-within (allOf (isLiteral N)) clauses (remainingOf s d) is (t .within)
 
-      pub try-on : Points (s .counts) (s .images) d → formulaHolds values clauses ≡ true → LeftToTry s a m d (q + length clauses)
-      try-on points hold = record {
-        same = t .same ∙ ap (falseFrom q values) is ∙ passed-all q values clauses (clausesLeft s d) hold;
-        points = points;
-        count = omega (arith, t .count, ap length is, length-append clauses (clausesLeft s d));
-        within = rest-within (allOf (isLiteral N)) clauses (clausesLeft s d) is (t .within);
+      pub try-on : CursorStands (s .counts) (s .images) d → formulaHolds values clauses ≡ true → LeftToTry s a m d (q + length clauses)
+      try-on stands hold = record {
+        same = t .same ∙ ap (falseFrom q values) is ∙ passed-all q values clauses (remainingOf s d) hold;
+        stands = stands;
+        count = omega (arith, t .count, ap length is, length-append clauses (remainingOf s d));
+        within = rest-within (allOf (isLiteral N)) clauses (remainingOf s d) is (t .within);
       }

@@ -1,17 +1,17 @@
 -- The six clauses of an auxiliary at once: what they say, and the range of their literals. Assumes nothing.
-use mathlib.Core.Path.{_≡_, refl, sym, _∙_}
+use mathlib.Core.Path.{_≡_, refl, sym}
 use mathlib.Core.Bool.{Bool, true, false, not, cond, _&&_, _||_, Bool·beq, and-true, or-false}
 use mathlib.Core.List.{List, []}
-use Prim.Native.Nat.{ℕ, _+_, _-_, _*_, _/_, _%_, _<_}
+use Prim.Native.Nat.{ℕ, _+_, _-_, _*_, _%_, _<_}
 use native.Mathlib.Omega.{arith}
-use borrow.Author.Tests.{ne-eqb, le-leb}
+use borrow.Author.Tests.{ne-eqb}
 use lib.Dec.{eqb}
 use lib.ListN.{length, getD}
 use Rattle.lists.specs.Tests.{anyOf, allOf}
 use Rattle.lists.proofs.Cases.{never}
 use Rattle.lists.proofs.Members.{all-at}
 use Rattle.store.specs.Literals.{oppositeOf, isLiteral}
-use Rattle.store.proofs.FormLaws.{literal-low, literal-high, literal-most}
+use Rattle.store.proofs.FormLaws.{literal-low, literal-high, literal-within}
 use Rattle.lexleader.specs.Models.{literalValue, clauseHolds, formulaHolds}
 use Rattle.lexleader.specs.Made.{agrees}
 use Rattle.lexleader.specs.Clause.{columnOf, pairAt}
@@ -97,7 +97,7 @@ by-opposite n i h =
     let odd : oppositeOf (2 * i) ≡ 2 * i + 1 = rw (ne-eqb (2 * i % 2) 1 (λ z. omega arith)) in
     let low = literal-low n (oppositeOf (2 * i)) h in
     let high = literal-high n (oppositeOf (2 * i)) h in
-    literal-most n (2 * i) (λ z. omega arith) ∙ le-leb (2 * i / 2) n (omega arith)
+    literal-within n (2 * i) (omega arith) (omega arith)
 
 module _ (n : ℕ) (row : List ℕ) (p : Place) (h : LiteralsWithin n (sixAt row p)) where
   abbrev table : Bool → List (List ℕ)

@@ -24,7 +24,7 @@ ghost use Rattle.lexleader.specs.Made.{agrees};
 ghost use Rattle.lexleader.specs.Clause.{pairAt};
 ghost use Rattle.lexleader.specs.Places.{sixAt, ClauseStands};
 ghost use Rattle.lexleader.specs.Store.{variablesOf};
-ghost use Rattle.cursor.specs.Cursors.{addedFrom, clausesLeft, rowOf, Points, ClauseLeft, AtAuxiliary};
+ghost use Rattle.cursor.specs.Cursors.{addedFrom, remainingOf, rowOf, CursorStands, ClauseRemains, AtAuxiliary};
 ghost use Rattle.checking.specs.Checking.{verdictOf, firstFalse};
 ghost use Rattle.checking.specs.SixClauses.{LiteralsWithin, PairWithin, ordered, auxiliaryDue};
 
@@ -68,7 +68,7 @@ pub fn first_false(
 
 // Whether a cursor stands at the first of an auxiliary's six clauses and they all hold.
 fn six_hold(counts: Record, images: &[u16], at: Cursor, a: &[u64]) -> bool
-    requires { ⌜ Points counts (now images) at
+    requires { ⌜ CursorStands counts (now images) at
         × LiteralsWithin (64 * length (now a)) (addedFrom counts (now images) (at .row) (at .place)) ⌝ }
     ensures { λ r. let images = now (images .entry) in
         let six = sixAt (rowOf counts images at) (at .place) in
@@ -160,10 +160,10 @@ fn holds_at(
     a: &[u64],
 ) -> bool
     requires { let s = stored counts literals ends images in
-        ⌜ (wellFormed s ≡ true) × Points counts (now images) at × ClauseLeft counts at
-        × (allOf (isLiteral (64 * length (now a))) (getD (clausesLeft s at) 0 []) ≡ true) ⌝ }
+        ⌜ (wellFormed s ≡ true) × CursorStands counts (now images) at × ClauseRemains counts at
+        × (allOf (isLiteral (64 * length (now a))) (getD (remainingOf s at) 0 []) ≡ true) ⌝ }
     ensures { λ r. let s = stored counts (literals .entry) (ends .entry) (images .entry) in
-        let clause = getD (clausesLeft s at) 0 [] in
+        let clause = getD (remainingOf s at) 0 [] in
         ⌜ ((n : ℕ) → allOf (isLiteral n) clause ≡ true → r ≡ clauseHolds (valueOf (bitsOf n (now (a .entry)))) clause) ⌝ }
 {
     if at.plain < counts.clauses {

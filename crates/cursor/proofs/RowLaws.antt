@@ -83,7 +83,7 @@ module _ (counts : Record) (images : List ℕ) (r : ℕ) where
         unfolding rowsClauses
         first-here =
             here
-            ∙ ap₂ (λ (l : List (List ℕ)) (k : ℕ). l ++ rowsClauses k later) (z .left) (z .auxiliary)
+            ∙ ap₂ (λ (l : List (List ℕ)) (k : ℕ). l ++ rowsClauses k later) (z .are) (z .auxiliary)
             ∙ sym (ap (rowsClauses e) (from-here n (counts .rows) images r h))
 
         pub first-few : e ≤ maxBefore r + 1 → auxiliaryAfter row p ≤ maxBefore (r + 1) + 1
@@ -93,6 +93,6 @@ module _ (counts : Record) (images : List ℕ) (r : ℕ) where
     pub after-here : (clauses : List (List ℕ)) (p q : Place) → PlaceAfter row p clauses q → addedFrom counts images r p ≡ clauses ++ addedFrom counts images r q
     after-here clauses p q z =
         here p
-        ∙ ap₂ (λ (l : List (List ℕ)) (k : ℕ). l ++ rowsClauses k later) (z .left) (sym (z .auxiliary))
+        ∙ ap₂ (λ (l : List (List ℕ)) (k : ℕ). l ++ rowsClauses k later) (z .passed) (sym (z .auxiliary))
         ∙ append-assoc clauses (clausesAt row q) (rowsClauses (auxiliaryAfter row q) later)
         ∙ ap (λ (l : List (List ℕ)). clauses ++ l) (sym (here q))

@@ -22,29 +22,29 @@ unfoldable pub addedFrom : Record → List ℕ → ℕ → Place → List (List 
 addedFrom counts images r p = addedLeft (rowsFrom (counts .variables) (counts .rows) images r) p
 
 -- the clauses from a cursor on: these plain ones, then those that the rows add
-unfoldable pub leftOf : List (List ℕ) → Record → List ℕ → Cursor → List (List ℕ)
-leftOf plain counts images c = drop (c .plain) plain ++ addedFrom counts images (c .row) (c .place)
+unfoldable pub remaining : List (List ℕ) → Record → List ℕ → Cursor → List (List ℕ)
+remaining plain counts images c = drop (c .plain) plain ++ addedFrom counts images (c .row) (c .place)
 
 -- the clauses of a store's made formula from a cursor on
-abbrev pub clausesLeft : Store → Cursor → List (List ℕ)
-clausesLeft s c = leftOf (plainOf s) (s .counts) (s .images) c
+abbrev pub remainingOf : Store → Cursor → List (List ℕ)
+remainingOf s c = remaining (plainOf s) (s .counts) (s .images) c
 
 -- the row that a cursor is in
 abbrev pub rowOf : Record → List ℕ → Cursor → List ℕ
 rowOf counts images c = rowAt (counts .variables) (c .row) images
 
 -- a cursor of a store: where a row is left, a clause of it stands at the cursor's place
-pub record Points (counts : Record) (images : List ℕ) (c : Cursor) : Type 0 where
+pub record CursorStands (counts : Record) (images : List ℕ) (c : Cursor) : Type 0 where
   pub rows : FormedRows (counts .variables) (counts .rows) images
   pub plain : c .plain ≤ counts .clauses
   pub row : c .row ≤ counts .rows
   pub place : c .row < counts .rows → PlaceStands (rowOf counts images c) (c .place)
   pub there : c .row < counts .rows → c .place .index < counts .variables
-  pub few : c .row < counts .rows → auxiliaryAfter (rowOf counts images c) (c .place) ≤ maxBefore (c .row + 1) + 1
+  pub after-most : c .row < counts .rows → auxiliaryAfter (rowOf counts images c) (c .place) ≤ maxBefore (c .row + 1) + 1
 
 -- a clause is left: a plain one, or one that a row adds
-abbrev pub ClauseLeft : Record → Cursor → Type 0
-ClauseLeft counts c = counts .clauses ≤ c .plain → c .row < counts .rows
+abbrev pub ClauseRemains : Record → Cursor → Type 0
+ClauseRemains counts c = counts .clauses ≤ c .plain → c .row < counts .rows
 
 -- a cursor past the plain clauses, at one that a row adds
 pub record AtAdded (counts : Record) (c : Cursor) : Type 0 where
@@ -59,5 +59,5 @@ pub record AtAuxiliary (counts : Record) (c : Cursor) : Type 0 where
 
 -- d is the cursor past these clauses, from c on, whatever the plain ones are
 pub record CursorAfter (counts : Record) (images : List ℕ) (c : Cursor) (clauses : List (List ℕ)) (d : Cursor) : Type 0 where
-  pub points : Points counts images d
-  pub left : (plain : List (List ℕ)) → length plain ≡ counts .clauses → leftOf plain counts images c ≡ clauses ++ leftOf plain counts images d
+  pub stands : CursorStands counts images d
+  pub passed : (plain : List (List ℕ)) → length plain ≡ counts .clauses → remaining plain counts images c ≡ clauses ++ remaining plain counts images d

@@ -21,7 +21,7 @@ ghost use Rattle.store.specs.Stores.{rowsOf, rowsFrom, FormedRows};
 ghost use Rattle.lexleader.specs.Made.{made, rowsClauses};
 ghost use Rattle.lexleader.specs.Bounds.{maxBefore};
 ghost use Rattle.lexleader.specs.Places.{clausesAt, sixAt, auxiliaryAfter, PlaceStands, PlaceAfter};
-ghost use Rattle.cursor.specs.Cursors.{addedFrom, leftOf, rowOf, Points, ClauseLeft, AtAdded, AtAuxiliary, CursorAfter};
+ghost use Rattle.cursor.specs.Cursors.{addedFrom, remaining, rowOf, CursorStands, ClauseRemains, AtAdded, AtAuxiliary, CursorAfter};
 
 // How many plain clauses are passed, the row whose clauses come next, and the place among them.
 pub struct Cursor {
@@ -33,21 +33,21 @@ pub struct Cursor {
 // The cursor before the first clause.
 pub fn start(counts: Record, images: &[u16]) -> Cursor
     requires { ⌜ FormedRows (counts .variables) (counts .rows) (now images) ⌝ }
-    ensures points { λ r. ⌜ Points counts (now (images .entry)) r ⌝ }
-    ensures left { λ r. let images = now (images .entry) in
+    ensures stands { λ r. ⌜ CursorStands counts (now (images .entry)) r ⌝ }
+    ensures remaining { λ r. let images = now (images .entry) in
         let rows = rowsOf (counts .variables) (counts .rows) images in
-        ⌜ ((plain : List (List ℕ)) → leftOf plain counts images r ≡ made (counts .variables) plain rows) ⌝ }
+        ⌜ ((plain : List (List ℕ)) → remaining plain counts images r ≡ made (counts .variables) plain rows) ⌝ }
 {
     row_from(counts, images, 0, 0, counts.variables as u32 + 1)
 }
 
 // The cursor after the clause at one.
 pub fn next(counts: Record, images: &[u16], cursor: Cursor) -> Cursor
-    requires { ⌜ Points counts (now images) cursor × ClauseLeft counts cursor ⌝ }
-    ensures points { λ r. ⌜ Points counts (now (images .entry)) r ⌝ }
-    ensures left { λ r. let images = now (images .entry) in
+    requires { ⌜ CursorStands counts (now images) cursor × ClauseRemains counts cursor ⌝ }
+    ensures stands { λ r. ⌜ CursorStands counts (now (images .entry)) r ⌝ }
+    ensures remaining { λ r. let images = now (images .entry) in
         ⌜ ((plain : List (List ℕ)) → length plain ≡ counts .clauses
-        → leftOf plain counts images cursor ≡ getD (leftOf plain counts images cursor) 0 [] ∷ leftOf plain counts images r) ⌝ }
+        → remaining plain counts images cursor ≡ getD (remaining plain counts images cursor) 0 [] ∷ remaining plain counts images r) ⌝ }
 {
     if cursor.plain < counts.clauses {
         let place = cursor.place;
@@ -62,7 +62,7 @@ pub fn next(counts: Record, images: &[u16], cursor: Cursor) -> Cursor
 
 // The cursor after a clause that a row adds, in the same row or a later one.
 pub fn next_added(counts: Record, images: &[u16], cursor: Cursor) -> Cursor
-    requires { ⌜ Points counts (now images) cursor × AtAdded counts cursor ⌝ }
+    requires { ⌜ CursorStands counts (now images) cursor × AtAdded counts cursor ⌝ }
     ensures { λ r. let images = now (images .entry) in
         let clause = getD (clausesAt (rowOf counts images cursor) (cursor .place)) 0 [] in
         ⌜ CursorAfter counts images cursor (clause ∷ []) r ⌝ }
@@ -92,7 +92,7 @@ pub fn at_auxiliary(counts: Record, cursor: Cursor) -> bool
 
 // The cursor after the six clauses of an auxiliary, from one at the first of them.
 pub fn next_auxiliary(counts: Record, images: &[u16], cursor: Cursor) -> Cursor
-    requires { ⌜ Points counts (now images) cursor × AtAuxiliary counts cursor ⌝ }
+    requires { ⌜ CursorStands counts (now images) cursor × AtAuxiliary counts cursor ⌝ }
     ensures { λ r. let images = now (images .entry) in
         ⌜ CursorAfter counts images cursor (sixAt (rowOf counts images cursor) (cursor .place)) r ⌝ }
 {
@@ -105,7 +105,7 @@ pub fn next_auxiliary(counts: Record, images: &[u16], cursor: Cursor) -> Cursor
 // The cursor at a later place of its row, or past the row's last clause at the first one of a later row.
 fn at_place(counts: Record, images: &[u16], cursor: Cursor, place: Place) -> Cursor
     requires { let row = rowOf counts (now images) cursor in
-        ⌜ Points counts (now images) cursor × AtAdded counts cursor
+        ⌜ CursorStands counts (now images) cursor × AtAdded counts cursor
         × PlaceStands row place × (auxiliaryAfter row place ≡ auxiliaryAfter row (cursor .place)) ⌝ }
     ensures { λ r. let images = now (images .entry) in
         ⌜ ((clauses : List (List ℕ)) → PlaceAfter (rowOf counts images cursor) (cursor .place) clauses place
@@ -131,8 +131,8 @@ fn at_place(counts: Record, images: &[u16], cursor: Cursor, place: Place) -> Cur
 fn row_from(counts: Record, images: &[u16], plain: usize, row: usize, e: u32) -> Cursor
     requires { ⌜ FormedRows (counts .variables) (counts .rows) (now images)
         × (plain ≤ counts .clauses) × (row ≤ counts .rows) × (e ≤ maxBefore row + 1) ⌝ }
-    ensures points { λ r. ⌜ Points counts (now (images .entry)) r × (r .plain ≡ plain) ⌝ }
-    ensures left { λ r. let images = now (images .entry) in
+    ensures stands { λ r. ⌜ CursorStands counts (now (images .entry)) r × (r .plain ≡ plain) ⌝ }
+    ensures remaining { λ r. let images = now (images .entry) in
         let rows = rowsFrom (counts .variables) (counts .rows) images row in
         ⌜ addedFrom counts images (r .row) (r .place) ≡ rowsClauses e rows ⌝ }
 {

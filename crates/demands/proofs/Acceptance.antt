@@ -36,7 +36,7 @@ module _ (s : Store) (names values : List ℕ) where
   pub record Accepts : Type 0 where
     pub opened : s .counts .is_open ≡ true
     pub formed : wellFormed s ≡ true
-    pub few : s .counts .rows < maxRows
+    pub not-full : s .counts .rows < maxRows
     pub stated : statedBy (s .counts .variables) names values ≡ Stated.Permutation
     pub none-missing : firstMissing (rowFor s names values) (plainOf s) ≡ 0
     pub room : imagesNeeded s ≤ length (s .images)
@@ -63,7 +63,7 @@ module _ (s : Store) (names values : List ℕ) where
           record {
             opened = r .0;
             formed = r .1;
-            few = lt-of-le-ne (rest-of s (r .1) .rows-fit) (eqb-false _ _ qc);
+            not-full = lt-of-le-ne (rest-of s (r .1) .rows-fit) (eqb-false _ _ qc);
             stated = qd;
             none-missing = eqb-true _ _ qe;
             room = leb-true _ _ qf;
@@ -78,7 +78,7 @@ module _ (s : Store) (names values : List ℕ) where
 
   pub accepts-said : Accepts → offerSays s names values ≡ done accepted
   accepts-said a =
-      tried s names values (ready-of s (a .opened) (a .formed)) (λ e. omega (arith, a .few))
+      tried s names values (ready-of s (a .opened) (a .formed)) (λ e. omega (arith, a .not-full))
       ∙ ap saidOffered (held s names values (a .stated) _ refl (a .none-missing) (a .room))
 
   -- Demand 2: of an open, well-formed store that is not full and has room, two lines that state a permutation by the rules are accepted exactly when the
@@ -88,7 +88,7 @@ module _ (s : Store) (names values : List ℕ) where
       → (offerSays s names values ≡ done accepted) ↔ IsSymmetry (rowFor s names values) (plainOf s)
   accepted-iff-symmetry qo qf few room stated = (
     λ said. symmetry .0 (accepts-of said .none-missing),
-    λ sym. accepts-said (record { opened = qo; formed = qf; few = few; stated = stated; none-missing = symmetry .1 sym; room = room }),
+    λ sym. accepts-said (record { opened = qo; formed = qf; not-full = few; stated = stated; none-missing = symmetry .1 sym; room = room }),
   )
     where
       symmetry : (missing ≡ 0) ↔ IsSymmetry (rowFor s names values) (plainOf s)
@@ -108,7 +108,7 @@ module _ (s : Store) (names values : List ℕ) where
     store-accepted = rw said
 
     pub accepted-symmetry : IsSymmetry (rowFor s names values) (plainOf s)
-    accepted-symmetry = let a = accepts-of said in accepted-iff-symmetry (a .opened) (a .formed) (a .few) (a .room) (a .stated) .0 said
+    accepted-symmetry = let a = accepts-of said in accepted-iff-symmetry (a .opened) (a .formed) (a .not-full) (a .room) (a .stated) .0 said
 
     pub accepted-row : isRow (s .counts .variables) (rowFor s names values) ≡ true
     accepted-row = stated-row (s .counts .variables) names values (accepts-of said .stated)
@@ -121,4 +121,4 @@ module _ (s : Store) (names values : List ℕ) where
     accepted-formed =
         let a = accepts-of said in
         ap wellFormed store-accepted
-        ∙ with-row-formed s (rowFor s names values) (row-length (s .counts .variables) names values) (a .room) (a .formed) accepted-row (a .few)
+        ∙ with-row-formed s (rowFor s names values) (row-length (s .counts .variables) names values) (a .room) (a .formed) accepted-row (a .not-full)

@@ -72,8 +72,8 @@ pub demand-2 : (s : Store) → Demand2 s
 demand-2 s = record {
   accepts = λ names values. (
     λ said. let a = accepts-of s names values said in
-        (record { opened = a .opened; formed = a .formed; few = a .few; stated = a .stated; room = a .room }, accepted-symmetry s names values said),
-    λ both. let p = both .0 in accepted-iff-symmetry s names values (p .opened) (p .formed) (p .few) (p .room) (p .stated) .1 (both .1),
+        (record { opened = a .opened; formed = a .formed; not-full = a .not-full; stated = a .stated; room = a .room }, accepted-symmetry s names values said),
+    λ both. let p = both .0 in accepted-iff-symmetry s names values (p .opened) (p .formed) (p .not-full) (p .room) (p .stated) .1 (both .1),
   );
   holds = λ names values said. accepted-held s names values said;
   named = λ names values said k h. row-at-name (s .counts .variables) names values (accepts-of s names values said .stated) k h;

@@ -11,7 +11,7 @@ use lib.Dec.{eqb, ltb}
 use Rattle.lists.specs.Tests.{anyOf, has}
 use Rattle.lists.proofs.Cases.{never, and-l, and-r, and-both, not-so}
 use Rattle.dimacs.specs.Words.{Piece, wordsAt}
-use Rattle.dimacs.specs.Numbers.{Numeral, numberOf}
+use Rattle.dimacs.specs.Numbers.{Numeral, numeralOf}
 use Rattle.dimacs.specs.declared.Number.{Number}
 use Rattle.store.specs.Literals.{codeOf, variableOf, isNegative}
 use Rattle.store.specs.Numerals.{codeIn}
@@ -39,9 +39,9 @@ numberWalk before words = notNumber words
 
 number-turn : (before : List Piece) (w : Piece) (after : List Piece) → AllPass Numeric before → Turn Numeric numberWalk faultAt before w after
 unfolding notNumber
-number-turn before w after p = by (numberOf (w .bytes)) refl
+number-turn before w after p = by (numeralOf (w .bytes)) refl
   where
-    by : (x : Numeral) → numberOf (w .bytes) ≡ x → Turn Numeric numberWalk faultAt before w after
+    by : (x : Numeral) → numeralOf (w .bytes) ≡ x → Turn Numeric numberWalk faultAt before w after
     by (Numeral.Is x) e = on (x, e) (rw e)
     by Numeral.Not e = stop (λ h. let z : _≡_ {A = ℕ} 0 1 = cc (h .1) in omega arith) (rw e)
 
@@ -64,7 +64,7 @@ module _ (w : Piece) (x : Number) (reads : Reads w x) where
   size-of : variable w ≡ x .size
   size-of = coded w x reads .variable
 
-no-code : (w : Piece) → numberOf (w .bytes) ≡ Numeral.Not → codeIn w ≡ 0
+no-code : (w : Piece) → numeralOf (w .bytes) ≡ Numeral.Not → codeIn w ≡ 0
 unfolding codeIn
 no-code w e = rw e
 
@@ -151,7 +151,7 @@ nameWalk n before words = badNameAfter n (seen before) words
 
 name-turn : (n : ℕ) (before : List Piece) (w : Piece) (after : List Piece) → AllPass (Name n) before → Turn (Name n) (nameWalk n) faultAt before w after
 unfolding badNameAfter
-name-turn n before w after p = by (numberOf (w .bytes)) refl
+name-turn n before w after p = by (numeralOf (w .bytes)) refl
   where
     plain : Plain before
     plain = plain-names n before p
@@ -172,7 +172,7 @@ name-turn n before w after p = by (numberOf (w .bytes)) refl
             let size = size-of w (h .0) (h .1) in
             is-image n (codeIn w) (omega (arith, size, h .3)) (omega (arith, size, h .4)) (omega (arith, eqb-false (codeIn w % 2) 1 (sign-of w (h .0) (h .1) ∙ h .2)))
 
-    by : (x : Numeral) → numberOf (w .bytes) ≡ x → Turn (Name n) (nameWalk n) faultAt before w after
+    by : (x : Numeral) → numeralOf (w .bytes) ≡ x → Turn (Name n) (nameWalk n) faultAt before w after
     by (Numeral.Is x) e = test x e (isImage n (codeIn w) && not (has (seen before) (variable w))) refl
     by Numeral.Not e = stop (λ h. let z : _≡_ {A = ℕ} 0 1 = cc (h .1) in omega arith) (rw (no-image n (codeIn w) (no-code w e)))
 
@@ -210,7 +210,7 @@ module _ (n end : ℕ) (line : List ℕ) (all : AllPass (Name n) (wordsAt line 0
         let name : has (namesOn line) (x .size) ≡ true = rw (size-of w x reads) at (and-r (not (isNegative (codeIn w))) (has (namesOn line) (variable w)) e) in
         (plus, plain-says x names-plain plus .0 (among-map nameWords (x .size) .0 name))
 
-  no-name : (w : Piece) → numberOf (w .bytes) ≡ Numeral.Not → isValue (namesOn line) (codeIn w) ≡ false
+  no-name : (w : Piece) → numeralOf (w .bytes) ≡ Numeral.Not → isValue (namesOn line) (codeIn w) ≡ false
   unfolding namesOn
   no-name w e = not-so (isValue (namesOn line) (codeIn w)) (λ t.
       let m = among-map nameWords (variable w) .0 (and-r (not (isNegative (codeIn w))) (has (namesOn line) (variable w)) t) in
@@ -223,7 +223,7 @@ module _ (n end : ℕ) (line : List ℕ) (all : AllPass (Name n) (wordsAt line 0
 
   value-turn : (before : List Piece) (w : Piece) (after : List Piece) → AllPass (Value nameWords) before → Turn (Value nameWords) valueWalk faultAt before w after
   unfolding badValueAfter
-  value-turn before w after p = by (numberOf (w .bytes)) refl
+  value-turn before w after p = by (numeralOf (w .bytes)) refl
     where
       plain : Plain before
       plain = plain-values before p
@@ -240,7 +240,7 @@ module _ (n end : ℕ) (line : List ℕ) (all : AllPass (Name n) (wordsAt line 0
           (λ h. never (sym q ∙ and-both (name-test w (h .0) (h .1) (h .2)) (new-test before plain w (h .0) (h .1) (says-plus names-plain (h .2)) (h .3))))
           (rw q)
 
-      by : (x : Numeral) → numberOf (w .bytes) ≡ x → Turn (Value nameWords) valueWalk faultAt before w after
+      by : (x : Numeral) → numeralOf (w .bytes) ≡ x → Turn (Value nameWords) valueWalk faultAt before w after
       by (Numeral.Is x) e = test x e (isValue (namesOn line) (codeIn w) && not (has (seen before) (variable w))) refl
       by Numeral.Not e = stop (λ h. let z : _≡_ {A = ℕ} 0 1 = cc (h .1) in omega arith) (rw (no-name w e))
 

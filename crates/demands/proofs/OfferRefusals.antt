@@ -77,8 +77,8 @@ module _ (n : ℕ) (names line : List ℕ) (named : AllPass (Name n) (wordsAt na
   abbrev Passes : List Piece → Piece → Type 0
   Passes = Value (wordsAt names 0)
 
-  abbrev few : Bool
-  few = ltb (length (wordsAt line 0)) (length (wordsAt names 0))
+  abbrev too-few : Bool
+  too-few = ltb (length (wordsAt line 0)) (length (wordsAt names 0))
 
   abbrev valueFault : Fault
   valueFault = badValueAfter (namesOn names) (length line) [] (wordsAt line 0)
@@ -86,9 +86,9 @@ module _ (n : ℕ) (names line : List ℕ) (named : AllPass (Name n) (wordsAt na
   value-exact : {said : Said Accepted} {reasons : List Reason} → ((p : ℕ) → valueFault ≡ Fault.At p → said ≡ refused 10 p) → (valueFault ≡ Fault.Nowhere → Exact reasons said)
       → Exact (badValue (wordsAt names 0) line ∷ reasons) said
   unfolding seen-from
-  value-exact {said} {reasons} to rest = by few refl (value-walked n (length line) names named (wordsAt line 0))
+  value-exact {said} {reasons} to rest = by too-few refl (value-walked n (length line) names named (wordsAt line 0))
     where
-      by : (t : Bool) → few ≡ t → Walked Passes (valueWalk n (length line) names named) faultAt (wordsAt line 0) → Exact (badValue (wordsAt names 0) line ∷ reasons) said
+      by : (t : Bool) → too-few ≡ t → Walked Passes (valueWalk n (length line) names named) faultAt (wordsAt line 0) → Exact (badValue (wordsAt names 0) line ∷ reasons) said
       by t q (found f e) =
           refuses (badValue (wordsAt names 0) line) (f .it .place) (inl (f, refl))
           (λ p. ⊎-elim (λ h. h .1 ∙ ap placeIn (one-first Passes (h .0) f .1)) (λ h. absurd (never-both Passes (h .0) f)))

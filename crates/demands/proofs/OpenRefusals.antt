@@ -1,6 +1,6 @@
 -- Opening refuses by its list of reasons: the lines up to the problem line, then the words after it from the left. Assumes nothing.
 use mathlib.Core.Path.{_≡_, refl, sym, ap, _∙_}
-use mathlib.Core.Bool.{Bool, true, false, cond, _&&_}
+use mathlib.Core.Bool.{Bool, true, false, cond}
 use mathlib.Core.List.{List, [], _∷_, _++_, append-assoc, append-nil}
 use mathlib.Core.Logic.{_⊎_, inl, inr, ⊎-elim}
 use Prim.Native.Nat.{ℕ, _+_, _≤_, _<_}
@@ -11,7 +11,7 @@ use lib.Dec.{eqb, ltb, leb}
 use Rattle.lists.proofs.Cases.{never, eq-or-ne, lt-or-le}
 use Rattle.dimacs.specs.Words.{Piece, wordsAt}
 use Rattle.dimacs.specs.Lines.{linesAt}
-use Rattle.dimacs.specs.Numbers.{Numeral, numberOf}
+use Rattle.dimacs.specs.Numbers.{Numeral, numeralOf}
 use Rattle.dimacs.specs.declared.Number.{Number}
 use Rattle.store.specs.Refusals.{Said, saidRefused}
 use Rattle.store.specs.Stores.{Store, maxVariables, maxClauses, maxLiterals}
@@ -32,7 +32,7 @@ use Rattle.demands.proofs.Refusing.{Exact, same-said, refuses, goes-on,
 
 -- ---- the words after the problem line
 
-count-more : (test : Numeral → Bool) (before : List Piece) (w : Piece) → countOf test (before ++ (w ∷ [])) ≡ countOf test before + cond (test (numberOf (w .bytes))) 1 0
+count-more : (test : Numeral → Bool) (before : List Piece) (w : Piece) → countOf test (before ++ (w ∷ [])) ≡ countOf test before + cond (test (numeralOf (w .bytes))) 1 0
 unfolding countOf
 count-more test [] w = omega arith
 count-more test (y ∷ before) w = omega (arith, count-more test before w)
@@ -117,9 +117,9 @@ module _ (end n m literals ends : ℕ) (all : List Piece) where
             ))
 
       word-exact : Scans (notNumber w ∷ literalBeyond n w ∷ tooManyLiterals before w ∷ later) before (w ∷ words)
-      word-exact = by (numberOf (w .bytes)) refl
+      word-exact = by (numeralOf (w .bytes)) refl
         where
-          by : (x : Numeral) → numberOf (w .bytes) ≡ x → Scans (notNumber w ∷ literalBeyond n w ∷ tooManyLiterals before w ∷ later) before (w ∷ words)
+          by : (x : Numeral) → numeralOf (w .bytes) ≡ x → Scans (notNumber w ∷ literalBeyond n w ∷ tooManyLiterals before w ∷ later) before (w ∷ words)
           by (Numeral.Is x) e = missed (λ f. f (x, e)) (⊎-elim (zero-exact x e) (literal-exact x e) (eq-or-ne (x .size) 0))
           by Numeral.Not e =
               held
@@ -161,27 +161,6 @@ problem-here : (text : List ℕ) (f : FirstFailing Comment (linesAt text 0)) →
     → problemOf text ≡ withinLimits (sizesOf (f .it .bytes)) (f .it .place) (f .it .place + length (f .it .bytes))
 unfolding problemOf problemIn
 problem-here text f after = rw after
-
-within-line : (z : Sizes) (place at n m end : ℕ) → withinLimits z place at ≡ Problem.Line n m end → (z ≡ Sizes.Are n m) × (end ≡ at)
-within-line Sizes.Not place at n m end e = never (cc)
-within-line (Sizes.Are a b) place at n m end e = by (leb a maxVariables && leb b maxClauses) e
-  where
-    by : (t : Bool) → cond t (Problem.Line a b at) (Problem.Refused (Refusal.SizeOverLimit place)) ≡ Problem.Line n m end → (Sizes.Are a b ≡ Sizes.Are n m) × (end ≡ at)
-    by true q = (cc, cc)
-    by false q = never (cc)
-
--- n, m and the end of the problem line are those of the first line that is no comment
-pub problem-line : (text : List ℕ) (n m end : ℕ) → problemOf text ≡ Problem.Line n m end
-    → (f : FirstFailing Comment (linesAt text 0)) × (sizesOf (f .it .bytes) ≡ Sizes.Are n m) × (end ≡ f .it .place + length (f .it .bytes))
-unfolding problemOf problemIn afterComments
-problem-line text n m end e = by (comments (linesAt text 0))
-  where
-    by : Walked Comment commentWalk lineAt (linesAt text 0)
-        → (f : FirstFailing Comment (linesAt text 0)) × (sizesOf (f .it .bytes) ≡ Sizes.Are n m) × (end ≡ f .it .place + length (f .it .bytes))
-    by (none all k) = never (cc)
-    by (found f k) =
-        let h = within-line (sizesOf (f .it .bytes)) (f .it .place) (f .it .place + length (f .it .bytes)) n m end (sym (problem-here text f k) ∙ e) in
-        (f, h .0, h .1)
 
 module _ (s : Store) (text : List ℕ) where
   abbrev room-literals : ℕ

@@ -7,7 +7,7 @@ use Rattle.lists.specs.Tests.{anyOf, allOf, distinct}
 use Rattle.lists.specs.Tables.{table}
 use Rattle.dimacs.specs.Words.{isBlank, run, wordsFrom}
 use Rattle.dimacs.specs.Lines.{linesFrom}
-use Rattle.dimacs.specs.Numbers.{isDigit, decimalFrom, digitsOf, sizeOf, numberOf}
+use Rattle.dimacs.specs.Numbers.{isDigit, decimalFrom, digitsOf, sizeOf, numeralOf}
 use Rattle.packed.specs.Words.{bitIn, bitAt, bitsOf, binary, wordCount, wordsOf, spareBits, isAssignment}
 use Rattle.packed.specs.Order.{less}
 use Rattle.quality.specs.Efficiency.{hasEfficiency, efficiencyOf}
@@ -100,7 +100,7 @@ starred :
     ∷ figured (done 9750)
     ∷ []
 unfolding
-    openStore offerSays offerStore anyOf allOf distinct table isBlank run wordsFrom linesFrom isDigit decimalFrom digitsOf sizeOf numberOf isLiteral codeIn rising literalCount
+    openStore offerSays offerStore anyOf allOf distinct table isBlank run wordsFrom linesFrom isDigit decimalFrom digitsOf sizeOf numeralOf isLiteral codeIn rising literalCount
     rowsOf cut plainOf isImage isRow demands wellFormed standingOf afterComments sameBytes fourWords sizesOf problemIn problemOf scanFrom literalsIn endsFrom bodyOf openedBy notNumber
     badNameAfter badName badValueAfter namesOn valuesOn statedBy imageAmong rowStated within sameSet imageOf clauseImage hasImage missingFrom ifRoom ifSymmetry offeredBy
     efficiencySays hasEfficiency efficiencyOf descendSays descendLeaves descended descendFrom stepBy lowers moved less literalValue heldRows bitsOf wordsOf binary

@@ -30,7 +30,7 @@ module _ (s : Store) where
   pub record Permitted (names values : List ℕ) : Type 0 where
     pub opened : s .counts .is_open ≡ true
     pub formed : wellFormed s ≡ true
-    pub few : s .counts .rows < maxRows
+    pub not-full : s .counts .rows < maxRows
     pub stated : statedBy (s .counts .variables) names values ≡ Stated.Permutation
     pub room : imagesNeeded s ≤ length (s .images)
 

@@ -10,7 +10,7 @@ use lib.ListN.{length}
 use lib.Dec.{eqb}
 use Rattle.dimacs.specs.Words.{Piece, wordsAt}
 use Rattle.dimacs.specs.Lines.{linesAt}
-use Rattle.dimacs.specs.Numbers.{Numeral, numberOf}
+use Rattle.dimacs.specs.Numbers.{Numeral, numeralOf}
 use Rattle.dimacs.specs.declared.Number.{Number}
 use Rattle.packed.specs.Words.{maxWords, wordCount, isAssignment}
 use Rattle.quality.specs.Efficiency.{maxLabelled}
@@ -74,7 +74,7 @@ sizeOverLimit text = record {
 
 -- the word is the number x, and it is some number
 abbrev pub Reads : Piece → Number → Type 0
-Reads w x = numberOf (w .bytes) ≡ Numeral.Is x
+Reads w x = numeralOf (w .bytes) ≡ Numeral.Is x
 
 abbrev pub IsNumber : Piece → Type 0
 IsNumber w = (x : Number) × Reads w x
@@ -90,7 +90,7 @@ literalBeyond n w = reason 4 ((x : Number) × Reads w x × (n < x .size)) (w .pl
 -- "clauses: literals, closed by `0`": how many clauses some words close, and how many literals they are
 unfoldable pub countOf : (Numeral → Bool) → List Piece → ℕ
 countOf test [] = 0
-countOf test (w ∷ words) = cond (test (numberOf (w .bytes))) 1 0 + countOf test words
+countOf test (w ∷ words) = cond (test (numeralOf (w .bytes))) 1 0 + countOf test words
 
 abbrev pub isZero : Numeral → Bool
 isZero (Numeral.Is x) = eqb (x .size) 0

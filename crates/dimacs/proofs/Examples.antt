@@ -5,24 +5,24 @@ use mathlib.Core.List.{[], _∷_, map}
 use Rattle.lists.specs.Tests.{allOf}
 use Rattle.dimacs.specs.Words.{isBlank, run, wordsFrom, wordsAt}
 use Rattle.dimacs.specs.Lines.{linesFrom, linesAt}
-use Rattle.dimacs.specs.Numbers.{Numeral, isDigit, decimalFrom, digitsOf, sizeOf, numberOf, readingAt}
+use Rattle.dimacs.specs.Numbers.{Numeral, isDigit, decimalFrom, digitsOf, sizeOf, numeralOf, readingAt}
 use Rattle.dimacs.specs.declared.Reading.{Reading}
 
 -- the empty word, `-`, `-0`, `00`, `01`, `+1` and `1000000`
 no-numbers :
-    map numberOf ([] ∷ (45 ∷ []) ∷ (45 ∷ 48 ∷ []) ∷ (48 ∷ 48 ∷ []) ∷ (48 ∷ 49 ∷ []) ∷ (43 ∷ 49 ∷ []) ∷ (49 ∷ 48 ∷ 48 ∷ 48 ∷ 48 ∷ 48 ∷ 48 ∷ []) ∷ [])
+    map numeralOf ([] ∷ (45 ∷ []) ∷ (45 ∷ 48 ∷ []) ∷ (48 ∷ 48 ∷ []) ∷ (48 ∷ 49 ∷ []) ∷ (43 ∷ 49 ∷ []) ∷ (49 ∷ 48 ∷ 48 ∷ 48 ∷ 48 ∷ 48 ∷ 48 ∷ []) ∷ [])
     ≡ Numeral.Not ∷ Numeral.Not ∷ Numeral.Not ∷ Numeral.Not ∷ Numeral.Not ∷ Numeral.Not ∷ Numeral.Not ∷ []
-unfolding isDigit decimalFrom digitsOf sizeOf numberOf allOf
+unfolding isDigit decimalFrom digitsOf sizeOf numeralOf allOf
 no-numbers = refl
 
 -- `0`, `-7` and `999999`
 numbers :
-    map numberOf ((48 ∷ []) ∷ (45 ∷ 55 ∷ []) ∷ (57 ∷ 57 ∷ 57 ∷ 57 ∷ 57 ∷ 57 ∷ []) ∷ [])
+    map numeralOf ((48 ∷ []) ∷ (45 ∷ 55 ∷ []) ∷ (57 ∷ 57 ∷ 57 ∷ 57 ∷ 57 ∷ 57 ∷ []) ∷ [])
     ≡ Numeral.Is (record { negative = false; size = 0 })
     ∷ Numeral.Is (record { negative = true; size = 7 })
     ∷ Numeral.Is (record { negative = false; size = 999999 })
     ∷ []
-unfolding isDigit decimalFrom digitsOf sizeOf numberOf allOf
+unfolding isDigit decimalFrom digitsOf sizeOf numeralOf allOf
 numbers = refl
 
 -- a carriage return, a NUL and bytes over 127 belong to words
@@ -37,5 +37,5 @@ lines = refl
 
 -- ` -3 ` read at 1
 reads : readingAt (32 ∷ 45 ∷ 51 ∷ 32 ∷ []) 1 ≡ Reading.Found (record { negative = true; size = 3 }) (record { at = 3 })
-unfolding isBlank run isDigit decimalFrom digitsOf sizeOf numberOf readingAt allOf
+unfolding isBlank run isDigit decimalFrom digitsOf sizeOf numeralOf readingAt allOf
 reads = refl

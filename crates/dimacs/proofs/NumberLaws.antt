@@ -14,7 +14,7 @@ use lib.Seq.{drop-cons, take-nil}
 use Rattle.lists.specs.Tests.{allOf}
 use Rattle.lists.proofs.Cases.{never, and-l, and-r}
 use Rattle.dimacs.specs.Words.{isBlank, isWordByte, run}
-use Rattle.dimacs.specs.Numbers.{Size, isDigit, decimalFrom, digitsOf, padded, sizeOf, positive, negated, numberOf}
+use Rattle.dimacs.specs.Numbers.{Size, isDigit, decimalFrom, digitsOf, padded, sizeOf, positive, negated, numeralOf}
 use Rattle.dimacs.proofs.Runs.{run-length}
 
 -- ---- digits
@@ -113,17 +113,17 @@ pub minus-ink : (b : ℕ) → eqb b 45 ≡ true → isWordByte b ≡ true
 unfolding isBlank
 minus-ink b e = rw (eqb-true b 45 e)
 
-pub number-minus : (s : List ℕ) → eqb (getD s 0 0) 45 ≡ true → numberOf (run isWordByte s) ≡ negated (sizeOf (run isWordByte (drop 1 s)))
-unfolding run isBlank numberOf
+pub number-minus : (s : List ℕ) → eqb (getD s 0 0) 45 ≡ true → numeralOf (run isWordByte s) ≡ negated (sizeOf (run isWordByte (drop 1 s)))
+unfolding run isBlank numeralOf
 number-minus [] e = never e
 number-minus (b ∷ r) e = rw (eqb-true b 45 e)
 
-pub number-plain : (s : List ℕ) → eqb (getD s 0 0) 45 ≡ false → numberOf (run isWordByte s) ≡ positive (sizeOf (run isWordByte s))
-unfolding run numberOf sizeOf
+pub number-plain : (s : List ℕ) → eqb (getD s 0 0) 45 ≡ false → numeralOf (run isWordByte s) ≡ positive (sizeOf (run isWordByte s))
+unfolding run numeralOf sizeOf
 number-plain [] e = refl
 number-plain (b ∷ r) e = by (isBlank b)
   where
-    by : (t : Bool) → numberOf (cond (not t) (b ∷ run isWordByte r) []) ≡ positive (sizeOf (cond (not t) (b ∷ run isWordByte r) []))
+    by : (t : Bool) → numeralOf (cond (not t) (b ∷ run isWordByte r) []) ≡ positive (sizeOf (cond (not t) (b ∷ run isWordByte r) []))
     by true = refl
     by false = rw e
 

@@ -13,7 +13,7 @@ use lib.Seq.{drop-drop, getD-drop}
 use Rattle.lists.proofs.Cases.{lt-or-le}
 use Rattle.lists.proofs.Members.{all-at}
 use Rattle.dimacs.specs.Words.{isBlank, isWordByte, run, runEnd}
-use Rattle.dimacs.specs.Numbers.{Size, Numeral, isDigit, decimalFrom, digitsOf, sizeOf, positive, negated, numberOf, wordAt, readingIf, readingAt}
+use Rattle.dimacs.specs.Numbers.{Size, Numeral, isDigit, decimalFrom, digitsOf, sizeOf, positive, negated, numeralOf, wordAt, readingIf, readingAt}
 use Rattle.dimacs.specs.declared.Reading.{Reading}
 use Rattle.dimacs.proofs.Runs.{run-length, run-all, run-first, run-step}
 use Rattle.dimacs.proofs.NumberLaws.{digit-range, decimal-some, decimal-zero, digits-are, minus-ink, size-empty, size-padded, size-zero, size-digits, size-goes-on, number-minus, number-plain, word-is-digits}
@@ -54,7 +54,7 @@ module _ {text : List ℕ} {at start end value : ℕ} {negative : Bool} (w : Wal
       here = ap (λ (b : ℕ). eqb b 45) (sym (getD-drop at text 0 0 ∙ ap (λ (n : ℕ). getD text n 0) (add-zero at)))
 
       by : (n : Bool) → eqb (getD (drop at text) 0 0) 45 ≡ n → start ≡ at + cond n 1 0
-          → readingIf (numberOf (wordAt text at)) at (runEnd isWordByte text at) ≡ readingIf (signed n (sizeOf (wordAt text start))) at (runEnd isWordByte text start)
+          → readingIf (numeralOf (wordAt text at)) at (runEnd isWordByte text at) ≡ readingIf (signed n (sizeOf (wordAt text start))) at (runEnd isWordByte text start)
       by true s f =
           rw (f, number-minus (drop at text) s, drop-drop 1 at text, run-step isWordByte text at (w .inside) (minus-ink (getD text at 0) (here ∙ s)))
       by false s f = rw (f, add-zero at, number-plain (drop at text) s)

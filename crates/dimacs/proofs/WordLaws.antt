@@ -8,7 +8,7 @@ use native.Mathlib.Omega.{arith}
 use lib.ListN.{length, drop, getD, drop-of-length-le}
 use lib.Seq.{drop-cons, drop-drop}
 use Rattle.dimacs.specs.Words.{isBlank, isWordByte, run, runEnd, Piece, wordsFrom, wordsAt}
-use Rattle.dimacs.specs.Numbers.{Numeral, numberOf, wordAt, readingIf, readingAt}
+use Rattle.dimacs.specs.Numbers.{Numeral, numeralOf, wordAt, readingIf, readingAt}
 use Rattle.dimacs.specs.declared.Number.{Number}
 use Rattle.dimacs.specs.declared.Cursor.{Cursor}
 use Rattle.dimacs.specs.declared.Reading.{Reading}
@@ -80,27 +80,27 @@ module _ (text : List ℕ) where
 -- ---- what `read` says of the word at a place
 
 pub record IsNumber (text : List ℕ) (at : ℕ) (x : Number) (next : ℕ) : Type 0 where
-  pub number : numberOf (wordAt text at) ≡ Numeral.Is x
+  pub number : numeralOf (wordAt text at) ≡ Numeral.Is x
   pub past : next ≡ runEnd isWordByte text at
 
 module _ (text : List ℕ) (at : ℕ) where
   pub read-found : (x : Number) (c : Cursor) → readingAt text at ≡ Reading.Found x c → IsNumber text at x (c .at)
   unfolding readingAt
-  read-found x c e = by (numberOf (wordAt text at)) refl e
+  read-found x c e = by (numeralOf (wordAt text at)) refl e
     where
-      by : (p : Numeral) → numberOf (wordAt text at) ≡ p → readingIf p at (runEnd isWordByte text at) ≡ Reading.Found x c → IsNumber text at x (c .at)
+      by : (p : Numeral) → numeralOf (wordAt text at) ≡ p → readingIf p at (runEnd isWordByte text at) ≡ Reading.Found x c → IsNumber text at x (c .at)
       by (Numeral.Is y) q k = record { number = cc; past = cc }
       by Numeral.Not q k = let z : _≡_ {A = ℕ} 0 1 = cc in absurd (omega arith)
 
-  pub read-refused : (place : ℕ) → readingAt text at ≡ Reading.Refused place → (numberOf (wordAt text at) ≡ Numeral.Not) × (place ≡ at)
+  pub read-refused : (place : ℕ) → readingAt text at ≡ Reading.Refused place → (numeralOf (wordAt text at) ≡ Numeral.Not) × (place ≡ at)
   unfolding readingAt
-  read-refused place e = by (numberOf (wordAt text at)) refl e
+  read-refused place e = by (numeralOf (wordAt text at)) refl e
     where
-      by : (p : Numeral) → numberOf (wordAt text at) ≡ p → readingIf p at (runEnd isWordByte text at) ≡ Reading.Refused place → (numberOf (wordAt text at) ≡ Numeral.Not) × (place ≡ at)
+      by : (p : Numeral) → numeralOf (wordAt text at) ≡ p → readingIf p at (runEnd isWordByte text at) ≡ Reading.Refused place → (numeralOf (wordAt text at) ≡ Numeral.Not) × (place ≡ at)
       by (Numeral.Is y) q k = let z : _≡_ {A = ℕ} 0 1 = cc in absurd (omega arith)
       by Numeral.Not q k = (q, cc)
 
   -- a place at or past the end has no word, so no number
   pub read-past : length text ≤ at → readingAt text at ≡ Reading.Refused at
-  unfolding readingAt numberOf run
+  unfolding readingAt numeralOf run
   read-past h = rw (drop-of-length-le text h)

@@ -50,9 +50,9 @@ negated (Size.Is v) = cond (eqb v 0) Numeral.Not (Numeral.Is (record { negative 
 negated Size.Not = Numeral.Not
 
 -- digits, or `-` and digits
-unfoldable pub numberOf : List ℕ → Numeral
-numberOf [] = Numeral.Not
-numberOf (b ∷ rest) = cond (eqb b 45) (negated (sizeOf rest)) (positive (sizeOf (b ∷ rest)))
+unfoldable pub numeralOf : List ℕ → Numeral
+numeralOf [] = Numeral.Not
+numeralOf (b ∷ rest) = cond (eqb b 45) (negated (sizeOf rest)) (positive (sizeOf (b ∷ rest)))
 
 -- the word that starts at a place: empty at a blank and at the end
 abbrev pub wordAt : List ℕ → ℕ → List ℕ
@@ -64,4 +64,4 @@ readingIf Numeral.Not place end = Reading.Refused place
 
 -- the number that the word at a place is, with the cursor past the word; or the place where no number is
 unfoldable pub readingAt : List ℕ → ℕ → Reading
-readingAt text at = readingIf (numberOf (wordAt text at)) at (runEnd isWordByte text at)
+readingAt text at = readingIf (numeralOf (wordAt text at)) at (runEnd isWordByte text at)

@@ -49,7 +49,7 @@ header-there s well c = ap₂ headerLine (counted-variables s c) (counted-clause
 -- a stored clause has no more literals than a store
 pub clause-short : (m : ℕ) (literals ends : List ℕ) → FormedClauses m literals ends → (c : ℕ) → c < m → length (clauseAt literals ends c) ≤ maxLiterals
 clause-short m literals ends f c h =
-    omega (arith, length-slice (literalCount c ends) (literalCount (c + 1) ends) literals (f .within c h), f .few c h)
+    omega (arith, length-slice (literalCount c ends) (literalCount (c + 1) ends) literals (f .within c h), f .literals-fit c h)
 
 module _ (s : Store) (q room : ℕ) where
   pub no-clause-zero : q ≡ 0 → refused 13 0 ≡ clauseBy s q room

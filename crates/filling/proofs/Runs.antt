@@ -149,4 +149,4 @@ module _ {n rows : ℕ} {images : List ℕ} (f : FormedRows n rows images) (k : 
   made-room = omega arith
 
   pub made-bounded : n + allAuxiliaries (rowsOf n rows images) ≤ 64 * maxWords
-  made-bounded = omega (arith, all-auxiliaries-most n rows images (f .small), f .few, f .small)
+  made-bounded = omega (arith, all-auxiliaries-most n rows images (f .small), f .rows-fit, f .small)

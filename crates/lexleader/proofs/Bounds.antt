@@ -11,12 +11,10 @@ use lib.ListN.{length, getD, take, drop, length-append, length-take}
 use Rattle.lists.specs.Tests.{allOf}
 use Rattle.lists.proofs.Cases.{and-l, and-r, and-both, lt-or-le, eq-or-ne}
 use Rattle.lists.proofs.Members.{all-append}
-use Rattle.packed.specs.Words.{maxWords, wordCount}
 use Rattle.store.specs.Stores.{maxVariables, isRow, rowsOf}
 use Rattle.store.proofs.Formed.{row-of}
 use Rattle.lexleader.specs.Rows.{Pair, pairsOf}
 use Rattle.lexleader.specs.Made.{laterClauses, pairClauses, rowClauses, auxiliaries, rowsClauses, allAuxiliaries}
-use Rattle.lexleader.specs.Bounds.{maxMadeVariables}
 use Rattle.lexleader.specs.Clause.{pairsAt}
 use Rattle.lexleader.proofs.Walk.{pairs-start, pairs-length, walk-past, walk-moved, walk-end, later-pairs}
 use Rattle.lexleader.proofs.Numbers.{row-few, row-many}
@@ -131,8 +129,3 @@ rows-short e [] = refl
 rows-short e (row ∷ rows) =
     all-append isShort (rowClauses e row) (rowsClauses (e + auxiliaries row) rows)
     ∙ and-both (row-short e (pairsOf row)) (rows-short (e + auxiliaries row) rows)
-
--- "more than 519 words (N is at most 33,216)": an assignment of all variables that a made formula can have is one that a comparison takes
-pub words-enough : wordCount maxMadeVariables ≡ maxWords
-unfolding wordCount
-words-enough = refl

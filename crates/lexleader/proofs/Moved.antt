@@ -2,10 +2,10 @@
 use mathlib.Core.Path.{_≡_, refl, ap, _∙_}
 use mathlib.Core.Bool.{Bool, true, false, not, cond, _&&_, _||_, Bool·beq}
 use mathlib.Core.List.{List, [], _∷_, map}
-use Prim.Native.Nat.{ℕ, suc, _+_, _-_, _*_, _/_, _≤_, _<_, zero-le, suc-le-suc}
+use Prim.Native.Nat.{ℕ, suc, _+_, _-_, _*_, _≤_, _<_, zero-le, suc-le-suc}
 use native.Mathlib.Nat.{add-zero}
 use native.Mathlib.Omega.{arith}
-use borrow.Author.Tests.{eqb-true, le-leb}
+use borrow.Author.Tests.{eqb-true}
 use lib.Dec.{eqb}
 use lib.ListN.{length, getD}
 use Rattle.lists.specs.Tests.{allOf}
@@ -13,7 +13,7 @@ use Rattle.lists.proofs.Cases.{and-l, and-r, and-both}
 use Rattle.lists.proofs.Members.{all-in}
 use Rattle.packed.specs.Order.{valueOf, less}
 use Rattle.store.specs.Literals.{isLiteral}
-use Rattle.store.proofs.FormLaws.{literal-most}
+use Rattle.store.proofs.FormLaws.{literal-within}
 use Rattle.store.proofs.Formed.{Row}
 use Rattle.lexleader.specs.Models.{literalValue}
 use Rattle.lexleader.specs.Rows.{moved, lowers, pairsFrom, pairsOf}
@@ -61,7 +61,7 @@ both-from n i (y ∷ row) low high h = go (eqb y (2 * i)) (both-from n (i + 1) r
     rest = and-r (isLiteral n y) (allOf (isLiteral n) row) h
 
     own : isLiteral n (2 * i) ≡ true
-    own = literal-most n (2 * i) (omega arith) ∙ le-leb (2 * i / 2) n (omega arith)
+    own = literal-within n (2 * i) (omega arith) (omega arith)
 
     go : (c : Bool) → allOf (both (isLiteral n)) (pairsFrom (i + 1) row) ≡ true
         → allOf (both (isLiteral n)) (cond c (pairsFrom (i + 1) row) (record { x = 2 * i; y = y } ∷ pairsFrom (i + 1) row)) ≡ true
@@ -80,5 +80,4 @@ module _ (n : ℕ) (row : List ℕ) (r : Row n row) where
       both-from n 1 row (omega arith) (omega (arith, r .size))
       (all-in (isLiteral n) row 0 (λ i h.
       let inside : i < n = omega (arith, r .size) in
-      let low = r .low i inside in
-      literal-most n (getD row i 0) (omega arith) ∙ le-leb (getD row i 0 / 2) n (r .high i inside)))
+      literal-within n (getD row i 0) (r .low i inside) (r .high i inside)))

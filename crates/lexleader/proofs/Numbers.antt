@@ -24,11 +24,11 @@ pair-clauses-length e [] = refl
 pair-clauses-length e (q ∷ []) = refl
 pair-clauses-length e (q ∷ p ∷ pairs) = omega (arith, later-length e p pairs)
 
-few : (k : ℕ) → k < 2 → clausesFor k ≡ k
+for-few : (k : ℕ) → k < 2 → clausesFor k ≡ k
 unfolding clausesFor
-few zero h = refl
-few (suc zero) h = refl
-few (suc (suc k)) h = absurd (omega arith)
+for-few zero h = refl
+for-few (suc zero) h = refl
+for-few (suc (suc k)) h = absurd (omega arith)
 
 many : (k : ℕ) → 2 ≤ k → clausesFor k ≡ 6 * (k - 1)
 unfolding clausesFor
@@ -48,7 +48,7 @@ module _ (e : ℕ) (row : List ℕ) where
   row-length = pair-clauses-length e (pairsOf row)
 
   pub row-few : length (pairsOf row) < 2 → length (rowClauses e row) ≡ length (pairsOf row)
-  row-few h = row-length ∙ few (length (pairsOf row)) h
+  row-few h = row-length ∙ for-few (length (pairsOf row)) h
 
   pub row-many : 2 ≤ length (pairsOf row) → length (rowClauses e row) ≡ 6 * (length (pairsOf row) - 1)
   row-many h = row-length ∙ many (length (pairsOf row)) h

@@ -111,7 +111,7 @@ module _ (row : List ℕ) (p : Place) where
 
   pub few-auxiliaries : PlaceStands row p → p .auxiliary ≤ maxMadeVariables + 1
   unfolding auxiliaryAfter
-  few-auxiliaries s = omega (arith, s .few)
+  few-auxiliaries s = omega (arith, s .after-most)
 
   module _ (s : PlaceStands row p) (h : p .index < length row) where
     abbrev own : Pair
@@ -194,9 +194,9 @@ module _ (row : List ℕ) (p : Place) where
             early = s .early;
             low = omega arith;
             high = omega arith;
-            few = s .few;
+            after-most = s .after-most;
           }) in
-          record { stands = stands; left = then-same q e; auxiliary = rw e }
+          record { stands = stands; passed = then-same q e; auxiliary = rw e }
 
       -- the clauses of the auxiliary, and those of the next ones
       pub then-next : clausesAt row p ≡ drop (p .r - 1) (sixAt row p) ++ clausesOn (p .j + 1) (p .auxiliary + 1) (pairsAt (p .next) row)
@@ -216,7 +216,7 @@ module _ (row : List ℕ) (p : Place) where
           → PlaceAfter row p (drop (p .r - 1) (sixAt row p)) q
       to-next q z = record {
         stands = z .stands;
-        left = then-next ∙ ap (λ (l : List (List ℕ)). drop (p .r - 1) (sixAt row p) ++ l) (sym (z .left));
+        passed = then-next ∙ ap (λ (l : List (List ℕ)). drop (p .r - 1) (sixAt row p) ++ l) (sym (z .are));
         auxiliary = z .auxiliary ∙ after-next;
       }
 
@@ -264,9 +264,9 @@ module _ (row : List ℕ) (index next e j : ℕ) (h : index < length row) (here 
         early = early;
         low = omega arith;
         high = omega arith;
-        few = omega (arith, auxiliary, few);
+        after-most = omega (arith, auxiliary, few);
       } in
-      record { stands = stands; left = left; auxiliary = auxiliary }
+      record { stands = stands; are = left; auxiliary = auxiliary }
 
   -- a later auxiliary has no clauses where no pair follows
   pub no-later : 2 ≤ j → next ≡ length row → (clausesOn j e (pairsAt index row) ≡ []) × (e + (length (pairsAt index row) - 1) ≡ e)
@@ -289,9 +289,9 @@ at-last row e p is few none same =
       early = omega arith;
       low = omega arith;
       high = omega arith;
-      few = omega (arith, z .1);
+      after-most = omega (arith, z .1);
     } in
-    rw is (record { stands = stands; left = z .0 ∙ none; auxiliary = z .1 ∙ same })
+    rw is (record { stands = stands; are = z .0 ∙ none; auxiliary = z .1 ∙ same })
 
 -- ---- clause number q of a row
 
@@ -336,5 +336,5 @@ module _ (row : List ℕ) (e q i : ℕ) (p : Place) (is : p ≡ record { index =
           early = omega (arith, ap length (pairs-start row), later-pairs row 0 i (omega arith) .1, length-drop (q / 6) (pairsOf row), ap length found);
           low = omega arith;
           high = omega arith;
-          few = omega (arith, low, length-drop (q / 6) (pairsOf row), ap length found);
+          after-most = omega (arith, low, length-drop (q / 6) (pairsOf row), ap length found);
         })

@@ -67,7 +67,7 @@ module _ (s : Store) (well : wellFormed s ≡ true) where
         by c inside is (inl h) =
             let f = formed-clauses s (formed s well) in
             let size = length-slice (literalCount c (s .ends)) (literalCount (c + 1) (s .ends)) (s .literals) (f .within c h) in
-            omega (arith, ap length (sym is ∙ made-plain s well c h), size, f .few c h)
+            omega (arith, ap length (sym is ∙ made-plain s well c h), size, f .literals-fit c h)
         by c inside is (inr h) =
             let k : ℕ = c - s .counts .clauses in
             let short = leb-true (length (getD (addedOf s well) k [])) 4 (all-at isShort (addedOf s well) [] (rows-short (s .counts .variables + 1) (heldRows s)) k (omega (arith, clauses-are s well))) in

@@ -57,4 +57,4 @@ same-table j a b c d g h = same-numbers (λ e k x y u v. getD (tableOf j e (reco
 
 -- a clause is any list that is the same
 pub clause-same : {c : Clause} {a b : List ℕ} → ClauseIs c a → a ≡ b → ClauseIs c b
-clause-same h e = record { few = h .few; room = h .room; are = h .are ∙ e }
+clause-same h e = record { most = h .most; room = h .room; are = h .are ∙ e }

@@ -4,14 +4,14 @@ use mathlib.Core.Bool.{Bool, true, false, cond, _&&_}
 use mathlib.Core.List.{List, [], _∷_}
 use Prim.Native.Nat.{ℕ, _+_, _-_, _*_, _/_, _%_, _≤_}
 use native.Mathlib.Omega.{arith}
-use borrow.Author.Tests.{eqb-true, eqb-false, le-leb}
+use borrow.Author.Tests.{eqb-true, eqb-false}
 use lib.ListN.{length}
 use Rattle.lists.specs.Tests.{allOf}
 use Rattle.lists.proofs.Cases.{and-l, and-r, and-both}
 use Rattle.lists.proofs.Members.{all-append}
 use Rattle.store.specs.Literals.{isNegative, oppositeOf, isLiteral}
 use Rattle.store.specs.Stores.{isRow}
-use Rattle.store.proofs.FormLaws.{literal-low, literal-high, literal-most}
+use Rattle.store.proofs.FormLaws.{literal-low, literal-high, literal-within}
 use Rattle.store.proofs.Formed.{row-of}
 use Rattle.lexleader.specs.Rows.{Pair, pairsOf}
 use Rattle.lexleader.specs.Made.{laterClauses, pairClauses, rowClauses, auxiliaries, rowsClauses, allAuxiliaries, made, madeVariables}
@@ -23,8 +23,7 @@ use Rattle.lexleader.proofs.Moved.{pairs-within}
 -- of more variables too
 literal-more : (n N code : ℕ) → n ≤ N → isLiteral n code ≡ true → isLiteral N code ≡ true
 literal-more n N code h e =
-    let low = literal-low n code e in
-    literal-most N code (omega arith) ∙ le-leb (code / 2) N (omega (arith, literal-high n code e))
+    literal-within N code (literal-low n code e) (omega (arith, literal-high n code e))
 
 pub all-literals-more : (n N : ℕ) → n ≤ N → (clause : List ℕ) → allOf (isLiteral n) clause ≡ true → allOf (isLiteral N) clause ≡ true
 unfolding allOf
@@ -58,14 +57,14 @@ module _ (N : ℕ) where
       high = literal-high N code e
 
       within : (other : ℕ) → other / 2 ≡ code / 2 → isLiteral N other ≡ true
-      within other h = literal-most N other (omega (arith, low)) ∙ le-leb (other / 2) N (omega (arith, high))
+      within other h = literal-within N other (omega (arith, low)) (omega (arith, high))
 
       go : (b : Bool) → isNegative code ≡ b → isLiteral N (cond b (code - 1) (code + 1)) ≡ true
       go true odd = within (code - 1) (omega (arith, eqb-true (code % 2) 1 odd))
       go false even = within (code + 1) (omega (arith, eqb-false (code % 2) 1 even))
 
   variable-within : (e : ℕ) → 1 ≤ e → e ≤ N → isLiteral N (2 * e) ≡ true
-  variable-within e low high = literal-most N (2 * e) (omega arith) ∙ le-leb (2 * e / 2) N (omega arith)
+  variable-within e low high = literal-within N (2 * e) (omega arith) (omega arith)
 
   -- ---- the clauses of a list of pairs
 

@@ -16,7 +16,7 @@ clauseOf c = take (c .count) (c .literals)
 
 -- a clause that was returned holds these literals, at most four
 pub record ClauseIs (c : Clause) (clause : List ℕ) : Type 0 where
-  pub few : c .count ≤ 4
+  pub most : c .count ≤ 4
   pub room : length (c .literals) ≡ 4
   pub are : clauseOf c ≡ clause
 

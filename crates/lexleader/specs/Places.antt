@@ -44,7 +44,7 @@ pub record PlaceStands (row : List ℕ) (p : Place) : Type 0 where
   pub early : p .j ≤ p .index + 1
   pub low : 1 ≤ p .r
   pub high : p .r ≤ 6
-  pub few : auxiliaryAfter row p ≤ maxMadeVariables + 1
+  pub after-most : auxiliaryAfter row p ≤ maxMadeVariables + 1
 
 -- a clause stands at p, a place of a row that a store can hold
 pub record ClauseStands (row : List ℕ) (p : Place) : Type 0 where
@@ -55,11 +55,11 @@ pub record ClauseStands (row : List ℕ) (p : Place) : Type 0 where
 -- from the place p on, these clauses are left of the row, and `after` is the auxiliary after its last one
 pub record PlaceLeaves (row : List ℕ) (p : Place) (clauses : List (List ℕ)) (after : ℕ) : Type 0 where
   pub stands : PlaceStands row p
-  pub left : clausesAt row p ≡ clauses
+  pub are : clausesAt row p ≡ clauses
   pub auxiliary : auxiliaryAfter row p ≡ after
 
 -- q is the place past these clauses, from p on
 pub record PlaceAfter (row : List ℕ) (p : Place) (clauses : List (List ℕ)) (q : Place) : Type 0 where
   pub stands : PlaceStands row q
-  pub left : clausesAt row p ≡ clauses ++ clausesAt row q
+  pub passed : clausesAt row p ≡ clauses ++ clausesAt row q
   pub auxiliary : auxiliaryAfter row q ≡ auxiliaryAfter row p

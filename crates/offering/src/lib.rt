@@ -35,7 +35,7 @@ pub fn offer(
     if let Stated::Refused(refusal) = stated {
         return Offered::Refused(refusal);
     }
-    let mut row = [0u16; 512];
+    let mut row = [0u16; Record::MAX_VARIABLES];
     permutation::fill_row(names, values, n, &mut row);
     let missing = symmetry::first_missing(literals, ends, counts.clauses, &row[..n]);
     if missing != 0 {

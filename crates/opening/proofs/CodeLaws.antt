@@ -9,14 +9,14 @@ use borrow.Author.Tests.{eqb-false}
 use lib.Dec.{eqb}
 use Rattle.lists.proofs.Cases.{never, eq-or-ne}
 use Rattle.dimacs.specs.Words.{Piece}
-use Rattle.dimacs.specs.Numbers.{Size, Numeral, sizeOf, positive, negated, numberOf}
+use Rattle.dimacs.specs.Numbers.{Size, Numeral, sizeOf, positive, negated, numeralOf}
 use Rattle.dimacs.specs.declared.Number.{Number}
 use Rattle.store.specs.Literals.{codeOf}
 use Rattle.store.specs.Numerals.{codeIn}
 
 -- "`-0` is no number"
-no-minus-zero : (s : List ℕ) (x : Number) → numberOf s ≡ Numeral.Is x → x .size ≡ 0 → x .negative ≡ false
-unfolding numberOf
+no-minus-zero : (s : List ℕ) (x : Number) → numeralOf s ≡ Numeral.Is x → x .size ≡ 0 → x .negative ≡ false
+unfolding numeralOf
 no-minus-zero [] x e z = never (cc)
 no-minus-zero (b ∷ r) x e z = by (eqb b 45) (sizeOf r) (sizeOf (b ∷ r)) e
   where
@@ -37,11 +37,11 @@ pub record Coded (w : Piece) (x : Number) : Type 0 where
   pub other : (x .size ≡ 0 → ⊥) → codeIn w ≡ 0 → ⊥
   pub low : (codeIn w ≡ 0 → ⊥) → 1 ≤ codeIn w / 2
 
-code-of : (w : Piece) (x : Number) → numberOf (w .bytes) ≡ Numeral.Is x → codeIn w ≡ codeOf (x .size) (x .negative)
+code-of : (w : Piece) (x : Number) → numeralOf (w .bytes) ≡ Numeral.Is x → codeIn w ≡ codeOf (x .size) (x .negative)
 unfolding codeIn
 code-of w x e = rw e
 
-pub coded : (w : Piece) (x : Number) → numberOf (w .bytes) ≡ Numeral.Is x → Coded w x
+pub coded : (w : Piece) (x : Number) → numeralOf (w .bytes) ≡ Numeral.Is x → Coded w x
 coded w x e =
     record {
       code = code;

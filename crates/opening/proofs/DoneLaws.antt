@@ -10,7 +10,7 @@ use lib.Dec.{eqb, ltb}
 use Rattle.lists.specs.Tests.{allOf}
 use Rattle.lists.proofs.Cases.{never, and-both}
 use Rattle.dimacs.specs.Words.{Piece}
-use Rattle.dimacs.specs.Numbers.{Numeral, numberOf}
+use Rattle.dimacs.specs.Numbers.{Numeral, numeralOf}
 use Rattle.dimacs.specs.declared.Number.{Number}
 use Rattle.store.specs.Stores.{maxLiterals, rising}
 use Rattle.store.specs.Literals.{codeOf, isLiteral}
@@ -32,16 +32,16 @@ data Passed (end n m total closed count : ℕ) (w : Piece) (ws : List Piece) : T
 record WordPassed (end n m total closed count : ℕ) (w : Piece) (ws : List Piece) : Type 0 where
   pub more : closed ≡ m → ⊥
   pub number : Number
-  pub is : numberOf (w .bytes) ≡ Numeral.Is number
+  pub is : numeralOf (w .bytes) ≡ Numeral.Is number
   pub passed : Passed end n m total closed count w ws
 
 passed-word : (end n m total closed count : ℕ) (w : Piece) (ws : List Piece)
     → scanFrom end n m closed count (w ∷ ws) ≡ Scanned.Done total → WordPassed end n m total closed count w ws
 unfolding scanFrom isLiteral
 passed-word end n m total closed count w ws e =
-    by (eqb closed m) refl (numberOf (w .bytes)) refl (eqb (codeIn w) 0) refl (ltb n (codeIn w / 2)) refl (eqb count maxLiterals) refl e
+    by (eqb closed m) refl (numeralOf (w .bytes)) refl (eqb (codeIn w) 0) refl (ltb n (codeIn w / 2)) refl (eqb count maxLiterals) refl e
   where
-    by : (a : Bool) → eqb closed m ≡ a → (p : Numeral) → numberOf (w .bytes) ≡ p → (z : Bool) → eqb (codeIn w) 0 ≡ z
+    by : (a : Bool) → eqb closed m ≡ a → (p : Numeral) → numeralOf (w .bytes) ≡ p → (z : Bool) → eqb (codeIn w) 0 ≡ z
         → (l : Bool) → ltb n (codeIn w / 2) ≡ l → (k : Bool) → eqb count maxLiterals ≡ k
         → cond a (Scanned.Refused (Refusal.ClauseCount (w .place)))
         (cond (not (isNumeral p)) (Scanned.Refused (Refusal.NotNumber (w .place)))
@@ -144,7 +144,7 @@ counted end n m total (w ∷ ws) closed count e = by (passed-word end n m total 
 -- ---- a turn of the pass that writes: a 0, or a literal
 
 module _ (end n m total closed count : ℕ) (ws : List Piece) (done : scanFrom end n m closed count ws ≡ Scanned.Done total)
-    (w : Piece) (rest : List Piece) (e : ws ≡ w ∷ rest) (x : Number) (is : numberOf (w .bytes) ≡ Numeral.Is x) where
+    (w : Piece) (rest : List Piece) (e : ws ≡ w ∷ rest) (x : Number) (is : numeralOf (w .bytes) ≡ Numeral.Is x) where
   pub record ZeroTurn : Type 0 where
     pub room : closed < m
     pub scanned : scanFrom end n m (closed + 1) count rest ≡ Scanned.Done total

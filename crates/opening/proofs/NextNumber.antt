@@ -7,7 +7,7 @@ use native.Mathlib.Omega.{arith}
 use lib.ListN.{length}
 use Rattle.lists.proofs.Cases.{never, lt-or-le}
 use Rattle.dimacs.specs.Words.{isBlank, isWordByte, runEnd, Piece, wordsAt}
-use Rattle.dimacs.specs.Numbers.{Numeral, numberOf, wordAt, readingAt}
+use Rattle.dimacs.specs.Numbers.{Numeral, numeralOf, wordAt, readingAt}
 use Rattle.dimacs.specs.declared.Number.{Number}
 use Rattle.dimacs.specs.declared.Cursor.{Cursor}
 use Rattle.dimacs.specs.declared.Reading.{Reading}
@@ -17,14 +17,14 @@ use Rattle.dimacs.proofs.WordLaws.{pieceAt, no-word, next-word, word-forward, r
 -- the words from `at` on start with the number x, at `place`, and go on at `next`
 pub record NextNumber (text : List ℕ) (at place : ℕ) (x : Number) (next : ℕ) : Type 0 where
   pub words : wordsAt text at ≡ pieceAt text place ∷ wordsAt text next
-  pub number : numberOf (wordAt text place) ≡ Numeral.Is x
+  pub number : numeralOf (wordAt text place) ≡ Numeral.Is x
   pub forward : at < next
   pub within : next ≤ length text
 
 -- no word, or one that is no number
 pub data Missing : List Piece → Type 0 where
   none : Missing []
-  bad : {w : Piece} {ws : List Piece} → numberOf (w .bytes) ≡ Numeral.Not → Missing (w ∷ ws)
+  bad : {w : Piece} {ws : List Piece} → numeralOf (w .bytes) ≡ Numeral.Not → Missing (w ∷ ws)
 
 module _ (text : List ℕ) (at place : ℕ) (found : place ≡ runEnd isBlank text at) where
   pub next-found : (x : Number) (c : Cursor) → readingAt text place ≡ Reading.Found x c → NextNumber text at place x (c .at)

@@ -4,7 +4,7 @@ use mathlib.Core.List.{List, [], _∷_}
 use Prim.Native.Nat.{ℕ, _+_, _≤_, _<_}
 use borrow.Author.Tests.{eq-eqb, ne-eqb, lt-ltb, le-ltb}
 use Rattle.dimacs.specs.Words.{Piece}
-use Rattle.dimacs.specs.Numbers.{Numeral, numberOf}
+use Rattle.dimacs.specs.Numbers.{Numeral, numeralOf}
 use Rattle.dimacs.specs.declared.Number.{Number}
 use Rattle.store.specs.Stores.{maxLiterals}
 use Rattle.store.specs.Numerals.{codeIn}
@@ -28,11 +28,11 @@ module _ (end n m closed count : ℕ) (ws : List Piece) where
     scan-extra k = rw (e, eq-eqb closed m k)
 
     module _ (more : closed ≡ m → ⊥) where
-      pub scan-word : numberOf (w .bytes) ≡ Numeral.Not → scanFrom end n m closed count ws ≡ Scanned.Refused (Refusal.NotNumber (w .place))
+      pub scan-word : numeralOf (w .bytes) ≡ Numeral.Not → scanFrom end n m closed count ws ≡ Scanned.Refused (Refusal.NotNumber (w .place))
       unfolding scanFrom
       scan-word k = rw (e, ne-eqb closed m more, k)
 
-      module _ (x : Number) (is : numberOf (w .bytes) ≡ Numeral.Is x) where
+      module _ (x : Number) (is : numeralOf (w .bytes) ≡ Numeral.Is x) where
         pub scan-close : x .size ≡ 0 → scanFrom end n m closed count ws ≡ scanFrom end n m (closed + 1) count rest
         unfolding scanFrom
         scan-close z = rw (e, ne-eqb closed m more, is, eq-eqb (codeIn w) 0 (coded w x is .zero z))

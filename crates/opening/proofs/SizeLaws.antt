@@ -11,7 +11,7 @@ use lib.Dec.{eqb}
 use Rattle.lists.proofs.Cases.{never, and-l, and-r, lt-or-le}
 use Rattle.lists.proofs.Steps.{drop-step}
 use Rattle.dimacs.specs.Words.{isBlank, isWordByte, run, runEnd, Piece, wordsAt}
-use Rattle.dimacs.specs.Numbers.{Numeral, numberOf, wordAt}
+use Rattle.dimacs.specs.Numbers.{Numeral, numeralOf, wordAt}
 use Rattle.dimacs.specs.declared.Number.{Number}
 use Rattle.dimacs.proofs.Runs.{run-stop, run-within}
 use Rattle.dimacs.proofs.WordLaws.{pieceAt, no-word, next-word}
@@ -79,14 +79,14 @@ module _ (p cnf : Piece) (is-p : sameBytes (p .bytes) wordP ≡ true) (is-cnf : 
   first-missing (n ∷ m ∷ []) (bad e) = rw (is-p, is-cnf, e)
   first-missing (n ∷ m ∷ more ∷ ws) (bad e) = refl
 
-  module _ (n : Piece) (x : Number) (is-n : numberOf (n .bytes) ≡ Numeral.Is x) where
+  module _ (n : Piece) (x : Number) (is-n : numeralOf (n .bytes) ≡ Numeral.Is x) where
     pub second-missing : (ws : List Piece) → Missing ws → fourWords (p ∷ cnf ∷ n ∷ ws) ≡ Sizes.Not
     unfolding fourWords
     second-missing [] none = refl
     second-missing (m ∷ []) (bad e) = rw (is-p, is-cnf, is-n, e)
     second-missing (m ∷ more ∷ ws) (bad e) = refl
 
-    pub two-numbers : (m : Piece) (y : Number) → numberOf (m .bytes) ≡ Numeral.Is y
+    pub two-numbers : (m : Piece) (y : Number) → numeralOf (m .bytes) ≡ Numeral.Is y
         → fourWords (p ∷ cnf ∷ n ∷ m ∷ []) ≡ cond (not (x .negative) && not (y .negative)) (Sizes.Are (x .size) (y .size)) Sizes.Not
     unfolding fourWords
     two-numbers m y is-m = rw (is-p, is-cnf, is-n, is-m)

@@ -4,7 +4,7 @@ use mathlib.Core.Bool.{cond, not}
 use mathlib.Core.List.{List, [], _∷_, _++_}
 use lib.Dec.{eqb, ltb}
 use Rattle.dimacs.specs.Words.{Piece}
-use Rattle.dimacs.specs.Numbers.{numberOf}
+use Rattle.dimacs.specs.Numbers.{numeralOf}
 use Rattle.store.specs.Literals.{variableOf}
 use Rattle.store.specs.Numerals.{isNumeral, codeIn}
 use Rattle.store.specs.Stores.{maxLiterals}
@@ -17,7 +17,7 @@ unfoldable pub scanFrom : ℕ → ℕ → ℕ → ℕ → ℕ → List Piece →
 scanFrom end n m closed count [] = cond (eqb closed m) (Scanned.Done count) (Scanned.Refused (Refusal.ClauseCount end))
 scanFrom end n m closed count (w ∷ words) =
     cond (eqb closed m) (Scanned.Refused (Refusal.ClauseCount (w .place)))
-    (cond (not (isNumeral (numberOf (w .bytes)))) (Scanned.Refused (Refusal.NotNumber (w .place)))
+    (cond (not (isNumeral (numeralOf (w .bytes)))) (Scanned.Refused (Refusal.NotNumber (w .place)))
     (cond (eqb (codeIn w) 0) (scanFrom end n m (closed + 1) count words)
     (cond (ltb n (variableOf (codeIn w))) (Scanned.Refused (Refusal.LiteralBeyond (w .place)))
     (cond (eqb count maxLiterals) (Scanned.Refused (Refusal.TooManyLiterals (w .place)))

@@ -7,7 +7,7 @@ use lib.ListN.{length, getD}
 use lib.Dec.{eqb, leb}
 use Rattle.dimacs.specs.Words.{Piece, wordsAt}
 use Rattle.dimacs.specs.Lines.{linesAt}
-use Rattle.dimacs.specs.Numbers.{Numeral, numberOf}
+use Rattle.dimacs.specs.Numbers.{Numeral, numeralOf}
 use Rattle.store.specs.Stores.{maxVariables, maxClauses}
 use Rattle.store.specs.declared.refusal.Refusal.{Refusal}
 use Rattle.opening.specs.declared.Sizes.{Sizes}
@@ -41,7 +41,7 @@ fourWords (p ∷ []) = Sizes.Not
 fourWords (p ∷ cnf ∷ []) = Sizes.Not
 fourWords (p ∷ cnf ∷ n ∷ []) = Sizes.Not
 fourWords (p ∷ cnf ∷ n ∷ m ∷ []) =
-    cond (sameBytes (p .bytes) (112 ∷ []) && sameBytes (cnf .bytes) (99 ∷ 110 ∷ 102 ∷ [])) (sizesIf (numberOf (n .bytes)) (numberOf (m .bytes))) Sizes.Not
+    cond (sameBytes (p .bytes) (112 ∷ []) && sameBytes (cnf .bytes) (99 ∷ 110 ∷ 102 ∷ [])) (sizesIf (numeralOf (n .bytes)) (numeralOf (m .bytes))) Sizes.Not
 fourWords (p ∷ cnf ∷ n ∷ m ∷ more ∷ words) = Sizes.Not
 
 -- a problem line: its first byte is `p`

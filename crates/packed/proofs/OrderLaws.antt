@@ -49,9 +49,6 @@ found i (false ∷ a) (false ∷ b) = further i false a b refl refl (found (i + 
 
 -- ---- the paper's sentences
 
-pub difference-within : (a b : List Bool) → firstDifference a b ≤ length a
-difference-within a b = elim (found 1 a b) [ none z f s ↦ omega arith | at d z f s ↦ omega (arith, s .within) ]
-
 pub difference-zero : (a b : List Bool) → length a ≡ length b → firstDifference a b ≡ 0 → a ≡ b
 difference-zero a b e q = elim (found 1 a b) [ none z f s ↦ s e | at d z f s ↦ absurd (omega arith) ]
 

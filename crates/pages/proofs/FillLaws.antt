@@ -15,7 +15,7 @@ use Rattle.render.specs.Text.{clauseLine, writtenAt}
 use Rattle.render.proofs.LineLaws.{line-short, line-some}
 use Rattle.render.proofs.Writing.{length-written}
 use Rattle.emit.proofs.Bounds.{line-longest}
-use Rattle.cursor.specs.Cursors.{leftOf, Points}
+use Rattle.cursor.specs.Cursors.{remaining, CursorStands}
 use Rattle.cursor.specs.declared.Cursor.{Cursor}
 use Rattle.pages.specs.Pages.{fillFrom, longest, PageStep}
 
@@ -24,7 +24,7 @@ module _ (clause : List ℕ) (clauses : List (List ℕ)) (at : ℕ) (out : List 
   unfolding fillFrom
   fill-more h = rw (le-leb (at + length (clauseLine clause)) (length out) h)
 
-  pub fill-full : length out < at + length (clauseLine clause) → fillFrom at (clause ∷ clauses) out ≡ record { buffer = out; end = at; left = clause ∷ clauses }
+  pub fill-full : length out < at + length (clauseLine clause) → fillFrom at (clause ∷ clauses) out ≡ record { buffer = out; end = at; rest = clause ∷ clauses }
   unfolding fillFrom
   fill-full h = rw (lt-leb (at + length (clauseLine clause)) (length out) h)
 
@@ -42,13 +42,13 @@ added-short clause few = omega (arith, line-short clause)
 
 -- ---- one step
 
-module _ (plain : List (List ℕ)) (counts : Record) (images : List ℕ) (c : Cursor) (p : Points counts images c) (at : ℕ) (out : List ℕ) (inside : at ≤ length out) where
+module _ (plain : List (List ℕ)) (counts : Record) (images : List ℕ) (c : Cursor) (p : CursorStands counts images c) (at : ℕ) (out : List ℕ) (inside : at ≤ length out) where
   abbrev left : List (List ℕ)
-  left = leftOf plain counts images c
+  left = remaining plain counts images c
 
   -- nothing is added
-  stays : fillFrom at left out ≡ record { buffer = out; end = at; left = left } → (at + longest ≤ length out → left ≡ []) → PageStep plain counts images c at out c at out
-  stays e m = record { same = refl; points = p; onward = omega arith; within = inside; size = refl; stopped = λ _. e; moves = λ room _. m room }
+  stays : fillFrom at left out ≡ record { buffer = out; end = at; rest = left } → (at + longest ≤ length out → left ≡ []) → PageStep plain counts images c at out c at out
+  stays e m = record { same = refl; stands = p; onward = omega arith; within = inside; size = refl; stopped = λ _. e; moves = λ room _. m room }
 
   pub over : left ≡ [] → PageStep plain counts images c at out c at out
   unfolding fillFrom
@@ -58,13 +58,13 @@ module _ (plain : List (List ℕ)) (counts : Record) (images : List ℕ) (c : Cu
     pub full : length (clauseLine clause) ≤ longest → length out < at + length (clauseLine clause) → PageStep plain counts images c at out c at out
     full short h = stays (rw is (fill-full clause rest at out h)) (λ room. absurd (omega arith))
 
-    pub adds : at + length (clauseLine clause) ≤ length out → (d : Cursor) → Points counts images d → leftOf plain counts images d ≡ rest
+    pub adds : at + length (clauseLine clause) ≤ length out → (d : Cursor) → CursorStands counts images d → remaining plain counts images d ≡ rest
         → (to : ℕ) (after : List ℕ) → to ≡ at + length (clauseLine clause) → after ≡ writtenAt at (clauseLine clause) out → PageStep plain counts images c at out d to after
     adds room d q next to after t a =
         let size : length after ≡ length out = ap length a ∙ length-written at (clauseLine clause) out room in
         record {
           same = rw (t, a, next) (sym (rw is (fill-more clause rest at out room)));
-          points = q;
+          stands = q;
           onward = omega arith;
           within = omega arith;
           size = size;

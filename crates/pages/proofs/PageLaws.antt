@@ -10,16 +10,16 @@ use Rattle.lists.proofs.Cases.{lt-or-le}
 use Rattle.render.specs.Text.{clauseLine, writtenAt}
 use Rattle.render.proofs.Writing.{length-written}
 use Rattle.emit.specs.Emit.{linesOf}
-use Rattle.pages.specs.Pages.{Filled, fillFrom}
+use Rattle.pages.specs.Pages.{FilledPage, fillFrom}
 use Rattle.pages.proofs.FillLaws.{fill-more, fill-full}
 
 -- a buffer filled from a place on: what is before stays, what is past the page stays, and between them are the lines of the clauses that are not left
-pub record Holds (at : ℕ) (clauses : List (List ℕ)) (out : List ℕ) (f : Filled) : Type 0 where
+pub record PageHolds (at : ℕ) (clauses : List (List ℕ)) (out : List ℕ) (f : FilledPage) : Type 0 where
   pub onward : at ≤ f .end
   pub within : f .end ≤ length out
   pub size : length (f .buffer) ≡ length out
   pub past : drop (f .end) (f .buffer) ≡ drop (f .end) out
-  pub text : take at out ++ linesOf clauses ≡ take (f .end) (f .buffer) ++ linesOf (f .left)
+  pub text : take at out ++ linesOf clauses ≡ take (f .end) (f .buffer) ++ linesOf (f .rest)
 
 module _ (at : ℕ) (line out : List ℕ) (h : at + length line ≤ length out) where
   front : List ℕ
@@ -54,17 +54,17 @@ lines-more : (clause : List ℕ) (clauses : List (List ℕ)) (front : List ℕ) 
 unfolding linesOf
 lines-more clause clauses front = sym (append-assoc front (clauseLine clause) (linesOf clauses))
 
-pub holds : (at : ℕ) (clauses : List (List ℕ)) (out : List ℕ) → at ≤ length out → Holds at clauses out (fillFrom at clauses out)
+pub page-holds : (at : ℕ) (clauses : List (List ℕ)) (out : List ℕ) → at ≤ length out → PageHolds at clauses out (fillFrom at clauses out)
 unfolding fillFrom
-holds at [] out h = record { onward = omega arith; within = h; size = refl; past = refl; text = refl }
-holds at (clause ∷ clauses) out h =
+page-holds at [] out h = record { onward = omega arith; within = h; size = refl; past = refl; text = refl }
+page-holds at (clause ∷ clauses) out h =
     go (lt-or-le (length out) (at + length (clauseLine clause)))
-    (λ l. holds (at + length (clauseLine clause)) clauses (writtenAt at (clauseLine clause) out) (omega (arith, length-written at (clauseLine clause) out l)))
+    (λ l. page-holds (at + length (clauseLine clause)) clauses (writtenAt at (clauseLine clause) out) (omega (arith, length-written at (clauseLine clause) out l)))
   where
     go : (length out < at + length (clauseLine clause)) ⊎ (at + length (clauseLine clause) ≤ length out)
         → (at + length (clauseLine clause) ≤ length out
-        → Holds (at + length (clauseLine clause)) clauses (writtenAt at (clauseLine clause) out) (fillFrom (at + length (clauseLine clause)) clauses (writtenAt at (clauseLine clause) out)))
-        → Holds at (clause ∷ clauses) out (fillFrom at (clause ∷ clauses) out)
+        → PageHolds (at + length (clauseLine clause)) clauses (writtenAt at (clauseLine clause) out) (fillFrom (at + length (clauseLine clause)) clauses (writtenAt at (clauseLine clause) out)))
+        → PageHolds at (clause ∷ clauses) out (fillFrom at (clause ∷ clauses) out)
     go (inl l) rest = rw (fill-full clause clauses at out l) (record { onward = omega arith; within = h; size = refl; past = refl; text = refl })
     go (inr l) rest =
         let r = rest l in

@@ -10,8 +10,8 @@ ghost use Prim.Native.Nat.{ℕ, _≤_, _<_};
 ghost use lib.ListN.{length, getD};
 ghost use Rattle.store.specs.Stores.{stored, clauseAt, plainOf, wellFormed, FormedClauses};
 ghost use Rattle.render.specs.Text.{clauseLine};
-ghost use Rattle.cursor.specs.Cursors.{clausesLeft, Points, AtAdded};
-ghost use Rattle.pages.specs.Pages.{Filled, fillFrom, longest, PageStep};
+ghost use Rattle.cursor.specs.Cursors.{remainingOf, CursorStands, AtAdded};
+ghost use Rattle.pages.specs.Pages.{FilledPage, fillFrom, longest, PageStep};
 
 // How many bytes of the buffer a page has, and where the next one begins.
 pub struct Page {
@@ -34,13 +34,13 @@ pub fn fill(
     cursor: Cursor,
     out: &mut [u8],
 ) -> Page
-    requires { ⌜ (wellFormed (stored counts literals ends images) ≡ true) × Points counts (now images) cursor ⌝ }
+    requires { ⌜ (wellFormed (stored counts literals ends images) ≡ true) × CursorStands counts (now images) cursor ⌝ }
     ensures filled { λ r. let s = stored counts (literals .entry) (ends .entry) (images .entry) in
-        ⌜ _≡_ {A = Filled} (record { buffer = now (out .exit); end = r .bytes; left = clausesLeft s (r .cursor) })
-        (fillFrom 0 (clausesLeft s cursor) (now (out .entry))) ⌝ }
-    ensures points { λ r. ⌜ Points counts (now (images .entry)) (r .cursor) ⌝ }
+        ⌜ _≡_ {A = FilledPage} (record { buffer = now (out .exit); end = r .bytes; rest = remainingOf s (r .cursor) })
+        (fillFrom 0 (remainingOf s cursor) (now (out .entry))) ⌝ }
+    ensures stands { λ r. ⌜ CursorStands counts (now (images .entry)) (r .cursor) ⌝ }
     ensures moves { λ r. let s = stored counts (literals .entry) (ends .entry) (images .entry) in
-        ⌜ (longest ≤ length (now (out .entry)) → r .bytes ≡ 0 → clausesLeft s cursor ≡ []) ⌝ }
+        ⌜ (longest ≤ length (now (out .entry)) → r .bytes ≡ 0 → remainingOf s cursor ≡ []) ⌝ }
 {
     let mut at = 0;
     let mut next = cursor;
@@ -67,7 +67,7 @@ fn add_line(
     out: &mut [u8],
     at: usize,
 ) -> Line
-    requires { ⌜ (wellFormed (stored counts literals ends images) ≡ true) × Points counts (now images) cursor × (at ≤ length (now out)) ⌝ }
+    requires { ⌜ (wellFormed (stored counts literals ends images) ≡ true) × CursorStands counts (now images) cursor × (at ≤ length (now out)) ⌝ }
     ensures { λ r. let plain = plainOf (stored counts (literals .entry) (ends .entry) (images .entry)) in
         ⌜ PageStep plain counts (now (images .entry)) cursor at (now (out .entry)) (r .cursor) (r .at) (now (out .exit)) ⌝ }
 {
@@ -96,7 +96,7 @@ fn add_plain(
         × (length (clauseLine (clauseAt (now literals) (now ends) (cursor .plain))) ≤ longest) ⌝ }
     ensures { λ r. let clause = clauseAt (now (literals .entry)) (now (ends .entry)) (cursor .plain) in
         ⌜ ((plain : List (List ℕ)) → length plain ≡ counts .clauses → getD plain (cursor .plain) [] ≡ clause
-        → (images : List ℕ) → Points counts images cursor
+        → (images : List ℕ) → CursorStands counts images cursor
         → PageStep plain counts images cursor at (now (out .entry)) (r .cursor) (r .at) (now (out .exit))) ⌝ }
 {
     let written = cursor.plain;
@@ -122,7 +122,7 @@ fn add_plain(
 
 // Adds the line of a clause that the cursor's row adds.
 fn add_added(counts: Record, images: &[u16], cursor: Cursor, out: &mut [u8], at: usize) -> Line
-    requires { ⌜ Points counts (now images) cursor × AtAdded counts cursor × (at ≤ length (now out)) ⌝ }
+    requires { ⌜ CursorStands counts (now images) cursor × AtAdded counts cursor × (at ≤ length (now out)) ⌝ }
     ensures { λ r. let images = now (images .entry) in
         ⌜ ((plain : List (List ℕ)) → length plain ≡ counts .clauses
         → PageStep plain counts images cursor at (now (out .entry)) (r .cursor) (r .at) (now (out .exit))) ⌝ }

@@ -5,7 +5,7 @@ use Prim.Native.Nat.{ℕ}
 use Rattle.lists.specs.Tests.{anyOf, allOf}
 use Rattle.lists.specs.Tables.{table}
 use Rattle.dimacs.specs.Words.{isBlank, run, wordsFrom}
-use Rattle.dimacs.specs.Numbers.{isDigit, decimalFrom, digitsOf, sizeOf, numberOf}
+use Rattle.dimacs.specs.Numbers.{isDigit, decimalFrom, digitsOf, sizeOf, numeralOf}
 use Rattle.store.specs.Literals.{isLiteral}
 use Rattle.store.specs.Stores.{isImage}
 use Rattle.store.specs.declared.refusal.Refusal.{Refusal}
@@ -42,10 +42,10 @@ answers :
     ∷ Stated.Refused (Refusal.NameNotNumber 2)
     ∷ Stated.Refused (Refusal.BadName 2)
     ∷ []
-unfolding statedBy notNumber badName badNameAfter badValueAfter namesOn codeIn isImage isLiteral anyOf allOf isDigit decimalFrom digitsOf sizeOf numberOf isBlank run wordsFrom
+unfolding statedBy notNumber badName badNameAfter badValueAfter namesOn codeIn isImage isLiteral anyOf allOf isDigit decimalFrom digitsOf sizeOf numeralOf isBlank run wordsFrom
 answers = refl
 
 -- the row that `1 3` with `3 1` states
 row : rowStated 3 (49 ∷ 32 ∷ 51 ∷ []) (51 ∷ 32 ∷ 49 ∷ []) ≡ 6 ∷ 4 ∷ 2 ∷ []
-unfolding rowStated imageAmong table namesOn valuesOn codeIn allOf isDigit decimalFrom digitsOf sizeOf numberOf isBlank run wordsFrom
+unfolding rowStated imageAmong table namesOn valuesOn codeIn allOf isDigit decimalFrom digitsOf sizeOf numeralOf isBlank run wordsFrom
 row = refl

@@ -8,7 +8,7 @@ use native.Mathlib.Omega.{arith}
 use lib.ListN.{length}
 use Rattle.lists.proofs.Cases.{lt-or-le}
 use Rattle.dimacs.specs.Words.{isBlank, isWordByte, runEnd, wordsAt}
-use Rattle.dimacs.specs.Numbers.{numberOf, wordAt, readingAt}
+use Rattle.dimacs.specs.Numbers.{numeralOf, wordAt, readingAt}
 use Rattle.dimacs.specs.declared.Number.{Number}
 use Rattle.dimacs.specs.declared.Cursor.{Cursor}
 use Rattle.dimacs.specs.declared.Reading.{Reading}
@@ -19,7 +19,7 @@ use Rattle.store.specs.Numerals.{isNumeral, codeIn}
 -- the first word at or after `at` stands at `place` and is the number x, and the other words are those from `next` on
 pub record Word (line : List ℕ) (at place : ℕ) (x : Number) (next : ℕ) : Type 0 where
   pub words : wordsAt line at ≡ pieceAt line place ∷ wordsAt line next
-  pub number : isNumeral (numberOf (wordAt line place)) ≡ true
+  pub number : isNumeral (numeralOf (wordAt line place)) ≡ true
   pub code : codeIn (pieceAt line place) ≡ codeOf (x .size) (x .negative)
   pub size : variableOf (codeIn (pieceAt line place)) ≡ x .size
   pub inside : at < length line
@@ -28,7 +28,7 @@ pub record Word (line : List ℕ) (at place : ℕ) (x : Number) (next : ℕ) : T
 -- that word is no number
 pub record Stray (line : List ℕ) (at place : ℕ) : Type 0 where
   pub words : wordsAt line at ≡ pieceAt line place ∷ wordsAt line (runEnd isWordByte line place)
-  pub number : isNumeral (numberOf (wordAt line place)) ≡ false
+  pub number : isNumeral (numeralOf (wordAt line place)) ≡ false
   pub code : codeIn (pieceAt line place) ≡ 0
 
 half : (s : ℕ) (b : Bool) → variableOf (codeOf s b) ≡ s

@@ -7,7 +7,7 @@ use lib.ListN.{length}
 use lib.Dec.{ltb}
 use Rattle.lists.specs.Tests.{has}
 use Rattle.dimacs.specs.Words.{Piece, wordsAt}
-use Rattle.dimacs.specs.Numbers.{numberOf}
+use Rattle.dimacs.specs.Numbers.{numeralOf}
 use Rattle.store.specs.Literals.{variableOf, isNegative}
 use Rattle.store.specs.Numerals.{isNumeral, codeIn}
 use Rattle.store.specs.Stores.{isImage}
@@ -16,7 +16,7 @@ use Rattle.permutation.specs.declared.Fault.{Fault}
 -- 7 and 9: "a word that is no number"
 unfoldable pub notNumber : List Piece → Fault
 notNumber [] = Fault.Nowhere
-notNumber (w ∷ words) = cond (isNumeral (numberOf (w .bytes))) (notNumber words) (Fault.At (w .place))
+notNumber (w ∷ words) = cond (isNumeral (numeralOf (w .bytes))) (notNumber words) (Fault.At (w .place))
 
 -- 8: "a name outside 1..n or repeated"; `seen` are the names before
 unfoldable pub badNameAfter : ℕ → List ℕ → List Piece → Fault

@@ -2,6 +2,7 @@
 // whole line before the next. The idea of the proofs: a line is the list of its words, and a rule is a search through that list.
 use dimacs::Number;
 use dimacs::Reading;
+use store::record::Record;
 use store::refusal::Refusal;
 ghost use mathlib.Core.Path.{_≡_};
 ghost use mathlib.Core.Bool.{true, false, cond};
@@ -17,6 +18,9 @@ ghost use Rattle.store.specs.Stores.{maxVariables, isImage};
 ghost use Rattle.permutation.specs.Lines.{notNumber, badName, badValueAfter, namesOn};
 ghost use Rattle.permutation.specs.Stated.{statedBy, rowStated};
 
+// A mark for each variable, and one for 0.
+const MARKS: usize = Record::MAX_VARIABLES + 1;
+
 // Where a rule finds its first fault.
 pub enum Fault {
     At(usize),
@@ -29,9 +33,9 @@ pub enum Stated {
     Refused(Refusal),
 }
 
-// The names on a line: a mark for each variable of 0..512 that is one, and their count.
+// The names on a line: a mark for each variable that is one, and their count.
 struct Names {
-    marks: [bool; 513],
+    marks: [bool; MARKS],
     count: usize,
 }
 
@@ -89,7 +93,7 @@ fn bad_name(names: &[u8], n: usize) -> Fault
     if names.len() <= dimacs::next_word(names, 0) {
         return Fault::At(names.len());
     }
-    let mut seen = [false; 513];
+    let mut seen = [false; MARKS];
     let mut at = 0;
     loop {
         let place = dimacs::next_word(names, at);
@@ -167,7 +171,7 @@ fn mark_names(names: &[u8]) -> Names
         × (length (r .marks) ≡ 513)
         × ((v : ℕ) → getD (r .marks) v false ≡ has (namesOn (now (names .entry))) v) ⌝ }
 {
-    let mut marks = [false; 513];
+    let mut marks = [false; MARKS];
     let mut count = 0;
     let mut at = 0;
     loop {

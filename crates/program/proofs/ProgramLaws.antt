@@ -17,10 +17,10 @@ use Rattle.render.proofs.DigitLaws.{digits-most}
 use Rattle.lexleader.specs.Store.{madeOf, variablesOf, clausesOf}
 use Rattle.emit.specs.Emit.{headerOf, linesOf, textOf, maxLine}
 use Rattle.emit.proofs.WrittenLaws.{at-start}
-use Rattle.cursor.specs.Cursors.{clausesLeft, Points}
+use Rattle.cursor.specs.Cursors.{remainingOf, CursorStands}
 use Rattle.cursor.specs.declared.Cursor.{Cursor}
-use Rattle.pages.specs.Pages.{Filled, fillFrom}
-use Rattle.pages.proofs.PageLaws.{Holds, holds}
+use Rattle.pages.specs.Pages.{FilledPage, fillFrom}
+use Rattle.pages.proofs.PageLaws.{PageHolds, page-holds}
 use Rattle.session.specs.Session.{Ended, ended, saidAnswer, sessionOf}
 use Rattle.session.specs.declared.Answer.{Answer}
 use Rattle.program.specs.Program.{printedBy, outputOf, leftToPrint, StageStands, PageStep}
@@ -59,7 +59,7 @@ refused-step s refusal out room number place bytes after n p b a =
 
 pub header-step : (s : Store) → wellFormed s ≡ true → (out : List ℕ) → maxLine ≤ length out → (variables clauses bytes : ℕ) (after : List ℕ)
     → variables ≡ variablesOf s → clauses ≡ clausesOf s → bytes ≡ 0 + length (headerLine variables clauses) → after ≡ writtenAt 0 (headerLine variables clauses) out
-    → (c : Cursor) → Points (s .counts) (s .images) c → clausesLeft s c ≡ madeOf s → PageStep s Stage.Header out (Stage.Clauses c) bytes after
+    → (c : Cursor) → CursorStands (s .counts) (s .images) c → remainingOf s c ≡ madeOf s → PageStep s Stage.Header out (Stage.Clauses c) bytes after
 unfolding leftToPrint textOf headerOf
 header-step s formed out room variables clauses bytes after v m b a c points all =
     let l = length-header variables clauses in
@@ -69,11 +69,11 @@ header-step s formed out room variables clauses bytes after v m b a c points all
 -- ---- a page of clauses
 
 pub clauses-step : (s : Store) → wellFormed s ≡ true → (c d : Cursor) (out after : List ℕ) (bytes : ℕ)
-    → _≡_ {A = Filled} (record { buffer = after; end = bytes; left = clausesLeft s d }) (fillFrom 0 (clausesLeft s c) out)
-    → Points (s .counts) (s .images) d → (bytes ≡ 0 → clausesLeft s c ≡ []) → PageStep s (Stage.Clauses c) out (Stage.Clauses d) bytes after
+    → _≡_ {A = FilledPage} (record { buffer = after; end = bytes; rest = remainingOf s d }) (fillFrom 0 (remainingOf s c) out)
+    → CursorStands (s .counts) (s .images) d → (bytes ≡ 0 → remainingOf s c ≡ []) → PageStep s (Stage.Clauses c) out (Stage.Clauses d) bytes after
 unfolding leftToPrint linesOf
 clauses-step s formed c d out after bytes e points last =
-    let h = subst (Holds 0 (clausesLeft s c) out) (sym e) (holds 0 (clausesLeft s c) out (omega arith)) in
+    let h = subst (PageHolds 0 (remainingOf s c) out) (sym e) (page-holds 0 (remainingOf s c) out (omega arith)) in
     record {
       prints = h .text;
       stays = h .past;

@@ -10,7 +10,7 @@ use Rattle.store.specs.Stores.{Store, lent, closedRecord, wellFormed, maxVariab
 use Rattle.render.specs.Text.{refusalLine}
 use Rattle.lexleader.specs.Bounds.{maxMadeClauses}
 use Rattle.emit.specs.Emit.{linesOf, textOf, maxHeader, maxLine}
-use Rattle.cursor.specs.Cursors.{clausesLeft, Points}
+use Rattle.cursor.specs.Cursors.{remainingOf, CursorStands}
 use Rattle.calls.specs.Calls.{Accepted}
 use Rattle.session.specs.Session.{sessionOf}
 use Rattle.program.specs.declared.Stage.{Stage}
@@ -35,14 +35,14 @@ maxOutput = maxHeader + maxMadeClauses * maxLine
 unfoldable pub leftToPrint : Stage → Store → List ℕ
 leftToPrint (Stage.Refused r) s = refusalLine (numberOf r) (placeOf r)
 leftToPrint Stage.Header s = textOf s
-leftToPrint (Stage.Clauses c) s = linesOf (clausesLeft s c)
+leftToPrint (Stage.Clauses c) s = linesOf (remainingOf s c)
 leftToPrint Stage.Over s = []
 
 -- a stage in a store
 abbrev pub StageStands : Stage → Store → Type 0
 StageStands (Stage.Refused r) s = Unit {0}
 StageStands Stage.Header s = wellFormed s ≡ true
-StageStands (Stage.Clauses c) s = (wellFormed s ≡ true) × Points (s .counts) (s .images) c
+StageStands (Stage.Clauses c) s = (wellFormed s ≡ true) × CursorStands (s .counts) (s .images) c
 StageStands Stage.Over s = Unit {0}
 
 -- One page: the bytes put at the start of the buffer are what is printed of what was left, the bytes past them stay, and a page without bytes is the last.

@@ -12,7 +12,7 @@ use lib.ListN.{length}
 use Rattle.lists.specs.Tests.{allOf}
 use Rattle.lists.proofs.Cases.{never, and-l, and-r, eq-or-ne}
 use Rattle.dimacs.specs.Words.{Piece}
-use Rattle.dimacs.specs.Numbers.{Size, Numeral, isDigit, decimalFrom, digitsOf, padded, sizeOf, positive, negated, numberOf}
+use Rattle.dimacs.specs.Numbers.{Size, Numeral, isDigit, decimalFrom, digitsOf, padded, sizeOf, positive, negated, numeralOf}
 use Rattle.dimacs.proofs.NumberLaws.{digit-range, grow, up-to-six}
 use Rattle.store.specs.Numerals.{isNumeral, numeralCode, codeIn}
 use Rattle.render.specs.Text.{decimal, literalText, clauseLine}
@@ -117,8 +117,8 @@ minus-read ds is = go (sizeOf ds) refl is
             ∙ ap (λ (l : List ℕ). 45 ∷ l) (digits-written ds v (digits-of ds v e))
     go Size.Not e is = never is
 
-bytes-read : (bytes : List ℕ) → isNumeral (numberOf bytes) ≡ true → literalText (numeralCode (numberOf bytes)) ≡ bytes
-unfolding numberOf
+bytes-read : (bytes : List ℕ) → isNumeral (numeralOf bytes) ≡ true → literalText (numeralCode (numeralOf bytes)) ≡ bytes
+unfolding numeralOf
 bytes-read [] is = never is
 bytes-read (b ∷ ds) is = go (eqb b 45) refl is
   where
@@ -129,7 +129,7 @@ bytes-read (b ∷ ds) is = go (eqb b 45) refl is
 
 -- a word that is a number is written as it was read, the closing 0 too
 abbrev pub isNumber : Piece → Bool
-isNumber w = isNumeral (numberOf (w .bytes))
+isNumber w = isNumeral (numeralOf (w .bytes))
 
 pub literal-as-read : (w : Piece) → isNumber w ≡ true → literalText (codeIn w) ≡ w .bytes
 unfolding codeIn

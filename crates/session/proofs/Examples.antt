@@ -7,7 +7,7 @@ use Rattle.lists.specs.Tests.{anyOf, allOf}
 use Rattle.lists.specs.Tables.{table}
 use Rattle.dimacs.specs.Words.{isBlank, run, wordsFrom}
 use Rattle.dimacs.specs.Lines.{linesFrom, linesAt}
-use Rattle.dimacs.specs.Numbers.{isDigit, decimalFrom, digitsOf, sizeOf, numberOf}
+use Rattle.dimacs.specs.Numbers.{isDigit, decimalFrom, digitsOf, sizeOf, numeralOf}
 use Rattle.store.specs.Literals.{isLiteral}
 use Rattle.store.specs.Numerals.{codeIn}
 use Rattle.store.specs.Refusals.{done, refused}
@@ -52,7 +52,7 @@ offered :
     ∷ ended (done accepted) (opened 1 (2 ∷ []))
     ∷ []
 unfolding
-    closed opened problem anyOf allOf table isBlank run wordsFrom linesFrom isDigit decimalFrom digitsOf sizeOf numberOf isLiteral codeIn rising
+    closed opened problem anyOf allOf table isBlank run wordsFrom linesFrom isDigit decimalFrom digitsOf sizeOf numeralOf isLiteral codeIn rising
     literalCount rowsOf cut plainOf isImage demands wellFormed standingOf afterComments sameBytes fourWords sizesOf problemIn problemOf scanFrom
     literalsIn endsFrom bodyOf openedBy notNumber badNameAfter badName badValueAfter namesOn valuesOn statedBy imageAmong rowStated missingFrom ifRoom
     ifSymmetry offeredBy openSays openStore offerSays offerStore fromDivider offerAll sessionOf

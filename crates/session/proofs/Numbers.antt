@@ -15,7 +15,7 @@ use lib.Dec.{eqb, leb, ltb}
 use Rattle.lists.proofs.Cases.{lt-or-le}
 use Rattle.dimacs.specs.Words.{Piece, wordsAt}
 use Rattle.dimacs.specs.Lines.{linesAt}
-use Rattle.dimacs.specs.Numbers.{numberOf as numeralOf}
+use Rattle.dimacs.specs.Numbers.{numeralOf}
 use Rattle.store.specs.Literals.{variableOf}
 use Rattle.store.specs.Numerals.{isNumeral, codeIn}
 use Rattle.store.specs.Refusals.{Said, done, refused, numberOf}

@@ -1,16 +1,17 @@
 -- The test of a store's form: one law for each way out of the functions that make it. Assumes nothing.
-use mathlib.Core.Path.{_≡_, refl, sym, _∙_}
+use mathlib.Core.Path.{_≡_, refl, sym, ap, _∙_}
 use mathlib.Core.Bool.{Bool, true, false, not, _&&_, _||_, and-false, and-true, or-true, or-false}
 use mathlib.Core.List.{List, map}
-use Prim.Native.Nat.{ℕ, _+_, _-_, _≤_, _<_}
+use mathlib.Core.Logic.{⊎-elim}
+use Prim.Native.Nat.{ℕ, _+_, _-_, _%_, _^_, _≤_, _<_}
 use native.Mathlib.Decide.{ℕ-discrete}
 use native.Mathlib.Omega.{arith}
-use borrow.Author.Tests.{eq-eqb, ne-eqb, lt-leb, le-leb, leb-true}
+use borrow.Author.Tests.{eq-eqb, ne-eqb, lt-leb, le-leb, leb-true, le-ltb}
 use lib.ListN.{length, getD, take, drop, set, drop-of-length-le, length-map, length-set, List·getD-map, replicate, length-replicate, getD-replicate}
 use lib.Seq.{getD-set-same, getD-set-other, take-all}
-use lib.Dec.{eqb, leb}
+use lib.Dec.{eqb, leb, ltb}
 use Rattle.lists.specs.Tests.{allOf, anyOf, has, distinct}
-use Rattle.lists.proofs.Cases.{and-l, and-r, and-both}
+use Rattle.lists.proofs.Cases.{and-l, and-r, and-both, lt-or-le}
 use Rattle.lists.proofs.Members.{all-in, all-not}
 use Rattle.lists.proofs.Steps.{drop-step}
 use Rattle.lists.proofs.Distinct.{has-more, distinct-more, distinct-twice}
@@ -24,9 +25,16 @@ module _ (n code : ℕ) where
   unfolding isLiteral
   literal-zero h = rw (lt-leb 1 (variableOf code) (omega arith))
 
-  pub literal-most : (variableOf code ≡ 0 → ⊥) → isLiteral n code ≡ leb (variableOf code) n
+  literal-most : (variableOf code ≡ 0 → ⊥) → isLiteral n code ≡ leb (variableOf code) n
   unfolding isLiteral
   literal-most h = rw (le-leb 1 (variableOf code) (omega arith))
+
+  -- one test for both: the variable less one, which wraps where it is 0, is below n
+  pub literal-below : (w : ℕ) → (w + 1) % 2 ^ 64 ≡ variableOf code → w < 2 ^ 64 → n < 2 ^ 64 → ltb w n ≡ isLiteral n code
+  literal-below w is low fits =
+      ⊎-elim (λ l. sym (literal-zero (omega arith) ∙ sym (le-ltb w n (omega arith))))
+      (λ l. sym (literal-most (λ z. omega arith) ∙ ap (λ (v : ℕ). leb v n) (omega arith)))
+      (lt-or-le (2 ^ 64) (w + 2))
 
   pub image-negative : isNegative code ≡ true → isImage n code ≡ false
   unfolding isImage

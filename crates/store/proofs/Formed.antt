@@ -121,14 +121,14 @@ formed s e =
 
 pub formed-rows : (s : Store) → wellFormed s ≡ true → FormedRows (s .counts .variables) (s .counts .rows) (s .images)
 unfolding heldRows
-formed-rows s e = let r = rest-of s e in record { small = r .variables-fit; few = r .rows-fit; fits = r .images-long; good = rows-of s e }
+formed-rows s e = let r = rest-of s e in record { small = r .variables-fit; rows-fit = r .rows-fit; fits = r .images-long; good = rows-of s e }
 
 pub formed-clauses : (s : Store) → Formed s → FormedClauses (s .counts .clauses) (s .literals) (s .ends)
 formed-clauses s f = record {
   known = f .ends-long;
   rise = rise;
   within = λ c h. omega (arith, end-is c (s .ends), f .end-within c h, f .literals-long);
-  few = λ c h. omega (arith, end-is c (s .ends), f .end-within c h, f .literals-fit);
+  literals-fit = λ c h. omega (arith, end-is c (s .ends), f .end-within c h, f .literals-fit);
 }
   where
     rise : (c : ℕ) → c < s .counts .clauses → literalCount c (s .ends) ≤ literalCount (c + 1) (s .ends)

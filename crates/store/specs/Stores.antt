@@ -131,7 +131,7 @@ wellFormed s = allOf (λ b. b) (demands s)
 -- The rows of a well-formed store, for functions that read no more of it.
 pub record FormedRows (n k : ℕ) (images : List ℕ) : Type 0 where
   pub small : n ≤ maxVariables
-  pub few : k ≤ maxRows
+  pub rows-fit : k ≤ maxRows
   pub fits : k * n ≤ length images
   pub good : allOf (isRow n) (rowsOf n k images) ≡ true
 
@@ -140,7 +140,7 @@ pub record FormedClauses (m : ℕ) (literals ends : List ℕ) : Type 0 where
   pub known : m ≤ length ends
   pub rise : (c : ℕ) → c < m → literalCount c ends ≤ literalCount (c + 1) ends
   pub within : (c : ℕ) → c < m → literalCount (c + 1) ends ≤ length literals
-  pub few : (c : ℕ) → c < m → literalCount (c + 1) ends ≤ maxLiterals
+  pub literals-fit : (c : ℕ) → c < m → literalCount (c + 1) ends ≤ maxLiterals
 
 -- "20. Not open. 21. Badly formed .. These have place 0 and come first, in this order."
 unfoldable pub standingOf : Store → Standing

@@ -1,6 +1,6 @@
 // The clauses of a store: ranges of the literals slice, each up to its end.
 ghost use mathlib.Core.Path.{_≡_};
-ghost use Prim.Native.Nat.{_+_, _≤_, _<_};
+ghost use Prim.Native.Nat.{_≤_, _<_};
 ghost use lib.ListN.{length};
 ghost use Rattle.store.specs.Stores.{literalCount, clauseAt, FormedClauses};
 

@@ -11,6 +11,7 @@ use crate::literal;
 use crate::record::Record;
 use crate::refusal::Refusal;
 use crate::rows;
+use std::num::wrapping_sub_usize;
 
 // What a call that needs an open store finds first.
 pub enum Standing {
@@ -76,7 +77,7 @@ pub fn is_row(row: &[u16], n: usize) -> bool
     if row.len() != n {
         return false;
     }
-    let mut seen = [false; 513];
+    let mut seen = [false; Record::MAX_VARIABLES + 1];
     let mut i = 0;
     while i < row.len() {
         let code = literal::wide(row[i]);
@@ -137,15 +138,11 @@ fn literals_within(literals: &[u16], n: usize) -> bool
     true
 }
 
-// Whether a code is that of a literal of 1..n.
+// Whether a code is that of a literal of 1..n. One test serves for both ends: less one, the variable 0 wraps to a number that is not below n.
 fn is_literal(code: u32, n: usize) -> bool
     ensures { λ r. ⌜ r ≡ isLiteral n code ⌝ }
 {
-    let v = literal::variable(code);
-    if v == 0 {
-        return false;
-    }
-    v <= n
+    wrapping_sub_usize(literal::variable(code), 1) < n
 }
 
 // Whether a code can stand in a row: that of one of the variables 1..n itself.

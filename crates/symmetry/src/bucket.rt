@@ -7,6 +7,9 @@ ghost use Rattle.symmetry.specs.Fitting.{Fitting};
 ghost use Rattle.symmetry.specs.Bucket.{bucketAt, bucketOf};
 use store::literal;
 
+// How many buckets there are.
+pub const COUNT: usize = 4096;
+
 pub fn of_clause(clause: &[u16]) -> usize
     ensures { λ r. ⌜ r ≡ bucketOf (now (clause .entry)) ⌝ }
 {
@@ -60,5 +63,5 @@ fn greater(a: u32, b: u32) -> u32
 fn number(least: u32, greatest: u32) -> usize
     ensures { λ r. ⌜ r ≡ bucketAt least greatest ⌝ }
 {
-    (least as usize * 61 + greatest as usize) % 4096
+    (least as usize * 61 + greatest as usize) % COUNT
 }

@@ -24,14 +24,15 @@ ghost use Rattle.symmetry.specs.Fitting.{Fitting, RowFits};
 ghost use Rattle.symmetry.specs.Bucket.{bucketCount, Indexed};
 use store::clauses;
 use store::literal;
+use store::record::Record;
 
 // The number, from 1, of the first of m clauses whose image under a row is missing among them; 0 where none is.
 pub fn first_missing(literals: &[u16], ends: &[u16], m: usize, row: &[u16]) -> usize
     requires { ⌜ RowFits m (now literals) (now ends) (now row) ⌝ }
     ensures { λ r. ⌜ r ≡ firstMissing (now (row .entry)) (clausesIn m (now (literals .entry)) (now (ends .entry))) ⌝ }
 {
-    let mut heads = [0u16; 4096];
-    let mut nexts = [0u16; 4096];
+    let mut heads = [0u16; bucket::COUNT];
+    let mut nexts = [0u16; Record::MAX_CLAUSES];
     index_clauses(literals, ends, m, &mut heads, &mut nexts);
     first_missing_by(literals, ends, m, row, &heads, &nexts)
 }

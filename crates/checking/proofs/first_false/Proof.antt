@@ -17,7 +17,7 @@ use Rattle.lexleader.specs.Store.{variablesOf}
 use Rattle.lexleader.proofs.Within.{all-literals-more, formula-more}
 use Rattle.lexleader.proofs.PlaceLaws.{six-length}
 use Rattle.lexleader.proofs.MadeLaws.{plain-length, counted-clauses}
-use Rattle.cursor.specs.Cursors.{clausesLeft, rowOf}
+use Rattle.cursor.specs.Cursors.{remainingOf, rowOf}
 use Rattle.cursor.proofs.CursorLaws.{start-left}
 use Rattle.checking.proofs.CheckLaws.{LeftToTry, try-first, left-some, head-within, added-within, front-literals, try-on, try-found, try-all, one-holds}
 use borrow.Author.Needs.{needs}
@@ -53,12 +53,12 @@ six-hold-requires : tie.Need-six-hold-requires Inv-loop μ-loop
 six-hold-requires c κs =
     let l = c .before in
     let s = l .before .before .before .before .before .before .before in
-    (l .loop .inv .points, formula-more (variablesOf (S s)) (64 * length (s .args .a .now)) (enough s) _ (added-within (S s) (s .pre .0) (s .args .a .now) (l .loop .inv)))
+    (l .loop .inv .stands, formula-more (variablesOf (S s)) (64 * length (s .args .a .now)) (enough s) _ (added-within (S s) (s .pre .0) (s .args .a .now) (l .loop .inv)))
 
 -- ---- past the six clauses of an auxiliary
 
 next-auxiliary-requires : tie.Need-next-auxiliary-requires Inv-loop μ-loop
-next-auxiliary-requires c κs = (c .before .before .before .loop .inv .points, c .before .six-hold .ensures (c .if1 .taken) .0)
+next-auxiliary-requires c κs = (c .before .before .before .loop .inv .stands, c .before .six-hold .ensures (c .if1 .taken) .0)
 
 add-q : tie.Need-add-q Inv-loop μ-loop
 add-q c = let l = c .before .before .before .before in omega (arith, l .before .before .totals-of .ensures .few-clauses)
@@ -73,10 +73,10 @@ loop-again c =
     let row = rowOf (a .counts) (a .images .now) (l .loop .at) in
     let six = sixAt row (l .loop .at .place) in
     let next = c .next-auxiliary .result in
-    let is = c .next-auxiliary .ensures .left (plainOf (S s)) (plain-length (S s) (s .pre .0)) in
+    let is = c .next-auxiliary .ensures .passed (plainOf (S s)) (plain-length (S s) (s .pre .0)) in
     let hold = h .six-hold .ensures (c .before .if1 .taken) .1 (variablesOf (S s)) (front-literals (S s) (s .pre .0) (a .a .now) t six next is) in
     subst (λ (k : ℕ). LeftToTry (S s) (a .a .now) (l .before .before .totals-of .result .clauses) next (l .loop .q + k)) (six-length row (l .loop .at .place))
-    (try-on (S s) (s .pre .0) (a .a .now) t six next is (c .next-auxiliary .ensures .points) hold)
+    (try-on (S s) (s .pre .0) (a .a .now) t six next is (c .next-auxiliary .ensures .stands) hold)
 
 -- ---- past one clause
 
@@ -86,11 +86,11 @@ holds-at-requires c κs =
     let s = l .before .before .before .before .before .before .before in
     let t = l .loop .inv in
     let head = head-within (S s) (s .pre .0) (s .args .a .now) t (omega arith) in
-    (s .pre .0, t .points, left-some (S s) (s .pre .0) (s .args .a .now) t (omega arith), all-literals-more (variablesOf (S s)) (64 * length (s .args .a .now)) (enough s) _ head)
+    (s .pre .0, t .stands, left-some (S s) (s .pre .0) (s .args .a .now) t (omega arith), all-literals-more (variablesOf (S s)) (64 * length (s .args .a .now)) (enough s) _ head)
 
 -- whether the clause at the cursor holds
 told : (c : tie.After-holds-at Inv-loop μ-loop) → let l = c .before .before .before .before in let s = l .before .before .before .before .before .before .before in
-    c .holds-at .result ≡ clauseHolds (valueOf (bitsOf (variablesOf (S s)) (s .args .a .now))) (getD (clausesLeft (S s) (l .loop .at)) 0 [])
+    c .holds-at .result ≡ clauseHolds (valueOf (bitsOf (variablesOf (S s)) (s .args .a .now))) (getD (remainingOf (S s) (l .loop .at)) 0 [])
 told c =
     let l = c .before .before .before .before in
     let s = l .before .before .before .before .before .before .before in
@@ -107,7 +107,7 @@ next-requires : tie.Need-next-requires Inv-loop μ-loop
 next-requires c κs =
     let l = c .before .before .before .before .before in
     let s = l .before .before .before .before .before .before .before in
-    (l .loop .inv .points, left-some (S s) (s .pre .0) (s .args .a .now) (l .loop .inv) (omega arith))
+    (l .loop .inv .stands, left-some (S s) (s .pre .0) (s .args .a .now) (l .loop .inv) (omega arith))
 
 add-q-2 : tie.Need-add-q-2 Inv-loop μ-loop
 add-q-2 c = let l = c .before .before .before .before .before .before in omega (arith, l .before .before .totals-of .ensures .few-clauses)

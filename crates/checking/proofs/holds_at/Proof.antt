@@ -16,7 +16,7 @@ use Rattle.lexleader.specs.Clause.{clauseOf}
 use Rattle.lexleader.specs.Models.{clauseHolds}
 use Rattle.lexleader.specs.Places.{clausesAt}
 use Rattle.lexleader.proofs.MadeLaws.{plain-length, plain-at}
-use Rattle.cursor.specs.Cursors.{clausesLeft, AtAdded}
+use Rattle.cursor.specs.Cursors.{remainingOf, AtAdded}
 use Rattle.cursor.proofs.CursorLaws.{row-there, clause-stands, next-plain, added-first}
 use Rattle.checking.proofs.holds_at.Statement.{statement}
 use Rattle.checking.proofs.holds_at.Tie as tie
@@ -27,7 +27,7 @@ S c = lent (c .args .counts) (c .args .literals .now) (c .args .ends .now) (c .a
 -- ---- a plain clause
 
 plain-first : (c : tie.After-clause) → let s = c .before .before .before .before .before .before .before .before in
-    c .clause .result .now ≡ getD (clausesLeft (S s) (s .args .at)) 0 []
+    c .clause .result .now ≡ getD (remainingOf (S s) (s .args .at)) 0 []
 plain-first c =
     let s = c .before .before .before .before .before .before .before .before in
     let at = s .args .at in
@@ -52,7 +52,7 @@ at-added : (c : tie.Else1) → let a = c .before .before .before .before .before
 at-added c = record { past = c .if1 .left; row = c .before .before .before .before .before .before .before .pre .2 (c .if1 .left) }
 
 row-first : (c : tie.After-clause-at) → let s = c .before .before .before .before .before .before .before .before .before .before in
-    clauseOf (c .clause-at .result) ≡ getD (clausesLeft (S s) (s .args .at)) 0 []
+    clauseOf (c .clause-at .result) ≡ getD (remainingOf (S s) (s .args .at)) 0 []
 row-first c =
     let i = c .before .before .before in
     let s = i .before .before .before .before .before .before .before in
@@ -73,10 +73,10 @@ clause-at-requires c κs =
     rw (c .before .row .ensures) (clause-stands (s .args .counts) (s .args .images .now) (s .args .at) (s .pre .1) (at-added i .row))
 
 array-share-prefix-codes : tie.Need-array-share-prefix-codes
-array-share-prefix-codes c = let h = c .before .clause-at .ensures in omega (arith, h .few, h .room)
+array-share-prefix-codes c = let h = c .before .clause-at .ensures in omega (arith, h .most, h .room)
 
 slice-aggregate-codes-hold : tie.Need-slice-aggregate-codes-hold
-slice-aggregate-codes-hold c = let h = c .before .before .clause-at .ensures in sym (length-take-le _ _ (omega (arith, h .few, h .room)))
+slice-aggregate-codes-hold c = let h = c .before .before .clause-at .ensures in sym (length-take-le _ _ (omega (arith, h .most, h .room)))
 
 codes-hold-requires : tie.Need-codes-hold-requires
 codes-hold-requires c κs =

@@ -13,7 +13,7 @@ use Rattle.cursor.proofs.at_place.Tie as tie
 
 -- the auxiliaries of the rows up to the cursor's own are few
 low : (c : tie.Start) → auxiliaryAfter (rowOf (c .args .counts) (c .args .images .now) (c .args .cursor)) (c .args .place) ≤ maxBefore (c .args .cursor .row + 1) + 1
-low c = omega (arith, c .pre .3, c .pre .0 .few (c .pre .1 .row))
+low c = omega (arith, c .pre .3, c .pre .0 .after-most (c .pre .1 .row))
 
 -- what is left past clauses that lead to the place
 next : (c : tie.Start) (clauses : List (List ℕ)) → let a = c .args in
@@ -27,12 +27,12 @@ returns c clauses z =
     let a = s .args in
     let p = s .pre .0 in
     record {
-      points = record { rows = p .rows; plain = p .plain; row = p .row; place = λ _. s .pre .2; there = λ _. c .if1 .taken; few = λ _. low s };
-      left = past-added (a .counts) (a .images .now) (a .cursor) _ (s .pre .1 .past) refl clauses (next s clauses z);
+      stands = record { rows = p .rows; plain = p .plain; row = p .row; place = λ _. s .pre .2; there = λ _. c .if1 .taken; after-most = λ _. low s };
+      passed = past-added (a .counts) (a .images .now) (a .cursor) _ (s .pre .1 .past) refl clauses (next s clauses z);
     }
 
 add-row-from : tie.Need-add-row-from
-add-row-from c = let s = c .before .before .before .before .before in omega (arith, s .pre .1 .row, s .pre .0 .rows .few)
+add-row-from c = let s = c .before .before .before .before .before in omega (arith, s .pre .1 .row, s .pre .0 .rows .rows-fit)
 
 row-from-requires : tie.Need-row-from-requires
 row-from-requires c κs =
@@ -49,7 +49,7 @@ returns-2 c clauses z =
     let r = c .row-from .ensures in
     let on = place-past (a .counts) (a .images .now) (a .cursor .row) (s .pre .0 .rows) (s .pre .1 .row) (a .place) (i .if1 .left) ∙ sym (r .1) in
     let left = next s clauses z ∙ ap (λ (l : List (List ℕ)). clauses ++ l) on in
-    record { points = r .0 .0; left = past-added (a .counts) (a .images .now) (a .cursor) (c .row-from .result) (s .pre .1 .past) (r .0 .1) clauses left }
+    record { stands = r .0 .0; passed = past-added (a .counts) (a .images .now) (a .cursor) (c .row-from .result) (s .pre .1 .past) (r .0 .1) clauses left }
 
 pub at-place-spec : {M : Type 1} → statement M
 at-place-spec = tie.close (tie.spec returns add-row-from row-from-requires returns-2)

@@ -11,7 +11,7 @@ returns c =
     let s = c .before .before .before .before .before .before in
     let a = s .args in
     let p = s .pre .0 in (
-      record { rows = p .rows; plain = omega arith; row = p .row; place = p .place; there = p .there; few = p .few },
+      record { rows = p .rows; plain = omega arith; row = p .row; place = p .place; there = p .there; after-most = p .after-most },
       λ plain many. by-head (next-plain plain (a .counts) many (a .images .now) (a .cursor) (search needs)),
     )
 
@@ -19,7 +19,7 @@ next-added-requires : tie.Need-next-added-requires
 next-added-requires c κs = let s = c .before .before .before .before in (s .pre .0, record { past = c .if1 .left; row = s .pre .1 (c .if1 .left) })
 
 returns-2 : tie.Need-returns-2
-returns-2 c = let next = c .next-added .ensures in (next .points, λ plain many. by-head (next .left plain many))
+returns-2 c = let next = c .next-added .ensures in (next .stands, λ plain many. by-head (next .passed plain many))
 
 pub next-spec : {M : Type 1} → statement M
 next-spec = tie.close (tie.spec (search needs) returns next-added-requires returns-2)

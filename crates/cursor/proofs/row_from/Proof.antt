@@ -48,7 +48,7 @@ first-place-requires c κs =
     let s = l .before .before in
     let row = c .row .result .now in
     let long : length row ≡ s .args .counts .variables = ap length (c .row .ensures) ∙ size (s .args .counts) (s .args .images .now) (l .loop .r) (s .pre .0) (search needs) in
-    (omega (arith, s .pre .0 .small), omega (arith, s .pre .0 .small, s .pre .0 .few, auxiliaries-most row))
+    (omega (arith, s .pre .0 .small), omega (arith, s .pre .0 .small, s .pre .0 .rows-fit, auxiliaries-most row))
 
 returns : tie.Need-returns Inv-loop μ-loop
 returns c =
@@ -59,7 +59,7 @@ returns c =
     let p = f .first-place .result in
     let z = found f in
     let few = first-few (a .counts) (a .images .now) (l .loop .r) (s .pre .0) (search needs) p (l .loop .first) z (l .loop .inv .2) in (
-      (record { rows = s .pre .0; plain = s .pre .1; row = l .loop .inv .1; place = λ _. z .stands; there = λ _. c .if2 .taken; few = λ _. few }, refl),
+      (record { rows = s .pre .0; plain = s .pre .1; row = l .loop .inv .1; place = λ _. z .stands; there = λ _. c .if2 .taken; after-most = λ _. few }, refl),
       first-here (a .counts) (a .images .now) (l .loop .r) (s .pre .0) (search needs) p (l .loop .first) z ∙ sym (l .loop .inv .4),
     )
 
@@ -88,7 +88,7 @@ returns-2 c =
     let s = l .before .before in
     let a = s .args in
     let over : l .loop .r < a .counts .rows → ⊥ = λ h. omega arith in (
-      (record { rows = s .pre .0; plain = s .pre .1; row = l .loop .inv .1; place = λ h. absurd (over h); there = λ h. absurd (over h); few = λ h. absurd (over h) }, refl),
+      (record { rows = s .pre .0; plain = s .pre .1; row = l .loop .inv .1; place = λ h. absurd (over h); there = λ h. absurd (over h); after-most = λ h. absurd (over h) }, refl),
       none-added (a .counts) (a .images .now) (l .loop .r) (omega arith) (c .nowhere .result) (l .loop .first) ∙ sym (l .loop .inv .4),
     )
 

@@ -6,7 +6,7 @@ use native.Mathlib.Omega.{arith}
 use lib.ListN.{drop}
 use Rattle.store.proofs.RowLaws.{from-first}
 use Rattle.lexleader.specs.Made.{made, rowsClauses}
-use Rattle.cursor.specs.Cursors.{leftOf}
+use Rattle.cursor.specs.Cursors.{remaining}
 use Rattle.cursor.proofs.start.Statement.{statement}
 use Rattle.cursor.proofs.start.Tie as tie
 
@@ -20,7 +20,7 @@ row-from-requires : tie.Need-row-from-requires
 row-from-requires c κs = let f = c .before .before .pre in (f, omega arith, omega arith, omega (arith, f .small))
 
 returns : tie.Need-returns
-unfolding leftOf made
+unfolding remaining made
 returns c =
     let a = c .before .before .before .args in
     let n = a .counts .variables in

@@ -9,15 +9,15 @@ use Rattle.emit.proofs.added.Statement.{statement}
 use Rattle.emit.proofs.added.Tie as tie
 
 array-share-prefix-codes : tie.Need-array-share-prefix-codes
-array-share-prefix-codes c = let h = c .before .added-clause .ensures in omega (arith, h .few, h .room)
+array-share-prefix-codes c = let h = c .before .added-clause .ensures in omega (arith, h .most, h .room)
 
 slice-aggregate-write-codes : tie.Need-slice-aggregate-write-codes
-slice-aggregate-write-codes c = let h = c .before .before .added-clause .ensures in sym (length-take-le _ _ (omega (arith, h .few, h .room)))
+slice-aggregate-write-codes c = let h = c .before .before .added-clause .ensures in sym (length-take-le _ _ (omega (arith, h .most, h .room)))
 
 write-codes-requires : tie.Need-write-codes-requires
 write-codes-requires c κs =
     let a = c .before .before .before .added-clause in
-    omega (arith, a .ensures .few, length-take-le (a .result .count) (a .result .literals) (omega (arith, a .ensures .few, a .ensures .room)))
+    omega (arith, a .ensures .most, length-take-le (a .result .count) (a .result .literals) (omega (arith, a .ensures .most, a .ensures .room)))
 
 returns : tie.Need-returns
 returns c =

@@ -23,7 +23,7 @@ is c =
     c .clause-at .ensures .are ∙ ap (λ (row : List ℕ). getD (clausesAt row place) 0 []) (c .before .before .row .ensures)
 
 size : (c : tie.After-clause-at) → length (clauseOf (c .clause-at .result)) ≡ c .clause-at .result .count
-size c = let h = c .clause-at .ensures in length-take-le _ _ (omega (arith, h .few, h .room))
+size c = let h = c .clause-at .ensures in length-take-le _ _ (omega (arith, h .most, h .room))
 
 row-requires : tie.Need-row-requires
 row-requires c κs = let s = c .before .before in row-there (s .args .counts) (s .args .images .now) (s .args .cursor) (s .pre .0) (s .pre .1 .row)
@@ -37,13 +37,13 @@ next-added-requires : tie.Need-next-added-requires
 next-added-requires c κs = let s = c .before .before .before .before .before in (s .pre .0, s .pre .1)
 
 array-share-prefix-codes : tie.Need-array-share-prefix-codes
-array-share-prefix-codes c = let h = c .before .before .clause-at .ensures in omega (arith, h .few, h .room)
+array-share-prefix-codes c = let h = c .before .before .clause-at .ensures in omega (arith, h .most, h .room)
 
 slice-aggregate-clause-length : tie.Need-slice-aggregate-clause-length
 slice-aggregate-clause-length c = sym (size (c .before .before .before))
 
 clause-length-requires : tie.Need-clause-length-requires
-clause-length-requires c κs = let k = c .before .before .before in omega (arith, size k, k .clause-at .ensures .few)
+clause-length-requires c κs = let k = c .before .before .before in omega (arith, size k, k .clause-at .ensures .most)
 
 returns : tie.Need-returns
 returns c plain many =
@@ -53,11 +53,11 @@ returns c plain many =
     let s = k .before .before .before .before .before in
     let a = s .args in
     let line = ap (λ (x : List ℕ). length (clauseLine x)) (is k) in
-    full plain (a .counts) (a .images .now) (a .cursor) (s .pre .0) (a .at) (a .out .now) (s .pre .2) _ _ (k2 .next-added .ensures .left plain many)
-    (added-short _ (omega (arith, ap length (is k), size k, k .clause-at .ensures .few))) (omega (arith, line, n .clause-length .ensures, c .if1 .taken))
+    full plain (a .counts) (a .images .now) (a .cursor) (s .pre .0) (a .at) (a .out .now) (s .pre .2) _ _ (k2 .next-added .ensures .passed plain many)
+    (added-short _ (omega (arith, ap length (is k), size k, k .clause-at .ensures .most))) (omega (arith, line, n .clause-length .ensures, c .if1 .taken))
 
 array-share-prefix-codes-2 : tie.Need-array-share-prefix-codes-2
-array-share-prefix-codes-2 c = let h = c .before .before .before .before .before .before .clause-at .ensures in omega (arith, h .few, h .room)
+array-share-prefix-codes-2 c = let h = c .before .before .before .before .before .before .clause-at .ensures in omega (arith, h .most, h .room)
 
 slice-aggregate-put-clause : tie.Need-slice-aggregate-put-clause
 slice-aggregate-put-clause c = sym (size (c .before .before .before .before .before .before .before))
@@ -81,8 +81,8 @@ returns-2 c plain many =
     let a = s .args in
     let line = ap (λ (x : List ℕ). length (clauseLine x)) (is k) in
     let next = k2 .next-added .ensures in
-    adds plain (a .counts) (a .images .now) (a .cursor) (s .pre .0) (a .at) (a .out .now) (s .pre .2) _ _ (next .left plain many)
-    (omega (arith, line, n .clause-length .ensures, w .before .before .before .if1 .left)) _ (next .points) refl _ _
+    adds plain (a .counts) (a .images .now) (a .cursor) (s .pre .0) (a .at) (a .out .now) (s .pre .2) _ _ (next .passed plain many)
+    (omega (arith, line, n .clause-length .ensures, w .before .before .before .if1 .left)) _ (next .stands) refl _ _
     (omega (arith, line, w .put-clause .ensures .0))
     (w .put-clause .ensures .1 ∙ ap (λ (x : List ℕ). writtenAt (a .at) (clauseLine x) (a .out .now)) (is k))
 

@@ -23,7 +23,7 @@ stored-length-requires c κs =
     let plain = s .args .cursor .plain in
     let ends = s .args .ends .now in
     let size = length-slice (literalCount plain ends) (literalCount (plain + 1) ends) (s .args .literals .now) (f .within plain (s .pre .1)) in
-    omega (arith, ap length (c .clause .ensures), size, f .few plain (s .pre .1))
+    omega (arith, ap length (c .clause .ensures), size, f .literals-fit plain (s .pre .1))
 
 -- the line of the clause as the plain clauses have it
 line : (c : tie.After-clause) (clause : List ℕ) → let a = c .before .before .before .before .args in
@@ -31,21 +31,21 @@ line : (c : tie.After-clause) (clause : List ℕ) → let a = c .before .before 
 line c clause is = ap (λ (x : List ℕ). length (clauseLine x)) (c .clause .ensures ∙ sym is)
 
 returns : tie.Need-returns
-returns c plain many is images points =
+returns c plain many is images stands =
     let n = c .before in
     let k = n .before in
     let s = k .before .before .before .before in
     let a = s .args in
     let clause = getD plain (a .cursor .plain) [] in
     let same = line k clause is in
-    full plain (a .counts) images (a .cursor) points (a .at) (a .out .now) (s .pre .2) clause _ (next-plain plain (a .counts) many images (a .cursor) (s .pre .1))
+    full plain (a .counts) images (a .cursor) stands (a .at) (a .out .now) (s .pre .2) clause _ (next-plain plain (a .counts) many images (a .cursor) (s .pre .1))
     (omega (arith, ap (λ (x : List ℕ). length (clauseLine x)) is, s .pre .3)) (omega (arith, same, n .stored-length .ensures, c .if1 .taken))
 
 put-stored-requires : tie.Need-put-stored-requires
 put-stored-requires c κs = let n = c .before .before in omega (arith, n .stored-length .ensures)
 
 returns-2 : tie.Need-returns-2
-returns-2 c plain many is images points =
+returns-2 c plain many is images stands =
     let w = c .before .before .before in
     let n = w .before .before .before in
     let k = n .before in
@@ -53,10 +53,10 @@ returns-2 c plain many is images points =
     let a = s .args in
     let clause = getD plain (a .cursor .plain) [] in
     let same = line k clause is in
-    adds plain (a .counts) images (a .cursor) points (a .at) (a .out .now) (s .pre .2) clause _ (next-plain plain (a .counts) many images (a .cursor) (s .pre .1))
+    adds plain (a .counts) images (a .cursor) stands (a .at) (a .out .now) (s .pre .2) clause _ (next-plain plain (a .counts) many images (a .cursor) (s .pre .1))
     (omega (arith, same, n .stored-length .ensures, w .before .before .if1 .left))
     (record { plain = a .cursor .plain + 1; row = a .cursor .row; place = a .cursor .place })
-    (record { rows = points .rows; plain = omega (arith, s .pre .1); row = points .row; place = points .place; there = points .there; few = points .few }) refl _ _
+    (record { rows = stands .rows; plain = omega (arith, s .pre .1); row = stands .row; place = stands .place; there = stands .there; after-most = stands .after-most }) refl _ _
     (omega (arith, same, w .put-stored .ensures .0))
     (w .put-stored .ensures .1 ∙ ap (λ (x : List ℕ). writtenAt (a .at) (clauseLine x) (a .out .now)) (k .clause .ensures ∙ sym is))
 

@@ -6,18 +6,18 @@ use native.Mathlib.Omega.{arith}
 use lib.ListN.{length}
 use Rattle.store.specs.Stores.{lent}
 use Rattle.pages.specs.Pages.{fillFrom}
-use Rattle.cursor.specs.Cursors.{clausesLeft, Points}
+use Rattle.cursor.specs.Cursors.{remainingOf, CursorStands}
 use borrow.Author.Needs.{needs}
 use Rattle.pages.proofs.fill.Statement.{statement}
 use Rattle.pages.proofs.fill.Tie as tie
 
 abbrev Inv-loop : tie.InvT-loop
 Inv-loop counts literals ends images out₀ at₀ next₀ out at next =
-    (fillFrom 0 (clausesLeft (lent counts literals ends images) next₀) out₀ ≡ fillFrom at (clausesLeft (lent counts literals ends images) next) out)
-    × Points counts images next
+    (fillFrom 0 (remainingOf (lent counts literals ends images) next₀) out₀ ≡ fillFrom at (remainingOf (lent counts literals ends images) next) out)
+    × CursorStands counts images next
     × (at ≤ length out)
     × (length out ≡ length out₀)
-    × (at ≡ 0 → clausesLeft (lent counts literals ends images) next ≡ clausesLeft (lent counts literals ends images) next₀)
+    × (at ≡ 0 → remainingOf (lent counts literals ends images) next ≡ remainingOf (lent counts literals ends images) next₀)
 
 abbrev μ-loop : tie.MeasureT-loop
 μ-loop counts literals ends images out₀ at₀ next₀ out at next = length out - at
@@ -42,7 +42,7 @@ loop-again : tie.Need-loop-again Inv-loop μ-loop
 loop-again c =
     let g = c .before .before .before .before .before .add-line .ensures in
     let l = c .before .before .before .before .before .before .before in
-    (l .loop .inv .0 ∙ sym (g .same), g .points, g .within, g .size ∙ l .loop .inv .3, λ none. absurd (omega (arith, g .onward)))
+    (l .loop .inv .0 ∙ sym (g .same), g .stands, g .within, g .size ∙ l .loop .inv .3, λ none. absurd (omega (arith, g .onward)))
 
 pub fill-spec : {M : Type 1} → statement M
 fill-spec = tie.close (tie.spec Inv-loop μ-loop loop-holds (λ c κs. search needs) same-length returns loop-less loop-again)

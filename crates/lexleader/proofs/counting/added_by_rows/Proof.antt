@@ -38,10 +38,10 @@ added-by-requires c κs =
     omega (arith, ap length (c .row .ensures), row-size (s .args .n) (s .args .rows) (s .args .images .now) (s .pre .fits) (l .loop .r) (omega arith), s .pre .small)
 
 add-auxiliaries : tie.Need-add-auxiliaries Inv-loop μ-loop
-add-auxiliaries c = omega (arith, more (c .before) .few-auxiliaries, c .before .before .before .before .before .before .pre .few)
+add-auxiliaries c = omega (arith, more (c .before) .few-auxiliaries, c .before .before .before .before .before .before .pre .rows-fit)
 
 add-clauses : tie.Need-add-clauses Inv-loop μ-loop
-add-clauses c = omega (arith, more (c .before .before) .few-clauses, c .before .before .before .before .before .before .before .pre .few)
+add-clauses c = omega (arith, more (c .before .before) .few-clauses, c .before .before .before .before .before .before .before .pre .rows-fit)
 
 loop-again : tie.Need-loop-again Inv-loop μ-loop
 loop-again c = more (c .before .before)
@@ -51,7 +51,7 @@ returns c =
     let l = c .before in
     let s = l .before .before in
     let all = summed-all (s .args .n) (s .args .rows) (s .args .images .now) (l .loop .inv) (omega arith) in
-    (all .0, all .1, omega (arith, s .pre .few), omega (arith, s .pre .few))
+    (all .0, all .1, omega (arith, s .pre .rows-fit), omega (arith, s .pre .rows-fit))
 
 pub added-by-rows-spec : {M : Type 1} → statement M
 added-by-rows-spec =

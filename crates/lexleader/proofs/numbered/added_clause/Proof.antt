@@ -61,7 +61,7 @@ added-by-requires : tie.Need-added-by-requires Inv-loop μ-loop
 added-by-requires c κs = omega (arith, size c, c .before .before .before .pre .0 .small)
 
 cast-row-clause : tie.Need-cast-row-clause Inv-loop μ-loop
-cast-row-clause c = let l = c .before .before .before .before in omega (arith, l .loop .inv .low, there l, l .before .before .pre .0 .few)
+cast-row-clause c = let l = c .before .before .before .before in omega (arith, l .loop .inv .low, there l, l .before .before .pre .0 .rows-fit)
 
 row-clause-requires : tie.Need-row-clause-requires Inv-loop μ-loop
 row-clause-requires c κs =
@@ -70,7 +70,7 @@ row-clause-requires c κs =
     let f = l .before .before .pre .0 in
     let low = l .loop .inv .low in (
       omega (arith, size (b .before), f .small),
-      omega (arith, low, there l, f .few, f .small, size (b .before), auxiliaries-most (b .before .row .result .now)),
+      omega (arith, low, there l, f .rows-fit, f .small, size (b .before), auxiliaries-most (b .before .row .result .now)),
       omega (arith, b .added-by .ensures .1 (l .loop .e)),
     )
 
@@ -84,10 +84,10 @@ returns c =
     ∙ sym (sought-here (a .n) (a .rows) (a .images .now) (a .q) (l .loop .e) (l .loop .left) (l .loop .r) (l .loop .inv) (omega (arith, tells b .1 (l .loop .e)))))
 
 add-e-2 : tie.Need-add-e-2 Inv-loop μ-loop
-add-e-2 c = let l = c .before .before .before .before .before .before in omega (arith, later c .low, there l, l .before .before .pre .0 .few)
+add-e-2 c = let l = c .before .before .before .before .before .before in omega (arith, later c .low, there l, l .before .before .pre .0 .rows-fit)
 
 add-r : tie.Need-add-r Inv-loop μ-loop
-add-r c = let l = c .before .before .before .before .before .before in omega (arith, there l, l .before .before .pre .0 .few)
+add-r c = let l = c .before .before .before .before .before .before in omega (arith, there l, l .before .before .pre .0 .rows-fit)
 
 loop-less : tie.Need-loop-less Inv-loop μ-loop
 loop-less c = omega (arith, there (c .before .before .before .before .before .before))

@@ -22,7 +22,7 @@ returns c =
     let none = no-later row (p .next) (n .next-moved .result) (p .auxiliary + 1) (p .j + 1) (s .pre .1) here (n .next-moved .ensures) (omega (arith, r .stands .one)) (omega arith) in
     let few = after-next row p (r .stands) (r .inside) (s .pre .1) in
     to-next row p (r .stands) (r .inside) (s .pre .1) _
-    (at-last row (p .auxiliary + 1) (c .no-place .result) (c .no-place .ensures) (omega (arith, few, r .stands .few)) (sym (none .0)) (sym (none .1)))
+    (at-last row (p .auxiliary + 1) (c .no-place .result) (c .no-place .ensures) (omega (arith, few, r .stands .after-most)) (sym (none .0)) (sym (none .1)))
 
 add-t5 : tie.Need-add-t5
 add-t5 c = let s = c .before .before .before .before .before .before in omega (arith, s .pre .0 .stands .early)
@@ -38,7 +38,7 @@ returns-2 c =
     let few = after-next row p (r .stands) (r .inside) (s .pre .1) in
     to-next row p (r .stands) (r .inside) (s .pre .1) _
     (starts row (p .next) (n .next-moved .result) (p .auxiliary + 1) (p .j + 1) (s .pre .1) (then .here (s .pre .1)) (n .next-moved .ensures)
-    (λ last. absurd (omega arith)) (omega arith) (omega (arith, r .stands .early, then .onward)) refl refl (omega (arith, few, r .stands .few)))
+    (λ last. absurd (omega arith)) (omega arith) (omega (arith, r .stands .early, then .onward)) refl refl (omega (arith, few, r .stands .after-most)))
 
 pub next-auxiliary-spec : {M : Type 1} → statement M
 next-auxiliary-spec = tie.close (tie.spec add-e (search needs) (search needs) (search needs) returns add-t5 returns-2)

@@ -18,8 +18,8 @@ returns c =
     let r = s .pre in
     let after = after-one row p (r .stands) (r .inside) (omega arith) in
     let z = at-last row (p .auxiliary) (c .no-place .result) (c .no-place .ensures) (few-auxiliaries row p (r .stands)) refl (sym after) in
-    let left = then-one row p (r .stands) (r .inside) (omega arith) ∙ ap (λ (l : List (List ℕ)). getD (clausesAt row p) 0 [] ∷ l) (sym (z .left)) in
-    record { stands = z .stands; left = left; auxiliary = z .auxiliary }
+    let passed = then-one row p (r .stands) (r .inside) (omega arith) ∙ ap (λ (l : List (List ℕ)). getD (clausesAt row p) 0 [] ∷ l) (sym (z .are)) in
+    record { stands = z .stands; passed = passed; auxiliary = z .auxiliary }
 
 returns-2 : tie.Need-returns-2
 returns-2 c =
@@ -34,8 +34,8 @@ returns-3 : tie.Need-returns-3
 returns-3 c =
     let s = c .before .before .before .before .before .before in
     let z = c .next-auxiliary .ensures in
-    let left = last-clause (s .args .row .now) (s .args .place) (omega (arith, s .pre .stands .high)) (z .left) in
-    record { stands = z .stands; left = left; auxiliary = z .auxiliary }
+    let passed = last-clause (s .args .row .now) (s .args .place) (omega (arith, s .pre .stands .high)) (z .passed) in
+    record { stands = z .stands; passed = passed; auxiliary = z .auxiliary }
 
 pub next-place-spec : {M : Type 1} → statement M
 next-place-spec = tie.close (tie.spec (search needs) returns (search needs) returns-2 next-auxiliary-requires returns-3)

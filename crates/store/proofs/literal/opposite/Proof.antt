@@ -7,7 +7,6 @@ use borrow.Author.Tests.{eqb-true, eqb-false}
 use lib.Bits.{bitXor, xor-shr, xor-mod, xor-add-and, and-le-r}
 use lib.Dec.{eqb}
 use Rattle.store.specs.Literals.{oppositeOf}
-use borrow.Author.Needs.{needs}
 use Rattle.store.proofs.literal.opposite.Statement.{statement}
 use Rattle.store.proofs.literal.opposite.Tie as tie
 

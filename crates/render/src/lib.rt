@@ -160,8 +160,19 @@ fn put_literal(out: &mut [u8], at: usize, code: u32) -> usize
     put_number(out, at, variable)
 }
 
-// A number: its digits are counted, and then written from the last one on.
+// A number: its digits are counted, and then written from the last one on. Below 100,000, as every number of a made formula but the clause
+// count is, they are counted by adding up tests: a branch for each digit could not be foretold.
 fn digit_count(x: u64) -> usize
+    ensures { λ r. ⌜ r ≡ length (decimal x) ⌝ }
+{
+    if 100000 <= x {
+        return long_count(x);
+    }
+    1 + (10 <= x) as usize + (100 <= x) as usize + (1000 <= x) as usize + (10000 <= x) as usize
+}
+
+// The same for a number of any size.
+fn long_count(x: u64) -> usize
     ensures { λ r. ⌜ r ≡ length (decimal x) ⌝ }
 {
     let mut n = 1;

@@ -152,12 +152,10 @@ fn put_literal(out: &mut [u8], at: usize, code: u32) -> usize
     ensures next { λ r. ⌜ r ≡ at + length (literalText code) ⌝ }
     ensures bytes { λ _. ⌜ now (out .exit) ≡ writtenAt at (literalText code) (now (out .entry)) ⌝ }
 {
-    let variable = literal::variable(code) as u64;
-    if literal::is_negative(code) {
-        out[at] = b'-';
-        return put_number(out, at + 1, variable);
-    }
-    put_number(out, at, variable)
+    // in every case: a literal that is not negative has its first digit written over the sign
+    out[at] = b'-';
+    let number = at + literal::is_negative(code) as usize;
+    put_number(out, number, literal::variable(code) as u64)
 }
 
 // A number: its digits are counted, and then written from the last one on. Below 100,000, as every number of a made formula but the clause

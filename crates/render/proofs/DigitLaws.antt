@@ -3,9 +3,11 @@ use mathlib.Core.Path.{_≡_, refl, sym, ap, _∙_}
 use mathlib.Core.List.{List, [], _∷_, _++_}
 use mathlib.Core.Logic.{⊎-elim}
 use Prim.Native.Nat.{ℕ, zero, suc, _+_, _-_, _*_, _/_, _%_, _^_, _≤_, _<_}
-use native.Mathlib.Nat.{pow-suc}
+use native.Mathlib.Nat.{pow-suc, one-le-pow}
 use native.Mathlib.Omega.{arith}
-use borrow.Author.Tests.{lt-ltb, le-ltb}
+use mir.Val.{boolByte}
+use borrow.Author.Tests.{lt-ltb, le-ltb, le-leb, lt-leb}
+use lib.Dec.{leb}
 use lib.ListN.{length, set, length-append, length-set}
 use Rattle.lists.proofs.Cases.{lt-or-le}
 use Rattle.render.specs.Text.{decimalIn, maxDigits, decimal, writtenAt}
@@ -44,6 +46,9 @@ pub decimal-more : (x : ℕ) → x < 2 ^ 64 → 10 ≤ x → decimal x ≡ decim
 unfolding decimal
 decimal-more x b h = in-more 19 x h ∙ ap (λ (ds : List ℕ). ds ++ ((x % 10 + 48) ∷ [])) (sym (in-enough 18 (x / 10) (omega arith)))
 
+digits-more : (x : ℕ) → x < 2 ^ 64 → 10 ≤ x → length (decimal x) ≡ length (decimal (x / 10)) + 1
+digits-more x b h = ap length (decimal-more x b h) ∙ length-append (decimal (x / 10)) ((x % 10 + 48) ∷ [])
+
 -- at least one, and at most as many as are allowed
 some-in : (f x : ℕ) → 0 < length (decimalIn (suc f) x)
 some-in f x = length-in f x (λ l e. omega arith) (λ l e. omega arith)
@@ -72,7 +77,32 @@ pub digits-below : (k x : ℕ) → x < 10 ^ suc k → length (decimal x) ≤ suc
 unfolding decimal
 digits-below k x h = below-in k maxDigits x h
 
--- Counting the digits of x: n so far, with those of y for the last one.
+-- and one from 10 ^ k on has more than k
+digits-above : (k x : ℕ) → x < 2 ^ 64 → 10 ^ k ≤ x → k < length (decimal x)
+digits-above zero x b h = digits-some x
+digits-above (suc k) x b h =
+    let some = one-le-pow k 10 (omega arith) in
+    omega (arith, digits-more x b (omega (arith, pow-suc 10 k)), digits-above k (x / 10) (omega arith) (omega (arith, pow-suc 10 k)))
+
+-- Counting the digits of x by tests: one, and one more for each of 10, 10 ^ 2, .. 10 ^ k that x reaches.
+unfoldable pub reached : ℕ → ℕ → ℕ
+reached zero x = 1
+reached (suc k) x = reached k x + boolByte (leb (10 ^ suc k) x)
+
+reached-each : (k x : ℕ) → 10 ^ k ≤ x → reached k x ≡ suc k
+unfolding reached
+reached-each zero x h = refl
+reached-each (suc k) x h = rw (le-leb (10 ^ suc k) x h) (omega (arith, reached-each k x (omega (arith, pow-suc 10 k))))
+
+pub reached-all : (k x : ℕ) → x < 2 ^ 64 → x < 10 ^ suc k → reached k x ≡ length (decimal x)
+unfolding reached
+reached-all zero x b h = sym (ap length (decimal-one x (omega arith)))
+reached-all (suc k) x b h =
+    ⊎-elim (λ l. rw (lt-leb (10 ^ suc k) x l) (omega (arith, reached-all k x b l)))
+    (λ l. omega (arith, reached-each (suc k) x l, digits-above (suc k) x b l, digits-below (suc k) x h))
+    (lt-or-le x (10 ^ suc k))
+
+-- Counting them by a loop: n so far, with those of y for the last one.
 pub record Counted (x n y : ℕ) : Type 0 where
   pub low : y < 2 ^ 64
   pub count : length (decimal x) + 1 ≡ n + length (decimal y)
@@ -82,10 +112,7 @@ counted-none low = record { low = low; count = omega arith }
 
 module _ {x n y : ℕ} (g : Counted x n y) where
   pub counted-more : 10 ≤ y → Counted x (n + 1) (y / 10)
-  counted-more h =
-      let l : length (decimal y) ≡ length (decimal (y / 10)) + 1 =
-      ap length (decimal-more y (g .low) h) ∙ length-append (decimal (y / 10)) ((y % 10 + 48) ∷ []) in
-      record { low = omega (arith, g .low); count = omega (arith, g .count) }
+  counted-more h = record { low = omega (arith, g .low); count = omega (arith, g .count, digits-more y (g .low) h) }
 
   pub counted-all : y < 10 → n ≡ length (decimal x)
   counted-all h = omega (arith, g .count, ap length (decimal-one y h))
@@ -106,7 +133,7 @@ module _ {x at : ℕ} {buffer out : List ℕ} {k y : ℕ} (g : Left x at buffer 
   left-more h =
       let ds : List ℕ = decimal (y / 10) in
       let split : decimal y ≡ ds ++ ((y % 10 + 48) ∷ []) = decimal-more y (g .low) h in
-      let l : length (decimal y) ≡ length ds + 1 = ap length split ∙ length-append ds ((y % 10 + 48) ∷ []) in
+      let l = digits-more y (g .low) h in
       let e : k - 1 ≡ at + length ds = omega (arith, g .place) in
       let d : y - y / 10 * 10 + 48 ≡ y % 10 + 48 = omega arith in
       let s = length-set out (k - 1) (y - y / 10 * 10 + 48) in

@@ -3,15 +3,16 @@ use mathlib.Core.Path.{_≡_, refl, sym, ap, _∙_}
 use mathlib.Core.Bool.{Bool, true, false}
 use mathlib.Core.List.{List, [], _∷_, _++_, append-assoc}
 use Prim.Native.Nat.{ℕ, suc, _+_, _*_, _^_, _≤_, _<_, zero-le, suc-le-suc}
-use native.Mathlib.Nat.{mul-suc}
+use native.Mathlib.Nat.{add-zero, mul-suc}
 use native.Mathlib.Omega.{arith}
-use lib.ListN.{length, getD, drop, length-append, drop-of-length-le}
+use mir.Val.{boolByte}
+use lib.ListN.{length, set, getD, drop, length-append, drop-of-length-le}
 use Rattle.lists.proofs.Steps.{drop-step}
 use Rattle.store.specs.Literals.{variableOf, isNegative}
 use Rattle.store.specs.Stores.{maxLiterals}
 use Rattle.render.specs.Text.{maxDigits, decimal, literalText, clauseLine, twoNumbers, headerLine, refusalLine, writtenAt}
-use Rattle.render.proofs.DigitLaws.{digits-most, digits-below}
-use Rattle.render.proofs.Writing.{Wrote, length-written, written-written}
+use Rattle.render.proofs.DigitLaws.{digits-some, digits-most, digits-below}
+use Rattle.render.proofs.Writing.{Wrote, Put, put-byte, put-over, put-then, length-written, written-written}
 
 -- ---- a literal
 
@@ -24,12 +25,27 @@ module _ (code v : ℕ) (is : v ≡ variableOf code) where
   unfolding literalText
   text-plain e = rw (e, is)
 
-text-most : (code : ℕ) → length (literalText code) ≤ length (decimal (variableOf code)) + 1
-text-most code = by (isNegative code) refl
-  where
-    by : (b : Bool) → isNegative code ≡ b → length (literalText code) ≤ length (decimal (variableOf code)) + 1
-    by true e = omega (arith, ap length (text-negative code _ refl e))
-    by false e = omega (arith, ap length (text-plain code _ refl e))
+  -- its digits, and a byte more for the sign
+  pub text-length : (b : Bool) → b ≡ isNegative code → length (literalText code) ≡ length (decimal v) + boolByte b
+  text-length true e = omega (arith, ap length (text-negative (sym e)))
+  text-length false e = omega (arith, ap length (text-plain (sym e)))
+
+  -- `-` and then the digits, after it or over it
+  pub put-text : {at next : ℕ} {buffer out : List ℕ} (b : Bool) → b ≡ isNegative code → Put (at + boolByte b) (decimal v) (set buffer at 45) next out
+      → Put at (literalText code) buffer next out
+  put-text {at} {next} {buffer} true e p = rw (text-negative (sym e)) (put-then (put-byte at 45 buffer) p)
+  put-text false e p = rw (text-plain (sym e)) (put-over 45 (digits-some v) (rw add-zero at p))
+
+pub sign-most : (b : Bool) → boolByte b ≤ 1
+sign-most true = omega arith
+sign-most false = omega arith
+
+module _ (code : ℕ) where
+  text-most : length (literalText code) ≤ length (decimal (variableOf code)) + 1
+  text-most = omega (arith, text-length code _ refl (isNegative code) refl, sign-most (isNegative code))
+
+  pub text-some : 0 < length (literalText code)
+  text-some = omega (arith, text-length code _ refl (isNegative code) refl, digits-some (variableOf code))
 
 -- ---- lines of two numbers
 

@@ -5,7 +5,7 @@ use Prim.Native.Nat.{ℕ, suc, _+_, _≤_, _<_}
 use native.Mathlib.Nat.{add-zero}
 use native.Mathlib.Omega.{arith}
 use lib.ListN.{length, set, getD, drop, length-append, length-drop, length-set}
-use lib.Seq.{sets, length-sets, sets-eq, set-comm, paste-zero}
+use lib.Seq.{sets, length-sets, sets-eq, set-set, set-comm, paste-zero}
 use Rattle.lists.proofs.Steps.{drop-step}
 use Rattle.render.specs.Text.{writtenAt}
 
@@ -65,6 +65,15 @@ written-last at b a buffer h =
     ∙ sets-append at a (b ∷ []) buffer
     ∙ sym (stores at (a ++ (b ∷ [])) buffer (omega (arith, length-append a (b ∷ []))))
 
+-- over a byte that stands where the first is to go
+written-over : (at x : ℕ) (bytes buffer : List ℕ) → 0 < length bytes → at + length bytes ≤ length buffer
+    → writtenAt at bytes (set buffer at x) ≡ writtenAt at bytes buffer
+written-over at x [] buffer some h = absurd (omega arith)
+written-over at x (b ∷ bytes) buffer some h =
+    stores at (b ∷ bytes) (set buffer at x) (omega (arith, length-set buffer at x))
+    ∙ ap (λ (s : List ℕ). sets s (suc at) bytes) (set-set buffer at x b)
+    ∙ sym (stores at (b ∷ bytes) buffer h)
+
 -- what a function that writes tells: the place after the bytes, and the buffer
 abbrev pub Wrote : (at : ℕ) (bytes buffer : List ℕ) (next : ℕ) (out : List ℕ) → Type 0
 Wrote at bytes buffer next out = (next ≡ at + length bytes) × (out ≡ writtenAt at bytes buffer)
@@ -79,6 +88,11 @@ put e = record { told = λ _. e }
 
 pub put-byte : (at b : ℕ) (buffer : List ℕ) → Put at (b ∷ []) buffer (at + 1) (set buffer at b)
 put-byte at b buffer = record { told = λ h. (refl, sym (stores at (b ∷ []) buffer h)) }
+
+pub put-over : (x : ℕ) {at next : ℕ} {bytes buffer out : List ℕ} → 0 < length bytes → Put at bytes (set buffer at x) next out → Put at bytes buffer next out
+put-over x {at} {next} {bytes} {buffer} {out} some p = record {
+  told = λ h. let q = p .told (omega (arith, length-set buffer at x)) in (q .0, q .1 ∙ written-over at x bytes buffer some h);
+}
 
 pub put-then : {at next end : ℕ} {a b buffer mid out : List ℕ} → Put at a buffer next mid → Put next b mid end out → Put at (a ++ b) buffer end out
 put-then {at} {next} {end} {a} {b} {buffer} {mid} {out} p q = record {

@@ -152,16 +152,25 @@ fn put_literal(out: &mut [u8], at: usize, code: u32) -> usize
     ensures next { λ r. ⌜ r ≡ at + length (literalText code) ⌝ }
     ensures bytes { λ _. ⌜ now (out .exit) ≡ writtenAt at (literalText code) (now (out .entry)) ⌝ }
 {
-    let variable = literal::variable(code) as u64;
-    if literal::is_negative(code) {
-        out[at] = b'-';
-        return put_number(out, at + 1, variable);
-    }
-    put_number(out, at, variable)
+    // in every case: a literal that is not negative has its first digit written over the sign
+    out[at] = b'-';
+    let number = at + literal::is_negative(code) as usize;
+    put_number(out, number, literal::variable(code) as u64)
 }
 
-// A number: its digits are counted, and then written from the last one on.
+// A number: its digits are counted, and then written from the last one on. Below 100,000, as every number of a made formula but the clause
+// count is, they are counted by adding up tests: a branch for each digit could not be foretold.
 fn digit_count(x: u64) -> usize
+    ensures { λ r. ⌜ r ≡ length (decimal x) ⌝ }
+{
+    if 100000 <= x {
+        return long_count(x);
+    }
+    1 + (10 <= x) as usize + (100 <= x) as usize + (1000 <= x) as usize + (10000 <= x) as usize
+}
+
+// The same for a number of any size.
+fn long_count(x: u64) -> usize
     ensures { λ r. ⌜ r ≡ length (decimal x) ⌝ }
 {
     let mut n = 1;

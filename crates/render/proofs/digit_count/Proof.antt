@@ -1,28 +1,29 @@
--- `render::digit_count` meets its contract. The invariant: n digits are counted, with those of the rest for the last one. Assumes nothing.
-use Prim.Native.Nat.{_-_}
-use Rattle.render.proofs.DigitLaws.{digits-most, digits-some, Counted, counted-none, counted-more, counted-all}
+-- `render::digit_count` meets its contract. Assumes nothing.
 use native.Mathlib.Omega.{arith}
 use borrow.Author.Needs.{needs}
+use Rattle.render.proofs.DigitLaws.{digits-most, reached, reached-all}
 use Rattle.render.proofs.digit_count.Statement.{statement}
 use Rattle.render.proofs.digit_count.Tie as tie
 
-abbrev Inv-loop : tie.InvT-loop
-Inv-loop x n₀ rest₀ n rest = Counted x n rest
+-- the digits by tests; each sum before the last is a part of it
+returns-2 : tie.Need-returns-2
+unfolding reached
+returns-2 c = reached-all 4 (c .before .args .x) (c .before .fits .x .fits) (c .if1 .left)
 
-abbrev μ-loop : tie.MeasureT-loop
-μ-loop x n₀ rest₀ n rest = rest
+add-result : tie.Need-add-result
+add-result c = omega (arith, returns-2 c, digits-most (c .before .args .x))
 
-loop-holds : tie.Need-loop-holds Inv-loop μ-loop
-loop-holds c = counted-none (c .fits .x .fits)
+add-result-2 : tie.Need-add-result-2
+add-result-2 c = omega (arith, returns-2 c, digits-most (c .before .args .x))
 
-add-n : tie.Need-add-n Inv-loop μ-loop
-add-n c = omega (arith, c .before .loop .inv .count, digits-most (c .before .before .args .x), digits-some (c .before .loop .rest))
+add-result-3 : tie.Need-add-result-3
+add-result-3 c = omega (arith, returns-2 c, digits-most (c .before .args .x))
 
-loop-again : tie.Need-loop-again Inv-loop μ-loop
-loop-again c = counted-more (c .before .loop .inv) (c .loop-test .taken)
-
-returns : tie.Need-returns Inv-loop μ-loop
-returns c = counted-all (c .before .loop .inv) (c .loop-test .left)
+add-result-4 : tie.Need-add-result-4
+add-result-4 c = omega (arith, returns-2 c, digits-most (c .before .args .x))
 
 pub digit-count-spec : {M : Type 1} → statement M
-digit-count-spec = tie.close (tie.spec Inv-loop μ-loop loop-holds add-n (search needs) loop-again returns)
+digit-count-spec =
+    tie.close
+    (tie.spec (search needs) (search needs) (search needs) add-result (search needs) add-result-2 (search needs) add-result-3 (search needs)
+    add-result-4 returns-2)

@@ -38,7 +38,7 @@ digits-behind i v (b ∷ ds) some low few all =
 
 -- what makes a word's digits a size
 record Digits (ds : List ℕ) (v : ℕ) : Type 0 where
-  few : length ds ≤ 6
+  short : length ds ≤ 6
   plain : padded ds ≡ false
   all : allOf isDigit ds ≡ true
   some : 1 ≤ length ds
@@ -61,7 +61,7 @@ digits-of ds v e = go (leb 1 (length ds) && leb (length ds) 6 && not (padded ds)
     go true s true d e =
         let sizes = and-l (leb 1 (length ds) && leb (length ds) 6) (not (padded ds)) s in
         record {
-          few = leb-true (length ds) 6 (and-r (leb 1 (length ds)) (leb (length ds) 6) sizes);
+          short = leb-true (length ds) 6 (and-r (leb 1 (length ds)) (leb (length ds) 6) sizes);
           plain = not-true (padded ds) (and-r (leb 1 (length ds) && leb (length ds) 6) (not (padded ds)) s);
           all = d;
           some = leb-true 1 (length ds) (and-l (leb 1 (length ds)) (leb (length ds) 6) sizes);
@@ -88,7 +88,7 @@ digits-written (b ∷ ds) v d = go (eq-or-ne b 48)
         let x : ℕ = 0 * 10 + (b - 48) in
         let back : x + 48 ≡ b = omega (arith, first) in
         ap decimal (sym (d .value))
-        ∙ digits-behind 1 x ds (omega (arith, first)) (omega (arith, first)) (omega (arith, d .few)) (and-r (isDigit b) (allOf isDigit ds) (d .all))
+        ∙ digits-behind 1 x ds (omega (arith, first)) (omega (arith, first)) (omega (arith, d .short)) (and-r (isDigit b) (allOf isDigit ds) (d .all))
         ∙ ap (λ (l : List ℕ). l ++ ds) (decimal-one x (omega (arith, first)))
         ∙ ap (λ (c : ℕ). c ∷ ds) back
 

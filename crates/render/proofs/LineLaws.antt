@@ -114,20 +114,20 @@ line-within clause f = line-most 6 clause (λ i h. omega (arith, text-most (getD
 -- ---- a clause's line measured: n bytes for the literals before i and the line's end
 
 pub record Measured (clause : List ℕ) (i n : ℕ) : Type 0 where
-  pub few : length clause ≤ maxLiterals
+  pub fits : length clause ≤ maxLiterals
   pub sum : n + length (clauseLine (drop i clause)) ≡ length (clauseLine clause) + 2
 
 pub measured-start : (clause : List ℕ) → length clause ≤ maxLiterals → Measured clause 0 2
-measured-start clause h = record { few = h; sum = omega arith }
+measured-start clause h = record { fits = h; sum = omega arith }
 
 module _ {clause : List ℕ} {i n : ℕ} (g : Measured clause i n) where
   -- w bytes for the literal i
   module _ (h : i < length clause) {code w : ℕ} (e : code ≡ getD clause i 0) (d : w ≡ length (literalText code)) where
     pub measured-more : Measured clause (i + 1) (n + (w + 1))
-    measured-more = record { few = g .few; sum = omega (arith, g .sum, length-at clause i h e, length-append (literalText code) (32 ∷ [])) }
+    measured-more = record { fits = g .fits; sum = omega (arith, g .sum, length-at clause i h e, length-append (literalText code) (32 ∷ [])) }
 
     pub measured-fits : n + (w + 1) < 2 ^ 32
-    measured-fits = omega (arith, g .few, measured-more .sum, line-short clause)
+    measured-fits = omega (arith, g .fits, measured-more .sum, line-short clause)
 
   pub measured-all : length clause ≤ i → n ≡ length (clauseLine clause)
   unfolding clauseLine

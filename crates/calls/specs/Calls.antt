@@ -38,15 +38,15 @@ onStore (Standing.Refused r) said = saidRefused r
 -- ---- open: 1 to 6 by place, then 23. It looks at no old store, replaces it and drops its rows; a refused opening changes nothing.
 
 -- n and m
-pub record Sizes : Type 0 where
+pub record Dimensions : Type 0 where
   pub variables : ℕ
   pub clauses : ℕ
 
-abbrev pub saidOpened : Opened → Said Sizes
+abbrev pub saidOpened : Opened → Said Dimensions
 saidOpened (Opened.Open n m) = done (record { variables = n; clauses = m })
 saidOpened (Opened.Refused r) = saidRefused r
 
-unfoldable pub openSays : Store → List ℕ → Said Sizes
+unfoldable pub openSays : Store → List ℕ → Said Dimensions
 openSays s text = saidOpened (openedBy text (length (s .literals)) (length (s .ends)))
 
 abbrev pub countsOpened : Opened → Record → Record

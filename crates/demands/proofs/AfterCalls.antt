@@ -18,7 +18,7 @@ use Rattle.opening.specs.Opening.{openedBy, formulaOf}
 use Rattle.opening.specs.declared.Opened.{Opened}
 use Rattle.opening.proofs.Theorem.{opened-formed, opened-plain}
 use Rattle.offering.specs.Offering.{rowFor}
-use Rattle.calls.specs.Calls.{Accepted, accepted as yes, Sizes, saidOpened, openSays, openStore, offerSays, offerStore}
+use Rattle.calls.specs.Calls.{Accepted, accepted as yes, Dimensions, saidOpened, openSays, openStore, offerSays, offerStore}
 use Rattle.demands.specs.Lists.{Call, offer, lend, lentAnew, afterCall, after, heldBy, heldAfter, acceptedFrom, accepted}
 use Rattle.demands.proofs.Acceptance.{store-refused, store-accepted, accepted-symmetry, accepted-held, accepted-formed}
 
@@ -142,7 +142,7 @@ record Fresh (s : Store) (text : List ℕ) : Type 0 where
   opened : openStore s text .counts .is_open ≡ true
   plain : plainOf (openStore s text) ≡ formulaOf text
 
-fresh : (s : Store) (text : List ℕ) (sizes : Sizes) → openSays s text ≡ done sizes → Fresh s text
+fresh : (s : Store) (text : List ℕ) (sizes : Dimensions) → openSays s text ≡ done sizes → Fresh s text
 unfolding openSays openStore heldRows rowsOf
 fresh s text sizes said = by (openedBy text (length (s .literals)) (length (s .ends))) refl said
   where
@@ -167,7 +167,7 @@ pub record AfterOpening (s : Store) (text : List ℕ) (calls : List Call) : Type
   pub rows : heldRows (after (openStore s text) calls) ≡ accepted (openStore s text) calls
   pub symmetries : (row : List ℕ) → List·Memᴰ row (accepted (openStore s text) calls) → IsSymmetry row (formulaOf text)
 
-pub after-opening : (s : Store) (text : List ℕ) (sizes : Sizes) (calls : List Call) → openSays s text ≡ done sizes → AfterOpening s text calls
+pub after-opening : (s : Store) (text : List ℕ) (sizes : Dimensions) (calls : List Call) → openSays s text ≡ done sizes → AfterOpening s text calls
 after-opening s text sizes calls said =
     let f = fresh s text sizes said in
     let k = keeps-calls (openStore s text) calls in

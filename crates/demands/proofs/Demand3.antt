@@ -29,7 +29,7 @@ use Rattle.filling.specs.Written.{filledWords}
 use Rattle.filling.proofs.Runs.{length-filled}
 use Rattle.checking.specs.Checking.{yes}
 use Rattle.descent.specs.Words.{settledAfter, answerOf, descended}
-use Rattle.calls.specs.Calls.{Sizes, openSays, openStore, onStore, fillSays, fillLeaves, checkSays, descendSays, descendLeaves}
+use Rattle.calls.specs.Calls.{Dimensions, openSays, openStore, onStore, fillSays, fillLeaves, checkSays, descendSays, descendLeaves}
 use Rattle.demands.specs.Lists.{Call}
 use Rattle.demands.specs.Demand3.{variables, formula, permutations, left, Demand3}
 use Rattle.demands.proofs.AfterCalls.{keeps-calls, after-opening}
@@ -106,7 +106,7 @@ module _ {m n : ℕ} (e : m ≡ n) where
 
 -- ---- the theorem
 
-module _ (s : Store) (text : List ℕ) (sizes : Sizes) (calls : List Call) (opens : openSays s text ≡ done sizes) where
+module _ (s : Store) (text : List ℕ) (sizes : Dimensions) (calls : List Call) (opens : openSays s text ≡ done sizes) where
   abbrev n : ℕ
   n = variables s text calls
 

@@ -24,7 +24,7 @@ use Rattle.opening.specs.declared.Problem.{Problem}
 use Rattle.opening.specs.declared.Scanned.{Scanned}
 use Rattle.opening.proofs.ProblemLaws.{many-variables, many-clauses, within}
 use Rattle.opening.proofs.ScanLaws.{scan-extra, scan-word, scan-close, scan-beyond, scan-many, scan-literal}
-use Rattle.calls.specs.Calls.{Sizes as Opening, saidOpened, openSays}
+use Rattle.calls.specs.Calls.{Dimensions, saidOpened, openSays}
 use Rattle.demands.specs.Reasons.{Reason, AllPass, FirstFailing, Comment, noProblemLine, sizeOverLimit, Reads, notNumber, literalBeyond}
 use Rattle.demands.specs.Reasons.{countOf, isZero, isNonzero, closedBy, literalsBy, tooManyLiterals, tooShort, wordReasons, endReasons, bodyReasons, openReasons}
 use Rattle.demands.proofs.Firsts.{never-both, one-first, Turn, on, stop, Walked, found, none, walked}
@@ -53,7 +53,7 @@ module _ (before : List Piece) (w : Piece) (x : Number) (reads : Reads w x) wher
 
 -- what is said of the words of a text of a length, after a problem line of n and m, where there is room for so many literals and ends
 module _ (end n m literals ends : ℕ) (all : List Piece) where
-  abbrev judged : Scanned → Said Opening
+  abbrev judged : Scanned → Said Dimensions
   judged scanned = saidOpened (openedIf scanned n m literals ends)
 
   abbrev last : List Reason

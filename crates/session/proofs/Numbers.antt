@@ -42,7 +42,7 @@ use Rattle.permutation.proofs.RowLaws.{row-length}
 use Rattle.symmetry.specs.Symmetry.{firstMissing}
 use Rattle.offering.specs.Offering.{rowFor, imagesNeeded, ifRoom, ifSymmetry, ifStated, offeredBy}
 use Rattle.offering.specs.declared.Offered.{Offered}
-use Rattle.calls.specs.Calls.{Accepted, accepted, Sizes as Opening, onStore, saidOpened, openSays, openStore, saidOffered, offerSays, offerStore}
+use Rattle.calls.specs.Calls.{Accepted, accepted, Dimensions, onStore, saidOpened, openSays, openStore, saidOffered, offerSays, offerStore}
 use Rattle.demands.specs.Lists.{after}
 use Rattle.demands.proofs.Acceptance.{accepts-of, store-accepted, accepted-formed}
 use Rattle.demands.proofs.AfterCalls.{after-opening}
@@ -251,7 +251,7 @@ module _ (P : ℕ → Type 0) (none : P 0) (Q : Store → Type 0)
     (each : (s : Store) (names values : List ℕ) → Q s → P (saidNumber (offerSays s names values)))
     (keeps : (s : Store) (names values : List ℕ) → Q s → offerSays s names values ≡ done accepted → Q (offerStore s names values))
     (s : Store) (opens : (text : List ℕ) → P (saidNumber (openSays s text)))
-    (leaves : (text : List ℕ) (sizes : Opening) → openSays s text ≡ done sizes → Q (openStore s text)) where
+    (leaves : (text : List ℕ) (sizes : Dimensions) → openSays s text ≡ done sizes → Q (openStore s text)) where
   lines-number : (t : Store) (lines : List Piece) → Q t → P (saidNumber (offerLines t lines .said))
   lines-number t [] h = none
   lines-number t (names ∷ values) h = offers-number P none Q each keeps t (names .bytes) values h
@@ -262,7 +262,7 @@ module _ (P : ℕ → Type 0) (none : P 0) (Q : Store → Type 0)
       text : List ℕ
       text = take (divider .place) input
 
-      by : (said : Said Opening) → openSays s text ≡ said → P (saidNumber said) → P (saidNumber (ifOpened said (openStore s text) lines .said))
+      by : (said : Said Dimensions) → openSays s text ≡ said → P (saidNumber said) → P (saidNumber (ifOpened said (openStore s text) lines .said))
       by (done sizes) e h = lines-number (openStore s text) lines (leaves text sizes e)
       by (refused number place) e h = h
 
@@ -287,7 +287,7 @@ offer-stands s names values h said =
       long = rw (is, images-kept s row (row-length (s .counts .variables) names values) (accepts-of s names values said .room)) (h .long);
     }
 
-open-stands : (s : Store) → Ample s → (text : List ℕ) (sizes : Opening) → openSays s text ≡ done sizes → StoreStands (openStore s text)
+open-stands : (s : Store) → Ample s → (text : List ℕ) (sizes : Dimensions) → openSays s text ≡ done sizes → StoreStands (openStore s text)
 unfolding openStore after
 open-stands s ample text sizes said =
     let fresh = after-opening s text sizes [] said in

@@ -11,7 +11,7 @@ use Rattle.dimacs.specs.Words.{Piece}
 use Rattle.dimacs.specs.Lines.{linesAt}
 use Rattle.store.specs.Refusals.{Said, done, refused}
 use Rattle.store.specs.Stores.{Store, wellFormed}
-use Rattle.calls.specs.Calls.{Accepted, accepted, Sizes, openSays, openStore, offerSays, offerStore}
+use Rattle.calls.specs.Calls.{Accepted, accepted, Dimensions, openSays, openStore, offerSays, offerStore}
 use Rattle.demands.specs.Lists.{Call, offer, after}
 use Rattle.demands.proofs.AfterCalls.{after-opening}
 use Rattle.session.specs.Input.{maxInput, fromDivider}
@@ -27,7 +27,7 @@ pub record Listed (s : Store) (input : List ℕ) : Type 0 where
   pub text : List ℕ
   pub names : List ℕ
   pub lines : List Piece
-  pub sizes : Sizes
+  pub sizes : Dimensions
   pub opened : openSays s text ≡ done sizes
   pub store : sessionOf s input .store ≡ after (openStore s text) (calls names lines)
 
@@ -72,7 +72,7 @@ offers-all s names (values ∷ lines) ready = by (offerSays s names (values .byt
 -- ---- a session that ends ready
 
 module _ (s : Store) (input : List ℕ) (ready : sessionOf s input .said ≡ done accepted) where
-  from-lines : (text : List ℕ) (sizes : Sizes) → openSays s text ≡ done sizes → (lines : List Piece)
+  from-lines : (text : List ℕ) (sizes : Dimensions) → openSays s text ≡ done sizes → (lines : List Piece)
       → sessionOf s input ≡ offerLines (openStore s text) lines → Listed s input
   unfolding after
   from-lines text sizes o [] e = record { text = text; names = []; lines = []; sizes = sizes; opened = o; store = store-of e }
@@ -85,7 +85,7 @@ module _ (s : Store) (input : List ℕ) (ready : sessionOf s input .said ≡ don
     store = store-of e ∙ offers-all (openStore s text) (names .bytes) values (sym (said-of e) ∙ ready);
   }
 
-  from-text : (text : List ℕ) (lines : List Piece) (said : Said Sizes) → openSays s text ≡ said
+  from-text : (text : List ℕ) (lines : List Piece) (said : Said Dimensions) → openSays s text ≡ said
       → sessionOf s input ≡ ifOpened said (openStore s text) lines → Listed s input
   from-text text lines (done sizes) o e = from-lines text sizes o lines e
   from-text text lines (refused number place) o e = not-ready number place e ready

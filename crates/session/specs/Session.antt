@@ -9,7 +9,7 @@ use Rattle.dimacs.specs.Words.{Piece}
 use Rattle.dimacs.specs.Lines.{linesAt}
 use Rattle.store.specs.Refusals.{Said, done, refused, saidRefused}
 use Rattle.store.specs.Stores.{Store}
-use Rattle.calls.specs.Calls.{Accepted, accepted, Sizes, openSays, openStore, offerSays, offerStore}
+use Rattle.calls.specs.Calls.{Accepted, accepted, Dimensions, openSays, openStore, offerSays, offerStore}
 use Rattle.session.specs.Input.{maxInput, fromDivider}
 use Rattle.session.specs.declared.Answer.{Answer}
 
@@ -40,7 +40,7 @@ abbrev pub offerLines : Store → List Piece → Ended
 offerLines s [] = ended (done accepted) s
 offerLines s (names ∷ values) = offerAll s (names .bytes) values
 
-abbrev pub ifOpened : Said Sizes → Store → List Piece → Ended
+abbrev pub ifOpened : Said Dimensions → Store → List Piece → Ended
 ifOpened (done sizes) s lines = offerLines s lines
 ifOpened (refused number place) s lines = ended (refused number place) s
 

@@ -94,7 +94,7 @@ fn table_holds(row: &[u16], place: Place, a: &[u64]) -> bool
     let i = place.index;
     let next = place.next;
     let due = auxiliary_due(row, place, a);
-    if valuation::literal_value(a, 2 * place.auxiliary) {
+    if valuation::variable_value(a, place.auxiliary as usize) {
         if !due {
             return false;
         }
@@ -119,7 +119,7 @@ fn auxiliary_due(row: &[u16], place: Place, a: &[u64]) -> bool
     if place.j == 1 {
         return pair_agrees(row, i, a);
     }
-    if !valuation::literal_value(a, 2 * (place.auxiliary - 1)) {
+    if !valuation::variable_value(a, place.auxiliary as usize - 1) {
         return false;
     }
     pair_agrees(row, i, a)
@@ -131,9 +131,8 @@ fn pair_agrees(row: &[u16], i: usize, a: &[u64]) -> bool
     ensures { λ r. let pair = pairAt (now (row .entry)) i in
         ⌜ ((n : ℕ) → PairWithin n pair → r ≡ agrees (valueOf (bitsOf n (now (a .entry)))) pair) ⌝ }
 {
-    let x = lexleader::places::own_code(i);
     let y = store::literal::wide(row[i]);
-    valuation::literal_value(a, x) == valuation::literal_value(a, y)
+    valuation::variable_value(a, i + 1) == valuation::literal_value(a, y)
 }
 
 // Whether a variable's image is true where the variable is.
@@ -142,9 +141,8 @@ fn is_ordered(row: &[u16], i: usize, a: &[u64]) -> bool
     ensures { λ r. let pair = pairAt (now (row .entry)) i in
         ⌜ ((n : ℕ) → PairWithin n pair → r ≡ ordered (valueOf (bitsOf n (now (a .entry)))) pair) ⌝ }
 {
-    let x = lexleader::places::own_code(i);
     let y = store::literal::wide(row[i]);
-    if !valuation::literal_value(a, x) {
+    if !valuation::variable_value(a, i + 1) {
         return true;
     }
     valuation::literal_value(a, y)

@@ -16,6 +16,14 @@ ghost use Rattle.valuation.specs.Tables.{bitsIn, Table};
 // The places of a table of the literals of as many variables as a store can have, by code from 0.
 pub const TABLE: usize = 1026;
 
+// The value of a variable, one of those that the words hold, which is that of its positive literal.
+pub fn variable_value(a: &[u64], variable: usize) -> bool
+    requires { ⌜ (1 ≤ variable) × (variable ≤ 64 * length (now a)) ⌝ }
+    ensures { λ r. ⌜ ((n : ℕ) → variable ≤ n → r ≡ literalValue (valueOf (bitsOf n (now (a .entry)))) (2 * variable)) ⌝ }
+{
+    packed::value(a, variable)
+}
+
 // The value of a literal whose variable is one of those that the words hold.
 pub fn literal_value(a: &[u64], code: u32) -> bool
     requires { ⌜ (1 ≤ variableOf code) × (variableOf code ≤ 64 * length (now a)) ⌝ }

@@ -8,9 +8,9 @@ use Rattle.packed.specs.Order.{valueOf}
 use Rattle.store.proofs.FormLaws.{literal-low, literal-high}
 use Rattle.lexleader.specs.Models.{literalValue}
 use Rattle.lexleader.specs.Places.{sixAt}
-use Rattle.lexleader.proofs.PlaceLaws.{few-auxiliaries}
 use Rattle.checking.specs.SixClauses.{LiteralsWithin, auxiliaryDue}
 use Rattle.checking.proofs.SixLaws.{own-within, before-within, pair-within}
+use borrow.Author.Needs.{needs}
 use Rattle.checking.proofs.auxiliary_due.Statement.{statement}
 use Rattle.checking.proofs.auxiliary_due.Tie as tie
 
@@ -25,29 +25,24 @@ returns c n within =
     let s = c .before .before .before .before .before in
     rw (eq-eqb _ 1 (c .before .if1 .taken)) (c .pair-agrees .ensures n (pair-within n (s .args .row .now) (s .args .place) within))
 
-sub-literal-value : tie.Need-sub-literal-value
-sub-literal-value c =
+sub-variable-value : tie.Need-sub-variable-value
+sub-variable-value c =
     let s = c .before .before .before .before .before in
     omega (arith, literal-low _ _ (own-within _ (s .args .row .now) (s .args .place) (s .pre .1)))
 
-mul-literal-value : tie.Need-mul-literal-value
-mul-literal-value c =
-    let s = c .before .before .before .before .before in
-    omega (arith, few-auxiliaries (s .args .row .now) (s .args .place) (s .pre .0 .stands))
-
-literal-value-requires : tie.Need-literal-value-requires
-literal-value-requires c κs =
+variable-value-requires : tie.Need-variable-value-requires
+variable-value-requires c κs =
     let s = c .before .before .before .before .before in
     let e = before-within _ (s .args .row .now) (s .args .place) (s .pre .1) (c .before .if1 .left) in
-    (literal-low _ _ e, literal-high _ _ e)
+    (omega (arith, literal-low _ _ e), omega (arith, literal-high _ _ e))
 
 -- the value of the auxiliary before
-before : (c : tie.After-literal-value) (n : ℕ) → let a = c .before .before .before .before .before .before .args in
-    LiteralsWithin n (sixAt (a .row .now) (a .place)) → c .literal-value .result ≡ literalValue (valueOf (bitsOf n (a .a .now))) (2 * (a .place .auxiliary - 1))
+before : (c : tie.After-variable-value) (n : ℕ) → let a = c .before .before .before .before .before .before .args in
+    LiteralsWithin n (sixAt (a .row .now) (a .place)) → c .variable-value .result ≡ literalValue (valueOf (bitsOf n (a .a .now))) (2 * (a .place .auxiliary - 1))
 before c n within =
     let i = c .before .before in
     let a = i .before .before .before .before .args in
-    c .literal-value .ensures n (literal-high _ _ (before-within n (a .row .now) (a .place) within (i .if1 .left)))
+    c .variable-value .ensures n (omega (arith, literal-high _ _ (before-within n (a .row .now) (a .place) within (i .if1 .left))))
 
 returns-2 : tie.Need-returns-2
 unfolding auxiliaryDue
@@ -69,5 +64,5 @@ returns-3 c n within =
 pub auxiliary-due-spec : {M : Type 1} → statement M
 auxiliary-due-spec =
     tie.close
-    (tie.spec pair-agrees-requires returns sub-literal-value mul-literal-value literal-value-requires returns-2 pair-agrees-requires-2
+    (tie.spec pair-agrees-requires returns (search needs) sub-variable-value variable-value-requires returns-2 pair-agrees-requires-2
     returns-3)

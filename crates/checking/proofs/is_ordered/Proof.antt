@@ -14,24 +14,22 @@ use Rattle.checking.proofs.is_ordered.Statement.{statement}
 use Rattle.checking.proofs.is_ordered.Tie as tie
 
 -- the value of the variable
-own : (c : tie.After-literal-value) (n : ℕ) → let a = c .before .before .before .before .before .before .args in
-    PairWithin n (pairAt (a .row .now) (a .i)) → c .literal-value .result ≡ literalValue (valueOf (bitsOf n (a .a .now))) (2 * (a .i + 1))
-own c n within =
-    let o = c .before .before .before in
-    c .literal-value .ensures n (omega (arith, literal-high _ _ (within .x))) ∙ ap (literalValue (valueOf (bitsOf n (o .before .before .before .args .a .now)))) (o .own-code .ensures)
+own : (c : tie.After-variable-value) (n : ℕ) → let a = c .before .before .before .before .before .args in
+    PairWithin n (pairAt (a .row .now) (a .i)) → c .variable-value .result ≡ literalValue (valueOf (bitsOf n (a .a .now))) (2 * (a .i + 1))
+own c n within = c .variable-value .ensures n (omega (arith, literal-high _ _ (within .x)))
 
-literal-value-requires : tie.Need-literal-value-requires
-literal-value-requires c κs =
-    let x = c .before .before .before .before .before .pre .2 .x in
+variable-value-requires : tie.Need-variable-value-requires
+variable-value-requires c κs =
+    let x = c .before .before .before .before .pre .2 .x in
     (omega (arith, literal-low _ _ x), omega (arith, literal-high _ _ x))
 
 returns : tie.Need-returns
 unfolding ordered
 returns c n within = rw (sym (own (c .before) n within) ∙ not-true _ (c .if1 .taken))
 
-literal-value-requires-2 : tie.Need-literal-value-requires-2
-literal-value-requires-2 c κs =
-    let y = c .before .before .before .before .before .before .before .pre .2 .y in
+literal-value-requires : tie.Need-literal-value-requires
+literal-value-requires c κs =
+    let y = c .before .before .before .before .before .before .pre .2 .y in
     (omega (arith, literal-low _ _ y), omega (arith, literal-high _ _ y))
 
 returns-2 : tie.Need-returns-2
@@ -39,11 +37,11 @@ unfolding ordered
 returns-2 c n within =
     let r = c .before .before in
     let w = r .before in
-    let v = valueOf (bitsOf n (w .before .before .before .before .before .args .a .now)) in
+    let v = valueOf (bitsOf n (w .before .before .before .before .args .a .now)) in
     rw (sym (own r n within) ∙ not-false _ (c .before .if1 .left))
-    (c .literal-value2 .ensures n (omega (arith, literal-high _ _ (within .y))) ∙ ap (literalValue v) (w .wide .ensures .0))
+    (c .literal-value .ensures n (omega (arith, literal-high _ _ (within .y))) ∙ ap (literalValue v) (w .wide .ensures .0))
 
 pub is-ordered-spec : {M : Type 1} → statement M
 is-ordered-spec =
     tie.close
-    (tie.spec (search needs) (search needs) (search needs) (search needs) literal-value-requires returns literal-value-requires-2 returns-2)
+    (tie.spec (search needs) (search needs) (search needs) (search needs) variable-value-requires returns literal-value-requires returns-2)

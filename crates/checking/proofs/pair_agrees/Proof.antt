@@ -11,14 +11,14 @@ use borrow.Author.Needs.{needs}
 use Rattle.checking.proofs.pair_agrees.Statement.{statement}
 use Rattle.checking.proofs.pair_agrees.Tie as tie
 
-literal-value-requires : tie.Need-literal-value-requires
-literal-value-requires c κs =
-    let x = c .before .before .before .before .before .pre .2 .x in
+variable-value-requires : tie.Need-variable-value-requires
+variable-value-requires c κs =
+    let x = c .before .before .before .before .pre .2 .x in
     (omega (arith, literal-low _ _ x), omega (arith, literal-high _ _ x))
 
-literal-value-requires-2 : tie.Need-literal-value-requires-2
-literal-value-requires-2 c κs =
-    let y = c .before .before .before .before .before .before .pre .2 .y in
+literal-value-requires : tie.Need-literal-value-requires
+literal-value-requires c κs =
+    let y = c .before .before .before .before .before .pre .2 .y in
     (omega (arith, literal-low _ _ y), omega (arith, literal-high _ _ y))
 
 returns : tie.Need-returns
@@ -26,13 +26,12 @@ unfolding agrees
 returns c n within =
     let r = c .before in
     let w = r .before in
-    let o = w .before .before in
-    let v = valueOf (bitsOf n (o .before .before .before .args .a .now)) in
+    let v = valueOf (bitsOf n (w .before .before .before .before .args .a .now)) in
     ap₂ Bool·beq
-    (r .literal-value .ensures n (omega (arith, literal-high _ _ (within .x))) ∙ ap (literalValue v) (o .own-code .ensures))
-    (c .literal-value2 .ensures n (omega (arith, literal-high _ _ (within .y))) ∙ ap (literalValue v) (w .wide .ensures .0))
+    (r .variable-value .ensures n (omega (arith, literal-high _ _ (within .x))))
+    (c .literal-value .ensures n (omega (arith, literal-high _ _ (within .y))) ∙ ap (literalValue v) (w .wide .ensures .0))
 
 pub pair-agrees-spec : {M : Type 1} → statement M
 pair-agrees-spec =
     tie.close
-    (tie.spec (search needs) (search needs) (search needs) (search needs) literal-value-requires literal-value-requires-2 returns)
+    (tie.spec (search needs) (search needs) (search needs) (search needs) variable-value-requires literal-value-requires returns)

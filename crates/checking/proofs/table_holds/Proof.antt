@@ -11,31 +11,26 @@ use Rattle.store.proofs.FormLaws.{literal-low, literal-high}
 use Rattle.lexleader.specs.Models.{formulaHolds}
 use Rattle.lexleader.specs.Clause.{pairAt}
 use Rattle.lexleader.specs.Places.{sixAt}
-use Rattle.lexleader.proofs.PlaceLaws.{few-auxiliaries}
 use Rattle.checking.specs.SixClauses.{LiteralsWithin, ordered}
 use Rattle.checking.proofs.SixLaws.{six-say, own-within, pair-within, next-within}
+use borrow.Author.Needs.{needs}
 use Rattle.checking.proofs.table_holds.Statement.{statement}
 use Rattle.checking.proofs.table_holds.Tie as tie
 
 auxiliary-due-requires : tie.Need-auxiliary-due-requires
 auxiliary-due-requires c κs = let s = c .before .before in (s .pre .0, s .pre .2)
 
-mul-literal-value : tie.Need-mul-literal-value
-mul-literal-value c =
-    let s = c .before .before .before .before in
-    omega (arith, few-auxiliaries (s .args .row .now) (s .args .place) (s .pre .0 .stands))
-
-literal-value-requires : tie.Need-literal-value-requires
-literal-value-requires c κs =
+variable-value-requires : tie.Need-variable-value-requires
+variable-value-requires c κs =
     let s = c .before .before .before .before in
     let e = own-within _ (s .args .row .now) (s .args .place) (s .pre .2) in
-    (literal-low _ _ e, literal-high _ _ e)
+    (omega (arith, literal-low _ _ e), omega (arith, literal-high _ _ e))
 
 -- what the clauses say, by the values that were read
-says : (c : tie.After-literal-value) (n : ℕ) → let a = c .before .before .before .before .before .args in let v = valueOf (bitsOf n (a .a .now)) in
+says : (c : tie.After-variable-value) (n : ℕ) → let a = c .before .before .before .before .before .args in let v = valueOf (bitsOf n (a .a .now)) in
     LiteralsWithin n (sixAt (a .row .now) (a .place))
     → formulaHolds v (sixAt (a .row .now) (a .place))
-    ≡ cond (c .literal-value .result) (c .before .before .auxiliary-due .result && ordered v (pairAt (a .row .now) (a .place .next)))
+    ≡ cond (c .variable-value .result) (c .before .before .auxiliary-due .result && ordered v (pairAt (a .row .now) (a .place .next)))
     (not (c .before .before .auxiliary-due .result) && (not (eqb (a .place .j) 1) || ordered v (pairAt (a .row .now) (a .place .index))))
 says c n within =
     let d = c .before .before in
@@ -45,7 +40,7 @@ says c n within =
     let p = a .place in
     six-say v row p
     ∙ ap₂ (λ (e auxiliaryDue : Bool). cond e (auxiliaryDue && ordered v (pairAt row (p .next))) (not auxiliaryDue && (not (eqb (p .j) 1) || ordered v (pairAt row (p .index)))))
-    (sym (c .literal-value .ensures n (literal-high _ _ (own-within n row p within))))
+    (sym (c .variable-value .ensures n (omega (arith, literal-high _ _ (own-within n row p within)))))
     (sym (d .auxiliary-due .ensures n within))
 
 returns : tie.Need-returns
@@ -94,5 +89,5 @@ returns-5 c n within =
 pub table-holds-spec : {M : Type 1} → statement M
 table-holds-spec =
     tie.close
-    (tie.spec auxiliary-due-requires mul-literal-value literal-value-requires returns is-ordered-requires returns-2 returns-3
+    (tie.spec auxiliary-due-requires (search needs) variable-value-requires returns is-ordered-requires returns-2 returns-3
     is-ordered-requires-2 returns-4 returns-5)

@@ -26,7 +26,7 @@ skip-from (b ∷ r) at = by (isBlank b) refl (skip-from r (at + 1))
     by true e ih = rw e (ih ∙ ap (λ (n : ℕ). wordsFrom true n (drop (length (run isBlank r)) r)) (omega arith))
     by false e ih = simp (e, add-zero)
 
-word-from : (s : List ℕ) (at : ℕ) → wordsFrom false at s ≡ wordsFrom true (at + length (run isWordByte s)) (drop (length (run isWordByte s)) s)
+pub word-from : (s : List ℕ) (at : ℕ) → wordsFrom false at s ≡ wordsFrom true (at + length (run isWordByte s)) (drop (length (run isWordByte s)) s)
 unfolding run wordsFrom
 word-from [] at = refl
 word-from (b ∷ r) at = by (isBlank b) refl (word-from r (at + 1))
@@ -36,7 +36,7 @@ word-from (b ∷ r) at = by (isBlank b) refl (word-from r (at + 1))
     by false e ih = rw e (ih ∙ ap (λ (n : ℕ). wordsFrom true n (drop (length (run isWordByte r)) r)) (omega arith))
     by true e ih = simp (e, add-zero)
 
-fresh-word : (s : List ℕ) (b : ℕ) (r : List ℕ) (at : ℕ) → s ≡ b ∷ r → isBlank b ≡ false
+pub fresh-word : (s : List ℕ) (b : ℕ) (r : List ℕ) (at : ℕ) → s ≡ b ∷ r → isBlank b ≡ false
     → wordsFrom true at s ≡ record { place = at; bytes = run isWordByte s } ∷ wordsFrom false at s
 unfolding wordsFrom
 fresh-word s b r at p e = rw (p, e)

@@ -161,7 +161,7 @@ fn word_ends(text: &[u8], at: usize) -> bool
     blank(text[at])
 }
 
-fn blank(b: u8) -> bool
+pub fn blank(b: u8) -> bool
     ensures { λ r. ⌜ r ≡ isBlank b ⌝ }
 {
     if b == b' ' {

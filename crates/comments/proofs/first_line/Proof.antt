@@ -1,15 +1,15 @@
--- `opening::first_line` meets its contract. The invariant: the first line that is no comment is among those from `at` on. Assumes nothing.
+-- `comments::first_line` meets its contract. The invariant: the first line that is no comment is among those from `at` on. Assumes nothing.
 use mathlib.Core.Path.{_≡_, refl, sym, _∙_}
 use Prim.Native.Nat.{_-_}
 use lib.ListN.{length}
 use Rattle.dimacs.specs.Lines.{isLineByte, linesAt}
 use Rattle.dimacs.proofs.Runs.{run-within}
-use Rattle.opening.specs.Problem.{afterComments}
-use Rattle.opening.proofs.ProblemLaws.{comment, no-comment, no-lines}
+use Rattle.comments.specs.Comments.{afterComments}
+use Rattle.comments.proofs.CommentLaws.{comment, no-comment, no-lines}
 use borrow.Author.Needs.{needs}
 use native.Mathlib.Omega.{arith}
-use Rattle.opening.proofs.first_line.Statement.{statement}
-use Rattle.opening.proofs.first_line.Tie as tie
+use Rattle.comments.proofs.first_line.Statement.{statement}
+use Rattle.comments.proofs.first_line.Tie as tie
 
 abbrev Inv-loop : tie.InvT-loop
 Inv-loop text at₀ at = afterComments (linesAt text 0) ≡ afterComments (linesAt text at)

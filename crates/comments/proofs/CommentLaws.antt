@@ -1,0 +1,36 @@
+-- A line is a comment by its first byte in the text. Assumes nothing.
+use mathlib.Core.Path.{_≡_, refl}
+use mathlib.Core.Bool.{Bool, true, false, cond, not}
+use mathlib.Core.List.{List, [], _∷_}
+use Prim.Native.Nat.{ℕ, suc, _+_, _≤_, _<_}
+use borrow.Author.Tests.{eq-eqb, ne-eqb, eqb-true}
+use lib.ListN.{length, drop, getD}
+use lib.Seq.{drop-cons}
+use lib.Dec.{eqb}
+use Rattle.dimacs.specs.Words.{run, runEnd}
+use Rattle.dimacs.specs.Lines.{isLineByte, linesAt}
+use Rattle.dimacs.proofs.LineLaws.{no-line, line-here}
+use Rattle.comments.specs.Comments.{afterComments}
+
+module _ (text : List ℕ) (at : ℕ) where
+  -- a line feed is no `c`
+  pub comment-byte : at < length text → eqb (getD (run isLineByte (drop at text)) 0 0) 99 ≡ eqb (getD text at 0) 99
+  unfolding run
+  comment-byte h = rw (drop-cons text at 0 h) (by (eqb (getD text at 0) 10) refl)
+    where
+      by : (t : Bool) → eqb (getD text at 0) 10 ≡ t
+          → eqb (getD (cond (not t) (getD text at 0 ∷ run isLineByte (drop (suc at) text)) []) 0 0) 99 ≡ eqb (getD text at 0) 99
+      by true e = rw (eqb-true (getD text at 0) 10 e)
+      by false e = refl
+
+  pub comment : at < length text → getD text at 0 ≡ 99 → afterComments (linesAt text at) ≡ afterComments (linesAt text (runEnd isLineByte text at + 1))
+  unfolding afterComments
+  comment h e = rw (line-here text at h, comment-byte h, eq-eqb (getD text at 0) 99 e)
+
+  pub no-comment : at < length text → (getD text at 0 ≡ 99 → ⊥) → afterComments (linesAt text at) ≡ linesAt text at
+  unfolding afterComments
+  no-comment h e = rw (line-here text at h, comment-byte h, ne-eqb (getD text at 0) 99 e)
+
+  pub no-lines : length text ≤ at → afterComments (linesAt text at) ≡ linesAt text at
+  unfolding afterComments
+  no-lines h = rw (no-line text at h)

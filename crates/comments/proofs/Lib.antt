@@ -1,0 +1,4 @@
+pub mod RunLaws
+pub mod CommentLaws
+pub mod WordLaws
+pub mod Walk

@@ -5,7 +5,7 @@ use mathlib.Core.List.{List, [], _∷_, List·Memᴰ, List·Memᴰ·not-nil, Lis
 use mathlib.Core.Logic.{⊎-elim}
 use Prim.Native.Nat.{ℕ, zero, suc, _+_, _-_, _≤_, _<_}
 use native.Mathlib.Omega.{arith}
-use borrow.Author.Tests.{eq-eqb, ne-eqb, eqb-true}
+use borrow.Author.Tests.{eq-eqb, ne-eqb, eqb-true, not-false}
 use lib.ListN.{length, getD, List·getD-eq-default}
 use lib.Dec.{eqb}
 use Rattle.lists.proofs.Cases.{never, and-l, and-r, lt-or-le, eq-or-ne}
@@ -40,6 +40,31 @@ between-other text at b c = ⊎-elim within beyond (lt-or-le at (length text))
 
     beyond : length text ≤ at → ⊥
     beyond h = omega (arith, sym (List·getD-eq-default text 0 h) ∙ c)
+
+-- where a word or a line has ended
+module _ (test : ℕ → Bool) (stops : (b : ℕ) → test b ≡ false → isBlank b ≡ true) (text : List ℕ) (at : ℕ) where
+  run-between : at ≤ length text → Between text (runEnd test text at)
+  unfolding isBlank
+  run-between h = (run-within test text at h, ⊎-elim within beyond (lt-or-le (runEnd test text at) (length text)))
+    where
+      within : runEnd test text at < length text → isBlank (getD text (runEnd test text at) 32) ≡ true
+      within k = ap isBlank (there text (runEnd test text at) 32 0 k) ∙ stops (getD text (runEnd test text at) 0) (run-past test text at k)
+
+      beyond : length text ≤ runEnd test text at → isBlank (getD text (runEnd test text at) 32) ≡ true
+      beyond k = rw (List·getD-eq-default text 32 k)
+
+word-stops : (b : ℕ) → isWordByte b ≡ false → isBlank b ≡ true
+word-stops b e = not-false (isBlank b) e
+
+line-stops : (b : ℕ) → isLineByte b ≡ false → isBlank b ≡ true
+unfolding isBlank
+line-stops b e = rw (eqb-true b 10 (not-false (eqb b 10) e))
+
+pub word-between : (text : List ℕ) (at : ℕ) → at ≤ length text → Between text (runEnd isWordByte text at)
+word-between text at h = run-between isWordByte word-stops text at h
+
+pub line-between : (text : List ℕ) (at : ℕ) → at ≤ length text → Between text (runEnd isLineByte text at)
+line-between text at h = run-between isLineByte line-stops text at h
 
 -- a word that the walk comes to has a byte before it
 pub inked : (text : List ℕ) (i : ℕ) → i < length text → isBlank (getD text i 0) ≡ false → (i ≡ 0 → isBlank (getD text 0 32) ≡ true) → 1 ≤ i
@@ -139,7 +164,7 @@ step text at = ⊎-elim within ends (lt-or-le at (length text))
 
 -- ---- the first word, and what is past it
 
-pub data First (text : List ℕ) (at : ℕ) : Type 0 where
+data First (text : List ℕ) (at : ℕ) : Type 0 where
   none : wordsPast text at ≡ [] → First text at
   word : (place : ℕ) → at ≤ place → place < length text → isBlank (getD text place 0) ≡ false
       → wordsPast text at ≡ pieceAt text place ∷ wordsPast text (runEnd isWordByte text place) → First text at
@@ -161,7 +186,7 @@ module _ (text : List ℕ) where
       by ih (Step.comment within f c e) =
           later at (runEnd isLineByte text (at + 1)) (omega arith) e (ih (runEnd isLineByte text (at + 1)) (omega arith))
 
-  pub first : (at : ℕ) → First text at
+  first : (at : ℕ) → First text at
   first at = first-in (length text) at (omega arith)
 
   -- ---- what `next_word` says: there is no further word, or the next one stands at `place`
@@ -175,19 +200,29 @@ module _ (text : List ℕ) where
         by (First.none e) = e
         by (First.word p k within ink e) = let same : place ≡ p = rw e at found in absurd (omega arith)
 
-    -- the word, where it starts and what is past it
-    pub record Next : Type 0 where
-      pub forward : at ≤ place
-      pub ink : isBlank (getD text place 0) ≡ false
-      pub words : wordsPast text at ≡ pieceAt text place ∷ wordsPast text (runEnd isWordByte text place)
+    -- the word, and what is past it
+    record Next : Type 0 where
+      words : wordsPast text at ≡ pieceAt text place ∷ wordsPast text (runEnd isWordByte text place)
+      forward : at < runEnd isWordByte text place
 
-    pub next-word : place < length text → Next
+    next : place < length text → Next
     unfolding firstPlace
-    next-word h = by (first at)
+    next h = by (first at)
       where
         by : First text at → Next
         by (First.none e) = let same : place ≡ length text = rw e at found in absurd (omega arith)
-        by (First.word p k within ink e) = let same : p ≡ place = sym (rw e at found) in record { forward = omega arith; ink = rw same at ink; words = rw same at e }
+        by (First.word p k within ink e) =
+            let same : p ≡ place = sym (rw e at found) in
+            record {
+              words = rw same at e;
+              forward = omega (arith, run-forward isWordByte text place h (opposite-true (isBlank (getD text place 0)) (rw same at ink)));
+            }
+
+    pub next-word : place < length text → wordsPast text at ≡ pieceAt text place ∷ wordsPast text (runEnd isWordByte text place)
+    next-word h = next h .words
+
+    pub word-forward : place < length text → at < runEnd isWordByte text place
+    word-forward h = next h .forward
 
 -- ---- every word stands in the text at its place
 

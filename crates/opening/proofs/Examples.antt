@@ -6,9 +6,10 @@ use Rattle.lists.specs.Tests.{allOf}
 use Rattle.dimacs.specs.Words.{isBlank, run, wordsFrom}
 use Rattle.dimacs.specs.Lines.{linesFrom}
 use Rattle.dimacs.specs.Numbers.{isDigit, decimalFrom, digitsOf, sizeOf, numeralOf}
+use Rattle.comments.specs.Comments.{afterComments, wordsIn}
 use Rattle.store.specs.Numerals.{codeIn}
 use Rattle.store.specs.declared.refusal.Refusal.{Refusal}
-use Rattle.opening.specs.Problem.{afterComments, sameBytes, fourWords, sizesOf, problemIn, problemOf}
+use Rattle.opening.specs.Problem.{sameBytes, fourWords, sizesOf, problemIn, problemOf}
 use Rattle.opening.specs.Clauses.{scanFrom, literalsIn, endsFrom}
 use Rattle.opening.specs.Opening.{bodyOf, openedBy}
 use Rattle.opening.specs.declared.Opened.{Opened}
@@ -25,12 +26,12 @@ listing = problem (51 ∷ 32 ∷ 50 ∷ 10 ∷ 49 ∷ 32 ∷ 50 ∷ 32 ∷ 48 �
 opened :
     map (λ text. openedBy text 4 2) (listing ∷ problem (48 ∷ 32 ∷ 48 ∷ []) ∷ problem (53 ∷ 49 ∷ 50 ∷ 32 ∷ 48 ∷ []) ∷ [])
     ≡ Opened.Open 3 2 ∷ Opened.Open 0 0 ∷ Opened.Open 512 0 ∷ []
-unfolding listing problem allOf isBlank run wordsFrom linesFrom isDigit decimalFrom digitsOf sizeOf numeralOf codeIn afterComments sameBytes fourWords sizesOf problemIn problemOf scanFrom openedBy
+unfolding listing problem allOf isBlank run wordsFrom linesFrom isDigit decimalFrom digitsOf sizeOf numeralOf codeIn afterComments wordsIn sameBytes fourWords sizesOf problemIn problemOf scanFrom bodyOf openedBy
 opened = refl
 
 -- the listing's literals and ends
 written : literalsIn (bodyOf listing) ∷ endsFrom 0 (bodyOf listing) ∷ [] ≡ (2 ∷ 4 ∷ 4 ∷ 6 ∷ []) ∷ (2 ∷ 4 ∷ []) ∷ []
-unfolding listing problem allOf isBlank run wordsFrom linesFrom isDigit decimalFrom digitsOf sizeOf numeralOf codeIn afterComments sameBytes fourWords sizesOf problemIn problemOf literalsIn endsFrom bodyOf
+unfolding listing problem allOf isBlank run wordsFrom linesFrom isDigit decimalFrom digitsOf sizeOf numeralOf codeIn afterComments wordsIn sameBytes fourWords sizesOf problemIn problemOf literalsIn endsFrom bodyOf
 written = refl
 
 -- a comment line alone; ` p cnf 0 0`; `p cnf 513 0`; `p cnf 513 x`; then `p cnf 1 1` with the line `-0 0`, with `2 0` and with `1`; `p cnf 1 0` with `x`
@@ -55,10 +56,10 @@ refused :
     ∷ Refusal.ClauseCount 11
     ∷ Refusal.ClauseCount 10
     ∷ [])
-unfolding problem allOf isBlank run wordsFrom linesFrom isDigit decimalFrom digitsOf sizeOf numeralOf codeIn afterComments sameBytes fourWords sizesOf problemIn problemOf scanFrom openedBy
+unfolding problem allOf isBlank run wordsFrom linesFrom isDigit decimalFrom digitsOf sizeOf numeralOf codeIn afterComments wordsIn sameBytes fourWords sizesOf problemIn problemOf scanFrom bodyOf openedBy
 refused = refl
 
 -- the listing where literals and ends are both too short, and where only the ends are
 short : map (λ literals. openedBy listing literals 1) (3 ∷ 4 ∷ []) ≡ map Opened.Refused (Refusal.TooShort 4 ∷ Refusal.TooShort 2 ∷ [])
-unfolding listing problem allOf isBlank run wordsFrom linesFrom isDigit decimalFrom digitsOf sizeOf numeralOf codeIn afterComments sameBytes fourWords sizesOf problemIn problemOf scanFrom openedBy
+unfolding listing problem allOf isBlank run wordsFrom linesFrom isDigit decimalFrom digitsOf sizeOf numeralOf codeIn afterComments wordsIn sameBytes fourWords sizesOf problemIn problemOf scanFrom bodyOf openedBy
 short = refl

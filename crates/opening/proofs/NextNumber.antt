@@ -1,4 +1,4 @@
--- The next word of a text and the number that it is: what `next_word` and `read` say together. Assumes nothing.
+-- The next word and the number that it is, what `next_word` and `read` say together: of the words of a line, and of those of a text's body. Assumes nothing.
 use mathlib.Core.Path.{_≡_, _∙_}
 use mathlib.Core.List.{List, [], _∷_}
 use mathlib.Core.Logic.{⊎-elim}
@@ -11,41 +11,59 @@ use Rattle.dimacs.specs.Numbers.{Numeral, numeralOf, wordAt, readingAt}
 use Rattle.dimacs.specs.declared.Number.{Number}
 use Rattle.dimacs.specs.declared.Cursor.{Cursor}
 use Rattle.dimacs.specs.declared.Reading.{Reading}
-use Rattle.dimacs.proofs.Runs.{run-within}
-use Rattle.dimacs.proofs.WordLaws.{pieceAt, no-word, next-word, word-forward, read-found, read-refused, read-past}
+use Rattle.dimacs.proofs.WordLaws as lines
+use Rattle.dimacs.proofs.WordLaws.{pieceAt, read-found, read-refused, read-past}
+use Rattle.comments.specs.Comments.{wordsPast, Between, firstPlace}
+use Rattle.comments.proofs.Walk as bodies
+use Rattle.comments.proofs.Walk.{word-between}
 
 -- the words from `at` on start with the number x, at `place`, and go on at `next`
-pub record NextNumber (text : List ℕ) (at place : ℕ) (x : Number) (next : ℕ) : Type 0 where
-  pub words : wordsAt text at ≡ pieceAt text place ∷ wordsAt text next
+pub record NextNumber (text : List ℕ) (words-from : ℕ → List Piece) (at place : ℕ) (x : Number) (next : ℕ) : Type 0 where
+  pub words : words-from at ≡ pieceAt text place ∷ words-from next
   pub number : numeralOf (wordAt text place) ≡ Numeral.Is x
   pub forward : at < next
-  pub within : next ≤ length text
+  pub between : Between text next
 
 -- no word, or one that is no number
 pub data Missing : List Piece → Type 0 where
   none : Missing []
   bad : {w : Piece} {ws : List Piece} → numeralOf (w .bytes) ≡ Numeral.Not → Missing (w ∷ ws)
 
-module _ (text : List ℕ) (at place : ℕ) (found : place ≡ runEnd isBlank text at) where
-  pub next-found : (x : Number) (c : Cursor) → readingAt text place ≡ Reading.Found x c → NextNumber text at place x (c .at)
-  next-found x c e =
+-- where `next_word` finds this place
+module _ (text : List ℕ) (words-from : ℕ → List Piece) (at place : ℕ)
+    (here : place < length text → (words-from at ≡ pieceAt text place ∷ words-from (runEnd isWordByte text place)) × (at < runEnd isWordByte text place))
+    (nowhere : length text ≤ place → words-from at ≡ []) where
+  found : (x : Number) (c : Cursor) → readingAt text place ≡ Reading.Found x c → NextNumber text words-from at place x (c .at)
+  found x c e =
       let inside : place < length text = ⊎-elim (λ h. h) (λ h. past h) (lt-or-le place (length text)) in
       let is = read-found text place x c e in
       record {
-        words = next-word text at place found inside ∙ rw (is .past);
+        words = here inside .0 ∙ rw (is .past);
         number = is .number;
-        forward = omega (arith, word-forward text at place found inside, is .past);
-        within = omega (arith, run-within isWordByte text place (omega arith), is .past);
+        forward = omega (arith, here inside .1, is .past);
+        between = rw (is .past) (word-between text place (omega arith));
       }
     where
       past : length text ≤ place → place < length text
       past h = never (cc (e, read-past text place h))
 
-  pub next-missing : (q : ℕ) → readingAt text place ≡ Reading.Refused q → Missing (wordsAt text at)
-  next-missing q e = ⊎-elim here past (lt-or-le place (length text))
-    where
-      here : place < length text → Missing (wordsAt text at)
-      here h = rw (next-word text at place found h) (bad (read-refused text place q e .0))
+  missing : (q : ℕ) → readingAt text place ≡ Reading.Refused q → Missing (words-from at)
+  missing q e =
+      ⊎-elim
+      (λ h. rw (here h .0) (bad (read-refused text place q e .0)))
+      (λ h. rw (nowhere h) none)
+      (lt-or-le place (length text))
 
-      past : length text ≤ place → Missing (wordsAt text at)
-      past h = rw (no-word text at place found h) none
+module _ (text : List ℕ) (at place : ℕ) (is : place ≡ runEnd isBlank text at) where
+  pub line-found : (x : Number) (c : Cursor) → readingAt text place ≡ Reading.Found x c → NextNumber text (wordsAt text) at place x (c .at)
+  line-found = found text (wordsAt text) at place (λ h. (lines.next-word text at place is h, lines.word-forward text at place is h)) (lines.no-word text at place is)
+
+  pub line-missing : (q : ℕ) → readingAt text place ≡ Reading.Refused q → Missing (wordsAt text at)
+  line-missing = missing text (wordsAt text) at place (λ h. (lines.next-word text at place is h, lines.word-forward text at place is h)) (lines.no-word text at place is)
+
+module _ (text : List ℕ) (at place : ℕ) (is : place ≡ firstPlace (length text) (wordsPast text at)) where
+  pub body-found : (x : Number) (c : Cursor) → readingAt text place ≡ Reading.Found x c → NextNumber text (wordsPast text) at place x (c .at)
+  body-found = found text (wordsPast text) at place (λ h. (bodies.next-word text at place is h, bodies.word-forward text at place is h)) (bodies.no-word text at place is)
+
+  pub body-missing : (q : ℕ) → readingAt text place ≡ Reading.Refused q → Missing (wordsPast text at)
+  body-missing = missing text (wordsPast text) at place (λ h. (bodies.next-word text at place is h, bodies.word-forward text at place is h)) (bodies.no-word text at place is)

@@ -1,5 +1,5 @@
 -- Opening as a whole: what a text that opens is known to hold. Assumes nothing.
-use mathlib.Core.Path.{_≡_, refl}
+use mathlib.Core.Path.{_≡_, refl, sym, _∙_}
 use mathlib.Core.Bool.{Bool, true, false, cond}
 use mathlib.Core.List.{List}
 use Prim.Native.Nat.{ℕ, _≤_, _<_}
@@ -7,30 +7,34 @@ use borrow.Author.Tests.{le-leb, lt-leb, leb-true}
 use lib.ListN.{length}
 use lib.Dec.{leb}
 use Rattle.lists.proofs.Cases.{never}
-use Rattle.dimacs.specs.Words.{wordsAt}
+use Rattle.comments.specs.Comments.{wordsPast}
 use Rattle.store.specs.declared.refusal.Refusal.{Refusal}
 use Rattle.opening.specs.Problem.{problemOf}
 use Rattle.opening.specs.Clauses.{scanFrom}
-use Rattle.opening.specs.Opening.{bodyOf, wordsAfter, openedIf, openedAfter, openedBy}
+use Rattle.opening.specs.Opening.{bodyOf, openedIf, openedAfter, openedBy}
 use Rattle.opening.specs.declared.Problem.{Problem}
 use Rattle.opening.specs.declared.Scanned.{Scanned}
 use Rattle.opening.specs.declared.Opened.{Opened}
+use Rattle.opening.proofs.ProblemLaws.{line-limits}
 
 -- ---- by the problem line, and by what the scan then says
 
 module _ (text : List ℕ) where
-  pub opened-by : (p : Problem) (literals ends : ℕ) → problemOf text ≡ p → openedBy text literals ends ≡ openedAfter p text literals ends
+  pub opened-refused : (r : Refusal) (literals ends : ℕ) → problemOf text ≡ Problem.Refused r → openedBy text literals ends ≡ Opened.Refused r
   unfolding openedBy
-  opened-by p literals ends e = rw e
+  opened-refused r literals ends e = rw e
 
-  pub opened-scan : (n m end : ℕ) (s : Scanned) (literals ends : ℕ) → problemOf text ≡ Problem.Line n m end → scanFrom (length text) n m 0 0 (wordsAt text end) ≡ s
-      → openedBy text literals ends ≡ openedIf s n m literals ends
-  unfolding openedBy
-  opened-scan n m end s literals ends e q = rw (e, q)
+  module _ (n m end : ℕ) (line : problemOf text ≡ Problem.Line n m end) where
+    pub body-past : bodyOf text ≡ wordsPast text end
+    unfolding bodyOf
+    body-past = rw line (sym (line-limits text n m end line .body))
 
-  pub body-by : (p : Problem) → problemOf text ≡ p → bodyOf text ≡ wordsAfter p text
-  unfolding bodyOf
-  body-by p e = rw e
+    pub opened-past : (literals ends : ℕ) → openedBy text literals ends ≡ openedAfter (Problem.Line n m end) (wordsPast text end) (length text) literals ends
+    unfolding openedBy
+    opened-past literals ends = rw (line, body-past)
+
+    pub opened-scan : (s : Scanned) (literals ends : ℕ) → scanFrom (length text) n m 0 0 (wordsPast text end) ≡ s → openedBy text literals ends ≡ openedIf s n m literals ends
+    opened-scan s literals ends q = opened-past literals ends ∙ rw q
 
 -- ---- by the room that there is
 
@@ -75,12 +79,12 @@ pub opens : (text : List ℕ) (literals ends n m : ℕ) → openedBy text litera
 unfolding openedBy
 opens text literals ends n m e = by (problemOf text) refl e
   where
-    by : (p : Problem) → problemOf text ≡ p → openedAfter p text literals ends ≡ Opened.Open n m → Opens text literals ends n m
+    by : (p : Problem) → problemOf text ≡ p → openedAfter p (bodyOf text) (length text) literals ends ≡ Opened.Open n m → Opens text literals ends n m
     by (Problem.Refused r) k q = never (cc)
     by (Problem.Line a b start) k q =
-        let r = room (scanFrom (length text) a b 0 0 (wordsAt text start)) a b literals ends n m q in
+        let r = room (scanFrom (length text) a b 0 0 (bodyOf text)) a b literals ends n m q in
         record {
           start = start;
           problem = rw (← r .1, ← r .2) k;
-          fits = rw (body-by text _ k, ← r .1, ← r .2) (r .0);
+          fits = rw (← r .1, ← r .2) (r .0);
         }

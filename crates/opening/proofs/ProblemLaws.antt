@@ -1,48 +1,29 @@
--- The head of a text: comments, the problem line, and its limits. Assumes nothing.
+-- The problem line of a text, its limits, and where it ends. Assumes nothing.
 use mathlib.Core.Path.{_≡_, refl}
-use mathlib.Core.Bool.{Bool, true, false, cond, not, _&&_}
-use mathlib.Core.List.{List, [], _∷_}
-use Prim.Native.Nat.{ℕ, suc, _+_, _-_, _≤_, _<_}
+use mathlib.Core.Bool.{Bool, true, false, cond, _&&_}
+use mathlib.Core.List.{List}
+use mathlib.Core.Logic.{_⊎_, inl, inr}
+use Prim.Native.Nat.{ℕ, _-_, _≤_, _<_}
 use native.Mathlib.Omega.{arith}
-use borrow.Author.Tests.{eq-eqb, ne-eqb, le-leb, lt-leb, eqb-true, leb-true}
-use lib.ListN.{length, take, drop, getD}
-use lib.Seq.{drop-cons}
-use lib.Dec.{eqb, leb}
-use Rattle.lists.proofs.Cases.{never, and-l, and-r}
-use Rattle.dimacs.specs.Words.{run, runEnd, Piece}
+use borrow.Author.Tests.{le-leb, lt-leb, leb-true}
+use lib.ListN.{length, take, drop}
+use lib.Dec.{leb}
+use Rattle.lists.proofs.Cases.{never, and-l, and-r, lt-or-le}
+use Rattle.dimacs.specs.Words.{run, runEnd}
 use Rattle.dimacs.specs.Lines.{isLineByte, linesAt}
 use Rattle.dimacs.proofs.Runs.{run-part}
 use Rattle.dimacs.proofs.LineLaws.{no-line, line-here}
+use Rattle.comments.specs.Comments.{afterComments, wordsPast, Between}
+use Rattle.comments.proofs.RunLaws.{run-ended}
+use Rattle.comments.proofs.CommentLaws.{lines-from}
+use Rattle.comments.proofs.WordLaws.{past-line}
+use Rattle.comments.proofs.Walk.{line-between}
 use Rattle.store.specs.Stores.{maxVariables, maxClauses}
 use Rattle.store.specs.declared.refusal.Refusal.{Refusal}
-use Rattle.opening.specs.Problem.{afterComments, sizesOf, withinLimits, problemIn, problemOf}
+use Rattle.opening.specs.Problem.{sizesOf, withinLimits, problemIn, problemOf}
+use Rattle.opening.specs.Opening.{wordsAfter}
 use Rattle.opening.specs.declared.Sizes.{Sizes}
 use Rattle.opening.specs.declared.Problem.{Problem}
-
--- ---- comments
-
-module _ (text : List ℕ) (at : ℕ) where
-  -- a line is a comment by its first byte in the text, which a line feed is not
-  comment-byte : at < length text → eqb (getD (run isLineByte (drop at text)) 0 0) 99 ≡ eqb (getD text at 0) 99
-  unfolding run
-  comment-byte h = rw (drop-cons text at 0 h) (by (eqb (getD text at 0) 10) refl)
-    where
-      by : (t : Bool) → eqb (getD text at 0) 10 ≡ t
-          → eqb (getD (cond (not t) (getD text at 0 ∷ run isLineByte (drop (suc at) text)) []) 0 0) 99 ≡ eqb (getD text at 0) 99
-      by true e = rw (eqb-true (getD text at 0) 10 e)
-      by false e = refl
-
-  pub comment : at < length text → getD text at 0 ≡ 99 → afterComments (linesAt text at) ≡ afterComments (linesAt text (runEnd isLineByte text at + 1))
-  unfolding afterComments
-  comment h e = rw (line-here text at h, comment-byte h, eq-eqb (getD text at 0) 99 e)
-
-  pub no-comment : at < length text → (getD text at 0 ≡ 99 → ⊥) → afterComments (linesAt text at) ≡ linesAt text at
-  unfolding afterComments
-  no-comment h e = rw (line-here text at h, comment-byte h, ne-eqb (getD text at 0) 99 e)
-
-  pub no-lines : length text ≤ at → afterComments (linesAt text at) ≡ linesAt text at
-  unfolding afterComments
-  no-lines h = rw (no-line text at h)
 
 -- ---- the problem line
 
@@ -68,28 +49,36 @@ module _ (n m place end : ℕ) where
   pub within : n ≤ maxVariables → m ≤ maxClauses → withinLimits (Sizes.Are n m) place end ≡ Problem.Line n m end
   within h k = rw (le-leb n maxVariables h, le-leb m maxClauses k)
 
-pub record Limits (n m : ℕ) : Type 0 where
+-- ---- a problem line: it is within its limits, and the words past its end are those of the lines after it
+
+pub record Limits (text : List ℕ) (n m end : ℕ) : Type 0 where
   pub variables : n ≤ maxVariables
   pub clauses : m ≤ maxClauses
+  pub between : Between text end
+  pub body : wordsPast text end ≡ wordsAfter (Problem.Line n m end) text
 
-pub line-limits : (text : List ℕ) (n m end : ℕ) → problemOf text ≡ Problem.Line n m end → Limits n m
+pub line-limits : (text : List ℕ) (n m end : ℕ) → problemOf text ≡ Problem.Line n m end → Limits text n m end
 unfolding problemOf problemIn
-line-limits text n m end e = by (afterComments (linesAt text 0)) e
+line-limits text n m end e = by (lines-from text .0) (lines-from text .1) (lt-or-le (lines-from text .0) (length text))
   where
-    by-sizes : (s : Sizes) (place at : ℕ) → withinLimits s place at ≡ Problem.Line n m end → Limits n m
-    by-sizes Sizes.Not place at q = never (cc)
-    by-sizes (Sizes.Are a b) place at q = go (leb a maxVariables && leb b maxClauses) refl q
+    limits : (start : ℕ) → start < length text → (s : Sizes) → withinLimits s start (runEnd isLineByte text start) ≡ Problem.Line n m end → Limits text n m end
+    limits start h Sizes.Not q = never (cc)
+    limits start h (Sizes.Are a b) q = go (leb a maxVariables && leb b maxClauses) refl q
       where
-        go : (t : Bool) → (leb a maxVariables && leb b maxClauses) ≡ t → cond t (Problem.Line a b at) (Problem.Refused (Refusal.SizeOverLimit place)) ≡ Problem.Line n m end → Limits n m
+        go : (t : Bool) → (leb a maxVariables && leb b maxClauses) ≡ t
+            → cond t (Problem.Line a b (runEnd isLineByte text start)) (Problem.Refused (Refusal.SizeOverLimit start)) ≡ Problem.Line n m end → Limits text n m end
         go false k q = never (cc)
         go true k q =
             let same-n : a ≡ n = cc in
             let same-m : b ≡ m = cc in
+            let same-end : runEnd isLineByte text start ≡ end = cc in
             record {
               variables = omega (arith, leb-true a maxVariables (and-l (leb a maxVariables) (leb b maxClauses) k));
               clauses = omega (arith, leb-true b maxClauses (and-r (leb a maxVariables) (leb b maxClauses) k));
+              between = rw same-end at (line-between text start (omega arith));
+              body = rw (← same-end) (past-line text (runEnd isLineByte text start) (run-ended isLineByte text start));
             }
 
-    by : (lines : List Piece) → problemIn (length text) lines ≡ Problem.Line n m end → Limits n m
-    by [] q = never (cc)
-    by (line ∷ lines) q = by-sizes (sizesOf (line .bytes)) (line .place) (line .place + length (line .bytes)) q
+    by : (start : ℕ) → afterComments (linesAt text 0) ≡ linesAt text start → (start < length text) ⊎ (length text ≤ start) → Limits text n m end
+    by start from (inl h) = limits start h (sizesOf (run isLineByte (drop start text))) (rw (from, line-here text start h) at e)
+    by start from (inr h) = never (cc (rw (from, no-line text start h) at e))

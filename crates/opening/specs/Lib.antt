@@ -1,3 +1,4 @@
 pub mod Problem
 pub mod Clauses
 pub mod Opening
+pub mod Former

@@ -1,10 +1,12 @@
--- Opening a text (document 01, refusals 1 to 6, then 23). Assumes nothing.
-use Prim.Native.Nat.{ℕ}
+-- Opening a text (document 01, refusals 1 to 6, then 23; document 02, CR 1). Assumes nothing.
+use Prim.Native.Nat.{ℕ, _+_}
 use mathlib.Core.Bool.{cond}
 use mathlib.Core.List.{List, [], _++_}
 use lib.ListN.{length, drop}
 use lib.Dec.{leb}
-use Rattle.dimacs.specs.Words.{Piece, wordsAt}
+use Rattle.dimacs.specs.Words.{Piece}
+use Rattle.dimacs.specs.Lines.{linesAt}
+use Rattle.comments.specs.Comments.{wordsIn}
 use Rattle.store.specs.declared.refusal.Refusal.{Refusal}
 use Rattle.opening.specs.Problem.{problemOf}
 use Rattle.opening.specs.Clauses.{scanFrom, clausesFrom}
@@ -12,9 +14,9 @@ use Rattle.opening.specs.declared.Problem.{Problem}
 use Rattle.opening.specs.declared.Scanned.{Scanned}
 use Rattle.opening.specs.declared.Opened.{Opened}
 
--- the words after the problem line
+-- the words of the lines after the problem line, which ends there, that are no comments
 abbrev pub wordsAfter : Problem → List ℕ → List Piece
-wordsAfter (Problem.Line n m end) text = wordsAt text end
+wordsAfter (Problem.Line n m end) text = wordsIn (linesAt text (end + 1))
 wordsAfter (Problem.Refused r) text = []
 
 unfoldable pub bodyOf : List ℕ → List Piece
@@ -26,13 +28,14 @@ openedIf (Scanned.Done count) n m literals ends =
     cond (leb count literals) (cond (leb m ends) (Opened.Open n m) (Opened.Refused (Refusal.TooShort m))) (Opened.Refused (Refusal.TooShort count))
 openedIf (Scanned.Refused r) n m literals ends = Opened.Refused r
 
-abbrev pub openedAfter : Problem → List ℕ → ℕ → ℕ → Opened
-openedAfter (Problem.Line n m end) text literals ends = openedIf (scanFrom (length text) n m 0 0 (wordsAt text end)) n m literals ends
-openedAfter (Problem.Refused r) text literals ends = Opened.Refused r
+-- by these words after the problem line, in a text of this length
+abbrev pub openedAfter : Problem → List Piece → ℕ → ℕ → ℕ → Opened
+openedAfter (Problem.Line n m end) words whole literals ends = openedIf (scanFrom whole n m 0 0 words) n m literals ends
+openedAfter (Problem.Refused r) words whole literals ends = Opened.Refused r
 
 -- what opening a text answers where the literals and ends slices have these lengths
 unfoldable pub openedBy : List ℕ → ℕ → ℕ → Opened
-openedBy text literals ends = openedAfter (problemOf text) text literals ends
+openedBy text literals ends = openedAfter (problemOf text) (bodyOf text) (length text) literals ends
 
 -- a slice written over from its start
 abbrev pub overwritten : List ℕ → List ℕ → List ℕ

@@ -8,18 +8,11 @@ use lib.Dec.{eqb, leb}
 use Rattle.dimacs.specs.Words.{Piece, wordsAt}
 use Rattle.dimacs.specs.Lines.{linesAt}
 use Rattle.dimacs.specs.Numbers.{Numeral, numeralOf}
+use Rattle.comments.specs.Comments.{afterComments}
 use Rattle.store.specs.Stores.{maxVariables, maxClauses}
 use Rattle.store.specs.declared.refusal.Refusal.{Refusal}
 use Rattle.opening.specs.declared.Sizes.{Sizes}
 use Rattle.opening.specs.declared.Problem.{Problem}
-
-abbrev pub isComment : Piece → Bool
-isComment line = eqb (getD (line .bytes) 0 0) 99
-
--- the lines from the first on that is no comment
-unfoldable pub afterComments : List Piece → List Piece
-afterComments [] = []
-afterComments (line ∷ lines) = cond (isComment line) (afterComments lines) (line ∷ lines)
 
 -- the same bytes
 unfoldable pub sameBytes : List ℕ → List ℕ → Bool

@@ -11,10 +11,10 @@ ghost use mathlib.Core.List.{[], _∷_};
 ghost use Prim.Native.Nat.{ℕ, _≤_};
 ghost use lib.ListN.{length};
 ghost use Rattle.dimacs.specs.Words.{Piece, wordsAt};
-ghost use Rattle.dimacs.specs.Lines.{linesAt};
 ghost use Rattle.dimacs.specs.Numbers.{wordAt};
+ghost use Rattle.comments.specs.Comments.{wordsPast, Between};
 ghost use Rattle.store.specs.Stores.{maxVariables};
-ghost use Rattle.opening.specs.Problem.{afterComments, sameBytes, fourWords, sizesOf, problemOf};
+ghost use Rattle.opening.specs.Problem.{sameBytes, fourWords, sizesOf, problemOf};
 ghost use Rattle.opening.specs.Clauses.{scanFrom, literalsIn, endsFrom};
 ghost use Rattle.opening.specs.Opening.{bodyOf, openedAfter, openedBy, overwritten, written};
 ghost use Rattle.opening.specs.declared.Problem.{Problem};
@@ -76,7 +76,7 @@ pub fn open(text: &[u8], literals: &mut [u16], ends: &mut [u16]) -> Opened
 fn problem_of(text: &[u8]) -> Problem
     ensures { λ r. ⌜ r ≡ problemOf (now (text .entry)) ⌝ }
 {
-    let start = first_line(text);
+    let start = comments::first_line(text);
     if text.len() <= start {
         return Problem::Refused(Refusal::NoProblemLine(text.len()));
     }
@@ -93,20 +93,6 @@ fn problem_of(text: &[u8]) -> Problem
         return Problem::Refused(Refusal::SizeOverLimit(start));
     }
     Problem::Line(variables, clauses, end)
-}
-
-// The start of the first line that is no comment, or a place at which no line starts.
-fn first_line(text: &[u8]) -> usize
-    ensures { λ r. ⌜ linesAt (now (text .entry)) r ≡ afterComments (linesAt (now (text .entry)) 0) ⌝ }
-{
-    let mut at = 0;
-    while at < text.len() {
-        if text[at] != b'c' {
-            return at;
-        }
-        at = dimacs::line_end(text, at) + 1;
-    }
-    at
 }
 
 // What a line says: the word `p` at its start, the word `cnf`, and two numbers.
@@ -178,13 +164,14 @@ fn same_bytes(a: &[u8], b: &[u8]) -> bool
 
 // Judges the words from `start` on and counts the literals. After m clauses every word is refusal 6, so it is not even read.
 fn scan(text: &[u8], start: usize, n: usize, m: usize) -> Scanned
-    ensures { λ r. ⌜ r ≡ scanFrom (length (now (text .entry))) n m 0 0 (wordsAt (now (text .entry)) start) ⌝ }
+    requires { ⌜ Between (now text) start ⌝ }
+    ensures { λ r. ⌜ r ≡ scanFrom (length (now (text .entry))) n m 0 0 (wordsPast (now (text .entry)) start) ⌝ }
 {
     let mut at = start;
     let mut closed = 0;
     let mut count = 0;
     loop {
-        let place = dimacs::next_word(text, at);
+        let place = comments::next_word(text, at);
         if closed == m {
             if place < text.len() {
                 return Scanned::Refused(Refusal::ClauseCount(place));
@@ -215,18 +202,20 @@ fn scan(text: &[u8], start: usize, n: usize, m: usize) -> Scanned
 
 // Writes the codes of the literals and the ends of the clauses, of words that open as some n and m where there is room for all.
 fn fill(text: &[u8], start: usize, literals: &mut [u16], ends: &mut [u16])
-    requires { ⌜ ((n : ℕ) × (m : ℕ) × (n ≤ maxVariables)
-        × (openedAfter (Problem.Line n m start) (now text) (length (now literals)) (length (now ends)) ≡ Opened.Open n m)) ⌝ }
-    ensures literals { λ _. let words = wordsAt (now (text .entry)) start in
+    requires { let words = wordsPast (now text) start in
+        ⌜ (Between (now text) start)
+        × ((n : ℕ) × (m : ℕ) × (n ≤ maxVariables)
+        × (openedAfter (Problem.Line n m start) words (length (now text)) (length (now literals)) (length (now ends)) ≡ Opened.Open n m)) ⌝ }
+    ensures literals { λ _. let words = wordsPast (now (text .entry)) start in
         ⌜ now (literals .exit) ≡ overwritten (literalsIn words) (now (literals .entry)) ⌝ }
-    ensures ends { λ _. let words = wordsAt (now (text .entry)) start in
+    ensures ends { λ _. let words = wordsPast (now (text .entry)) start in
         ⌜ now (ends .exit) ≡ overwritten (endsFrom 0 words) (now (ends .entry)) ⌝ }
 {
     let mut at = start;
     let mut closed = 0;
     let mut used = 0;
     loop {
-        let place = dimacs::next_word(text, at);
+        let place = comments::next_word(text, at);
         let Reading::Found(number, next) = dimacs::read(text, place) else {
             return;
         };

@@ -5,12 +5,13 @@ use Prim.Native.Nat.{ℕ, _-_, _≤_}
 use mathlib.Core.List.{List}
 use lib.ListN.{length, length-set}
 use lib.Seq.{sets}
-use Rattle.dimacs.specs.Words.{Piece, wordsAt}
+use Rattle.dimacs.specs.Words.{Piece}
+use Rattle.comments.specs.Comments.{wordsPast, Between}
 use Rattle.store.specs.Stores.{maxVariables, maxLiterals}
 use Rattle.opening.specs.Clauses.{scanFrom, literalsIn, endsFrom}
 use Rattle.opening.specs.Opening.{overwritten}
 use Rattle.opening.specs.declared.Scanned.{Scanned}
-use Rattle.opening.proofs.NextNumber.{NextNumber, next-found, next-missing}
+use Rattle.opening.proofs.NextNumber.{NextNumber, body-found, body-missing}
 use Rattle.opening.proofs.DoneLaws.{counted, ZeroTurn, zero-turn, LiteralTurn, literal-turn, none-left}
 use Rattle.opening.proofs.Writing.{stored, sets-front}
 use Rattle.opening.proofs.OpeningLaws.{room}
@@ -30,12 +31,13 @@ record Judged (literals₀ ends₀ : List ℕ) : Type 0 where
 
 record Inv (text : List ℕ) (start : ℕ) (literals₀ ends₀ literals ends : List ℕ) (at closed used : ℕ) : Type 0 where
   judged : Judged literals₀ ends₀
+  between : Between text at
   used-within : used ≤ maxLiterals
   literals-length : length literals ≡ length literals₀
   ends-length : length ends ≡ length ends₀
-  done : scanFrom (length text) (judged .n) (judged .m) closed used (wordsAt text at) ≡ Scanned.Done (judged .total)
-  codes : overwritten (literalsIn (wordsAt text start)) literals₀ ≡ sets literals used (literalsIn (wordsAt text at))
-  clauses : overwritten (endsFrom 0 (wordsAt text start)) ends₀ ≡ sets ends closed (endsFrom used (wordsAt text at))
+  done : scanFrom (length text) (judged .n) (judged .m) closed used (wordsPast text at) ≡ Scanned.Done (judged .total)
+  codes : overwritten (literalsIn (wordsPast text start)) literals₀ ≡ sets literals used (literalsIn (wordsPast text at))
+  clauses : overwritten (endsFrom 0 (wordsPast text start)) ends₀ ≡ sets ends closed (endsFrom used (wordsPast text at))
 
 abbrev Inv-loop : tie.InvT-loop
 Inv-loop text start literals₀ ends₀ at₀ closed₀ used₀ literals ends at closed used = Inv text start literals₀ ends₀ literals ends at closed used
@@ -46,9 +48,10 @@ abbrev μ-loop : tie.MeasureT-loop
 -- ---- what is known of the word that was read, and in each branch
 
 found : (c : tie.After-known-told Inv-loop μ-loop) → let at = c .before .before .before .before .before in
+    let text = at .before .before .before .before .args .text .now in
     let read = c .before .number .given .0 in
-    NextNumber (at .before .before .before .before .args .text .now) (at .loop .at) (c .before .before .before .before .next-word .result) (read .0) (read .1 .0 .at)
-found c = next-found _ _ _ (c .before .before .before .before .next-word .ensures) _ _ (sym (c .before .before .before .read .ensures) ∙ c .before .number .given .1)
+    NextNumber text (wordsPast text) (at .loop .at) (c .before .before .before .before .next-word .result) (read .0) (read .1 .0 .at)
+found c = body-found _ _ _ (c .before .before .before .before .next-word .ensures) _ _ (sym (c .before .before .before .read .ensures) ∙ c .before .number .given .1)
 
 zero-here : (c : tie.Then1 Inv-loop μ-loop) → let k = c .before .before in
     ZeroTurn _ _ _ _ _ _ _ (k .before .before .before .before .before .loop .inv .done) _ _ (found k .words) _ (found k .number)
@@ -61,13 +64,14 @@ literal-here c = literal-turn _ _ _ _ _ _ _ _ _ _ _ _ _ (c .if1 .left)
 loop-holds : tie.Need-loop-holds Inv-loop μ-loop
 loop-holds c =
     let start = c .before .before .before in
-    let n = start .pre .0 in
-    let m = start .pre .1 in
-    let words = wordsAt (start .args .text .now) (start .args .start) in
-    let fits = room (scanFrom (length (start .args .text .now)) n m 0 0 words) n m _ _ n m (start .pre .3) .0 in
+    let n = start .pre .1 .0 in
+    let m = start .pre .1 .1 in
+    let words = wordsPast (start .args .text .now) (start .args .start) in
+    let fits = room (scanFrom (length (start .args .text .now)) n m 0 0 words) n m _ _ n m (start .pre .1 .3) .0 in
     let all = counted _ n m (fits .count) words 0 0 (fits .done) in
     record {
-      judged = record { n = n; m = m; total = fits .count; small = start .pre .2; literals-room = fits .literals-fit; ends-room = fits .ends-fit };
+      judged = record { n = n; m = m; total = fits .count; small = start .pre .1 .2; literals-room = fits .literals-fit; ends-room = fits .ends-fit };
+      between = start .pre .0;
       used-within = omega arith;
       literals-length = refl;
       ends-length = refl;
@@ -75,6 +79,9 @@ loop-holds c =
       codes = sets-front (start .args .literals .now) (literalsIn words) (omega (arith, all .literals, fits .literals-fit));
       clauses = sets-front (start .args .ends .now) (endsFrom 0 words) (omega (arith, all .ends, fits .ends-fit));
     }
+
+next-word-requires : tie.Need-next-word-requires Inv-loop μ-loop
+next-word-requires c κs = c .loop .inv .between
 
 same-length : tie.Need-same-length Inv-loop μ-loop
 same-length c = c .before .before .before .before .loop .inv .literals-length
@@ -87,7 +94,7 @@ unfolding literalsIn endsFrom
 returns c =
     let l = c .before .before .before .before .loop in
     let refused = sym (c .before .before .read .ensures) ∙ c .enum-told .given .1 in
-    let no-number = next-missing _ _ _ (c .before .before .before .next-word .ensures) _ refused in
+    let no-number = body-missing _ _ _ (c .before .before .before .next-word .ensures) _ refused in
     let end = none-left _ _ _ _ _ _ _ (l .inv .done) no-number in (
       sym (l .inv .codes ∙ ap (λ (ws : List Piece). sets (l .literals) (l .used) (literalsIn ws)) end),
       sym (l .inv .clauses ∙ ap (λ (ws : List Piece). sets (l .ends) (l .closed) (endsFrom (l .used) ws)) end),
@@ -129,6 +136,7 @@ loop-again c =
     let t = zero-here c in
     record {
       judged = l .inv .judged;
+      between = found (c .before .before) .between;
       used-within = l .inv .used-within;
       literals-length = l .inv .literals-length;
       ends-length = simp length-set (l .inv .ends-length);
@@ -146,6 +154,7 @@ loop-again-2 c =
     let t = literal-here (c .before .before) in
     record {
       judged = l .inv .judged;
+      between = found (c .before .before .before .before) .between;
       used-within = omega (arith, t);
       literals-length = simp length-set (l .inv .literals-length);
       ends-length = l .inv .ends-length;
@@ -157,6 +166,6 @@ loop-again-2 c =
 pub fill-spec : {M : Type 1} → statement M
 fill-spec =
     tie.close
-    (tie.spec Inv-loop μ-loop loop-holds (search needs) (search needs) (search needs) (search needs) same-length same-length-2 returns
+    (tie.spec Inv-loop μ-loop loop-holds next-word-requires (search needs) (search needs) (search needs) same-length same-length-2 returns
     cast-ends mul-ends slice-write-ends add-closed cast-code code-requires mul-literals slice-write-literals add-used loop-less loop-again
     loop-less-2 loop-again-2)

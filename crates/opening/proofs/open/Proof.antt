@@ -8,7 +8,7 @@ use Rattle.opening.specs.declared.Problem.{Problem}
 use Rattle.opening.specs.declared.Scanned.{Scanned}
 use Rattle.opening.specs.declared.Opened.{Opened}
 use Rattle.opening.proofs.ProblemLaws.{line-limits}
-use Rattle.opening.proofs.OpeningLaws.{opened-by, opened-scan, body-by, short-literals, short-ends, long-enough}
+use Rattle.opening.proofs.OpeningLaws.{opened-refused, body-past, opened-past, opened-scan, short-literals, short-ends, long-enough}
 use borrow.Author.Needs.{needs}
 use Rattle.opening.proofs.open.Statement.{statement}
 use Rattle.opening.proofs.open.Tie as tie
@@ -23,7 +23,7 @@ judged : (c : tie.After-scan) (s : Scanned) → let a = c .before .before .befor
     let literals = length (a .literals .now) in
     let ends = length (a .ends .now) in
     c .scan .result ≡ s → openedBy (a .text .now) literals ends ≡ openedIf s (n .0) (n .1 .0) literals ends
-judged c s e = opened-scan _ _ _ _ _ _ _ (line (c .before)) (sym (c .scan .ensures) ∙ e)
+judged c s e = opened-scan _ _ _ _ (line (c .before)) _ _ _ (sym (c .scan .ensures) ∙ e)
 
 opens : (c : tie.Else2) → let told = c .before .before .before .before .before .before .before in
     let a = told .before .before .before .before .before .before .args in
@@ -35,7 +35,10 @@ opens c =
 returns : tie.Need-returns
 returns c =
     let told = c .before in
-    (sym (opened-by _ _ _ _ (sym (told .before .before .problem-of .ensures) ∙ told .refusal .given .1)), (refl, refl))
+    (sym (opened-refused _ _ _ _ (sym (told .before .before .problem-of .ensures) ∙ told .refusal .given .1)), (refl, refl))
+
+scan-requires : tie.Need-scan-requires
+scan-requires c κs = line-limits _ _ _ _ (line c) .between
 
 returns-2 : tie.Need-returns-2
 returns-2 c = (sym (judged (c .before .before .before) _ (c .before .refusal2 .given .1)), (refl, refl))
@@ -55,16 +58,17 @@ returns-4 c =
 fill-requires : tie.Need-fill-requires
 fill-requires c κs =
     let told = c .before .before .before .before .before .before .before .before in
-    (_, _, line-limits _ _ _ _ (line told) .variables, sym (opened-by _ _ _ _ (line told)) ∙ opens (c .before .before))
+    let limits = line-limits _ _ _ _ (line told) in
+    (limits .between, (_, _, limits .variables, sym (opened-past _ _ _ _ (line told) _ _) ∙ opens (c .before .before)))
 
 returns-5 : tie.Need-returns-5
 returns-5 c =
     let told = c .before .before .before .before .before .before .before .before .before .before .before .before .before in
-    let body = body-by _ _ (line told) in
+    let body = body-past _ _ _ _ (line told) in
     (sym (opens (c .before .before .before .before .before .before .before)), (rw body (c .before .before .before .before .fill .ensures .0), rw body (c .before .before .before .before .fill .ensures .1)))
 
 pub open-spec : {M : Type 1} → statement M
 open-spec =
     tie.close
-    (tie.spec (search needs) (search needs) returns (search needs) (search needs) (search needs) returns-2 (search needs) returns-3
+    (tie.spec (search needs) (search needs) returns (search needs) scan-requires (search needs) returns-2 (search needs) returns-3
     returns-4 fill-requires (search needs) (search needs) returns-5)

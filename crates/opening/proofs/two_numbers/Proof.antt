@@ -6,7 +6,7 @@ use Rattle.dimacs.specs.Words.{Piece, wordsAt}
 use Rattle.dimacs.proofs.WordLaws.{pieceAt, no-word, next-word}
 use Rattle.opening.specs.Problem.{sameBytes, fourWords}
 use Rattle.opening.specs.declared.Sizes.{Sizes}
-use Rattle.opening.proofs.NextNumber.{NextNumber, next-found, next-missing}
+use Rattle.opening.proofs.NextNumber.{NextNumber, line-found, line-missing}
 use Rattle.opening.proofs.SizeLaws.{first-missing, second-missing, two-numbers, five-words}
 use borrow.Author.Needs.{needs}
 use Rattle.opening.proofs.two_numbers.Statement.{statement}
@@ -14,14 +14,16 @@ use Rattle.opening.proofs.two_numbers.Tie as tie
 
 -- the first number, and the second
 first : (c : tie.After-known-told) → let at = c .before .before .before .before in
+    let line = at .before .before .args .line .now in
     let read = c .before .n .given .0 in
-    NextNumber (at .before .before .args .line .now) (at .before .before .args .at) (at .next-word .result) (read .0) (read .1 .0 .at)
-first c = next-found _ _ _ (c .before .before .before .before .next-word .ensures) _ _ (sym (c .before .before .before .read .ensures) ∙ c .before .n .given .1)
+    NextNumber line (wordsAt line) (at .before .before .args .at) (at .next-word .result) (read .0) (read .1 .0 .at)
+first c = line-found _ _ _ (c .before .before .before .before .next-word .ensures) _ _ (sym (c .before .before .before .read .ensures) ∙ c .before .n .given .1)
 
 second : (c : tie.After-known-told2) → let at = c .before .before .before .before in
+    let line = at .before .before .before .before .before .before .before .args .line .now in
     let read = c .before .m .given .0 in
-    NextNumber (at .before .before .before .before .before .before .before .args .line .now) (at .before .before .n .given .0 .1 .0 .at) (at .next-word2 .result) (read .0) (read .1 .0 .at)
-second c = next-found _ _ _ (c .before .before .before .before .next-word2 .ensures) _ _ (sym (c .before .before .before .read2 .ensures) ∙ c .before .m .given .1)
+    NextNumber line (wordsAt line) (at .before .before .n .given .0 .1 .0 .at) (at .next-word2 .result) (read .0) (read .1 .0 .at)
+second c = line-found _ _ _ (c .before .before .before .before .next-word2 .ensures) _ _ (sym (c .before .before .before .read2 .ensures) ∙ c .before .m .given .1)
 
 -- both numbers, and then the words after them
 both : (c : tie.After-known-told2) (p cnf : Piece) (rest : List Piece) → let at = c .before .before .before .before in
@@ -46,7 +48,7 @@ returns : tie.Need-returns
 returns c =
     λ p cnf is-p is-cnf.
     let refused = sym (c .before .before .read .ensures) ∙ c .enum-told .given .1 in
-    let no-number = next-missing _ _ _ (c .before .before .before .next-word .ensures) _ refused in
+    let no-number = line-missing _ _ _ (c .before .before .before .next-word .ensures) _ refused in
     sym (first-missing p cnf is-p is-cnf _ no-number)
 
 returns-2 : tie.Need-returns-2
@@ -54,7 +56,7 @@ returns-2 c =
     λ p cnf is-p is-cnf.
     let n = first (c .before .before .before .before) in
     let refused = sym (c .before .before .read2 .ensures) ∙ c .enum-told2 .given .1 in
-    let no-number = next-missing _ _ _ (c .before .before .before .next-word2 .ensures) _ refused in
+    let no-number = line-missing _ _ _ (c .before .before .before .next-word2 .ensures) _ refused in
     sym (ap (λ (ws : List Piece). fourWords (p ∷ cnf ∷ ws)) (n .words) ∙ second-missing p cnf is-p is-cnf _ _ (n .number) _ no-number)
 
 returns-3 : tie.Need-returns-3

@@ -9,3 +9,4 @@ pub mod OpeningLaws
 pub mod CutLaws
 pub mod Theorem
 pub mod Examples
+pub mod Former

@@ -9,16 +9,17 @@ use borrow.Author.Tests.{eq-eqb, ne-eqb, eqb-true, eqb-false, ltb-true, ltb-fals
 use lib.ListN.{length}
 use lib.Dec.{eqb, ltb, leb}
 use Rattle.lists.proofs.Cases.{never, eq-or-ne, lt-or-le}
-use Rattle.dimacs.specs.Words.{Piece, wordsAt}
+use Rattle.dimacs.specs.Words.{Piece}
 use Rattle.dimacs.specs.Lines.{linesAt}
 use Rattle.dimacs.specs.Numbers.{Numeral, numeralOf}
 use Rattle.dimacs.specs.declared.Number.{Number}
 use Rattle.store.specs.Refusals.{Said, saidRefused}
 use Rattle.store.specs.Stores.{Store, maxVariables, maxClauses, maxLiterals}
 use Rattle.store.specs.declared.refusal.Refusal.{Refusal}
-use Rattle.opening.specs.Problem.{isComment, afterComments, sizesOf, withinLimits, problemIn, problemOf}
+use Rattle.comments.specs.Comments.{isComment, afterComments}
+use Rattle.opening.specs.Problem.{sizesOf, withinLimits, problemIn, problemOf}
 use Rattle.opening.specs.Clauses.{scanFrom}
-use Rattle.opening.specs.Opening.{openedIf, openedBy}
+use Rattle.opening.specs.Opening.{bodyOf, openedIf, openedBy}
 use Rattle.opening.specs.declared.Sizes.{Sizes}
 use Rattle.opening.specs.declared.Problem.{Problem}
 use Rattle.opening.specs.declared.Scanned.{Scanned}
@@ -178,7 +179,7 @@ module _ (s : Store) (text : List ℕ) where
 
   body-exact : (n m end : ℕ) → problemOf text ≡ Problem.Line n m end → Exact body (openSays s text)
   unfolding openSays openedBy countOf
-  body-exact n m end e = rw e (scan-exact (length text) n m room-literals room-ends (wordsAt text end) [] (wordsAt text end) refl (omega arith))
+  body-exact n m end e = rw e (scan-exact (length text) n m room-literals room-ends (bodyOf text) [] (bodyOf text) refl (omega arith))
 
   -- a line that is no comment
   module _ (f : FirstFailing Comment (linesAt text 0)) (after : afterComments (linesAt text 0) ≡ f .it ∷ f .after) where

@@ -15,7 +15,8 @@ use Rattle.store.specs.Literals.{isLiteral}
 use Rattle.store.specs.Numerals.{codeIn}
 use Rattle.store.specs.Refusals.{Said, done, refused}
 use Rattle.store.specs.Stores.{Store, lent, closedRecord, rising, literalCount, rowsOf, cut, plainOf, heldRows, isImage, isRow, demands, wellFormed, standingOf}
-use Rattle.opening.specs.Problem.{afterComments, sameBytes, fourWords, sizesOf, problemIn, problemOf}
+use Rattle.comments.specs.Comments.{afterComments, wordsIn}
+use Rattle.opening.specs.Problem.{sameBytes, fourWords, sizesOf, problemIn, problemOf}
 use Rattle.opening.specs.Clauses.{scanFrom, literalsIn, endsFrom}
 use Rattle.opening.specs.Opening.{bodyOf, openedBy}
 use Rattle.permutation.specs.Lines.{notNumber, badNameAfter, badName, badValueAfter, namesOn, valuesOn}
@@ -101,7 +102,7 @@ starred :
     ∷ []
 unfolding
     openStore offerSays offerStore anyOf allOf distinct table isBlank run wordsFrom linesFrom isDigit decimalFrom digitsOf sizeOf numeralOf isLiteral codeIn rising literalCount
-    rowsOf cut plainOf isImage isRow demands wellFormed standingOf afterComments sameBytes fourWords sizesOf problemIn problemOf scanFrom literalsIn endsFrom bodyOf openedBy notNumber
+    rowsOf cut plainOf isImage isRow demands wellFormed standingOf afterComments wordsIn sameBytes fourWords sizesOf problemIn problemOf scanFrom literalsIn endsFrom bodyOf openedBy notNumber
     badNameAfter badName badValueAfter namesOn valuesOn statedBy imageAmong rowStated within sameSet imageOf clauseImage hasImage missingFrom ifRoom ifSymmetry offeredBy
     efficiencySays hasEfficiency efficiencyOf descendSays descendLeaves descended descendFrom stepBy lowers moved less literalValue heldRows bitsOf wordsOf binary
     wordCount bitAt bitIn spareBits isAssignment fillSays fillLeaves filledWords variablesOf madeVariables allAuxiliaries auxiliaries pairsOf pairsFrom filledIn settings

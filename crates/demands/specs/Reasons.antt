@@ -12,10 +12,12 @@ use Rattle.dimacs.specs.Words.{Piece, wordsAt}
 use Rattle.dimacs.specs.Lines.{linesAt}
 use Rattle.dimacs.specs.Numbers.{Numeral, numeralOf}
 use Rattle.dimacs.specs.declared.Number.{Number}
+use Rattle.comments.specs.Comments.{isComment}
 use Rattle.packed.specs.Words.{maxWords, wordCount, isAssignment}
 use Rattle.quality.specs.Efficiency.{maxLabelled}
 use Rattle.store.specs.Stores.{Store, wellFormed, plainOf, maxVariables, maxClauses, maxLiterals, maxRows}
-use Rattle.opening.specs.Problem.{isComment, sizesOf, problemOf}
+use Rattle.opening.specs.Problem.{sizesOf, problemOf}
+use Rattle.opening.specs.Opening.{bodyOf}
 use Rattle.opening.specs.declared.Sizes.{Sizes}
 use Rattle.opening.specs.declared.Problem.{Problem}
 use Rattle.symmetry.specs.Sets.{Among}
@@ -106,7 +108,7 @@ closedBy words = countOf isZero words
 abbrev pub literalsBy : List Piece → ℕ
 literalsBy words = countOf isNonzero words
 
--- "5. Literal 12,289." Here and in 6, `before` are the words between the problem line and this one.
+-- "5. Literal 12,289." Here and in 6, `before` are the words between the problem line and this one, comments left out.
 abbrev pub tooManyLiterals : List Piece → Piece → Reason
 tooManyLiterals before w = reason 5 ((x : Number) × Reads w x × (0 < x .size) × (literalsBy before ≡ maxLiterals)) (w .place)
 
@@ -198,7 +200,7 @@ tooShort needed room = reason 23 (room < needed) needed
 
 -- ---- open: "the first fault from the left counts, and at one word the lower number, but 6 goes before 3, 4 and 5"; 23 "tried last; opening tries literals before ends"
 
--- the words after the problem line, from the left
+-- the words after the problem line, comments left out, from the left
 unfoldable pub wordReasons : ℕ → ℕ → List Piece → List Piece → List Reason
 wordReasons n m before [] = []
 wordReasons n m before (w ∷ words) =
@@ -211,7 +213,7 @@ endReasons m words end literals ends = clauseMissing m words end ∷ tooShort (l
 -- what comes after a problem line of n and m that ends there: n, m and the end are those of the first line that is no comment (`problem-line`,
 -- proofs/OpenRefusals.antt), and where there are none, 1 or 2 holds
 abbrev pub bodyReasons : Problem → List ℕ → ℕ → ℕ → List Reason
-bodyReasons (Problem.Line n m end) text literals ends = wordReasons n m [] (wordsAt text end) ++ endReasons m (wordsAt text end) (length text) literals ends
+bodyReasons (Problem.Line n m end) text literals ends = wordReasons n m [] (bodyOf text) ++ endReasons m (bodyOf text) (length text) literals ends
 bodyReasons (Problem.Refused r) text literals ends = []
 
 abbrev pub openReasons : Store → List ℕ → List Reason

@@ -12,7 +12,8 @@ use Rattle.store.specs.Literals.{isLiteral}
 use Rattle.store.specs.Numerals.{codeIn}
 use Rattle.store.specs.Refusals.{done, refused}
 use Rattle.store.specs.Stores.{Store, lent, closedRecord, rising, literalCount, rowsOf, cut, plainOf, isImage, demands, wellFormed, standingOf}
-use Rattle.opening.specs.Problem.{afterComments, sameBytes, fourWords, sizesOf, problemIn, problemOf}
+use Rattle.comments.specs.Comments.{afterComments, wordsIn}
+use Rattle.opening.specs.Problem.{sameBytes, fourWords, sizesOf, problemIn, problemOf}
 use Rattle.opening.specs.Clauses.{scanFrom, literalsIn, endsFrom}
 use Rattle.opening.specs.Opening.{bodyOf, openedBy}
 use Rattle.permutation.specs.Lines.{notNumber, badNameAfter, badName, badValueAfter, namesOn, valuesOn}
@@ -53,7 +54,7 @@ offered :
     ∷ []
 unfolding
     closed opened problem anyOf allOf table isBlank run wordsFrom linesFrom isDigit decimalFrom digitsOf sizeOf numeralOf isLiteral codeIn rising
-    literalCount rowsOf cut plainOf isImage demands wellFormed standingOf afterComments sameBytes fourWords sizesOf problemIn problemOf scanFrom
+    literalCount rowsOf cut plainOf isImage demands wellFormed standingOf afterComments wordsIn sameBytes fourWords sizesOf problemIn problemOf scanFrom
     literalsIn endsFrom bodyOf openedBy notNumber badNameAfter badName badValueAfter namesOn valuesOn statedBy imageAmong rowStated missingFrom ifRoom
     ifSymmetry offeredBy openSays openStore offerSays offerStore fromDivider offerAll sessionOf
 offered = refl

@@ -24,9 +24,10 @@ use Rattle.store.specs.declared.form.Standing.{Standing}
 use Rattle.store.specs.declared.refusal.Refusal.{Refusal}
 use Rattle.store.proofs.Demands.{rest-of}
 use Rattle.store.proofs.StandingLaws.{ready-of}
-use Rattle.opening.specs.Problem.{withinLimits, problemIn, problemOf, sizesOf, afterComments}
+use Rattle.comments.specs.Comments.{afterComments}
+use Rattle.opening.specs.Problem.{withinLimits, problemIn, problemOf, sizesOf}
 use Rattle.opening.specs.Clauses.{scanFrom}
-use Rattle.opening.specs.Opening.{openedIf, openedAfter, openedBy}
+use Rattle.opening.specs.Opening.{bodyOf, openedIf, openedAfter, openedBy}
 use Rattle.opening.specs.declared.Opened.{Opened}
 use Rattle.opening.specs.declared.Problem.{Problem}
 use Rattle.opening.specs.declared.Scanned.{Scanned}
@@ -135,8 +136,8 @@ open-number s text = problem (problemOf text) (problem-number text)
     scan (Scanned.Done count) h n m = room count n m (leb count (length (s .literals))) (leb m (length (s .ends)))
     scan (Scanned.Refused r) h n m = inl (omega arith)
 
-    problem : (p : Problem) → problemNumber p ≤ 6 → Inner (saidNumber (saidOpened (openedAfter p text (length (s .literals)) (length (s .ends)))))
-    problem (Problem.Line n m end) h = scan (scanFrom (length text) n m 0 0 (wordsAt text end)) (scan-number (length text) n m 0 0 (wordsAt text end)) n m
+    problem : (p : Problem) → problemNumber p ≤ 6 → Inner (saidNumber (saidOpened (openedAfter p (bodyOf text) (length text) (length (s .literals)) (length (s .ends)))))
+    problem (Problem.Line n m end) h = scan (scanFrom (length text) n m 0 0 (bodyOf text)) (scan-number (length text) n m 0 0 (bodyOf text)) n m
     problem (Problem.Refused r) h = inl (omega arith)
 
 -- with slices as long as the limits there is no 23
@@ -144,16 +145,16 @@ open-low : (s : Store) → Ample s → (text : List ℕ) → saidNumber (openSay
 unfolding openSays openedBy
 open-low s ample text = problem (problemOf text) refl (problem-number text)
   where
-    scan : (n m end : ℕ) → m ≤ maxClauses → (x : Scanned) → scanFrom (length text) n m 0 0 (wordsAt text end) ≡ x → scannedNumber x ≤ 6
+    scan : (n m end : ℕ) → m ≤ maxClauses → (x : Scanned) → scanFrom (length text) n m 0 0 (bodyOf text) ≡ x → scannedNumber x ≤ 6
         → saidNumber (saidOpened (openedIf x n m (length (s .literals)) (length (s .ends)))) ≤ 6
     scan n m end few (Scanned.Done count) e h =
-        let fits = counted (length text) n m count (wordsAt text end) 0 0 e .total-within (omega arith) in
+        let fits = counted (length text) n m count (bodyOf text) 0 0 e .total-within (omega arith) in
         rw (long-enough n m count (length (s .literals)) (length (s .ends)) (omega (arith, fits, ample .literals)) (omega (arith, ample .ends))) (omega arith)
     scan n m end few (Scanned.Refused r) e h = h
 
-    problem : (p : Problem) → problemOf text ≡ p → problemNumber p ≤ 6 → saidNumber (saidOpened (openedAfter p text (length (s .literals)) (length (s .ends)))) ≤ 6
+    problem : (p : Problem) → problemOf text ≡ p → problemNumber p ≤ 6 → saidNumber (saidOpened (openedAfter p (bodyOf text) (length text) (length (s .literals)) (length (s .ends)))) ≤ 6
     problem (Problem.Line n m end) e h =
-        scan n m end (line-limits text n m end e .clauses) (scanFrom (length text) n m 0 0 (wordsAt text end)) refl (scan-number (length text) n m 0 0 (wordsAt text end))
+        scan n m end (line-limits text n m end e .clauses) (scanFrom (length text) n m 0 0 (bodyOf text)) refl (scan-number (length text) n m 0 0 (bodyOf text))
     problem (Problem.Refused r) e h = h
 
 -- ---- an offer: 20 and 21 by the store, 22, 7 to 11, and 23 only where the images slice is too short

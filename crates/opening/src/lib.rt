@@ -215,8 +215,8 @@ fn fill(text: &[u8], start: usize, literals: &mut [u16], ends: &mut [u16])
     let mut closed = 0;
     let mut used = 0;
     loop {
-        let place = comments::next_word(text, at);
-        let Reading::Found(number, next) = dimacs::read(text, place) else {
+        let word = comments::next_word(text, at);
+        let Reading::Found(number, next) = dimacs::read(text, word) else {
             return;
         };
         if number.size == 0 {

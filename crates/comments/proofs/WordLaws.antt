@@ -1,24 +1,24 @@
 -- The words that stand in no comment, from a place inside a line that is none: how a walk passes what is before the first of them, and that each stands in the
 -- text at its place. Assumes nothing.
 use mathlib.Core.Path.{_≡_, refl, sym, ap, _∙_}
-use mathlib.Core.Bool.{Bool, true, false, cond, not, _||_}
-use mathlib.Core.List.{List, [], _∷_, _++_, List·Memᴰ}
+use mathlib.Core.Bool.{Bool, true, false, not, _||_}
+use mathlib.Core.List.{List, [], _∷_}
 use mathlib.Core.Logic.{⊎-elim}
-use Prim.Native.Nat.{ℕ, zero, suc, _+_, _-_, _≤_, _<_}
+use Prim.Native.Nat.{ℕ, _+_, _-_, _≤_, _<_}
 use native.Mathlib.Nat.{add-zero}
 use native.Mathlib.Omega.{arith}
-use borrow.Author.Tests.{eq-eqb, ne-eqb, eqb-true, eqb-false}
+use borrow.Author.Tests.{eq-eqb, ne-eqb}
 use lib.ListN.{length, drop, getD, drop-of-length-le}
 use lib.Seq.{drop-drop}
 use lib.Dec.{eqb}
-use Rattle.lists.proofs.Cases.{never, lt-or-le, eq-or-ne}
+use Rattle.lists.proofs.Cases.{never, lt-or-le}
 use Rattle.dimacs.specs.Words.{isBlank, isWordByte, run, runEnd, Piece, wordsFrom}
 use Rattle.dimacs.specs.Numbers.{wordAt}
-use Rattle.dimacs.specs.Lines.{isLineFeed, isLineByte, linesAt}
+use Rattle.dimacs.specs.Lines.{isLineByte, linesAt}
 use Rattle.dimacs.proofs.LineLaws.{no-line, line-here}
-use Rattle.dimacs.proofs.Runs.{run-step, run-forward, opposite-true}
+use Rattle.dimacs.proofs.Runs.{run-step, opposite-true}
 use Rattle.dimacs.proofs.WordLaws.{pieceAt, word-from, fresh-word}
-use Rattle.comments.specs.Comments.{wordsIn, wordsPast, firstPlace}
+use Rattle.comments.specs.Comments.{wordsIn, wordsPast}
 use Rattle.comments.proofs.RunLaws.{run-none, run-more, run-ended, inside}
 use Rattle.comments.proofs.CommentLaws.{comment-byte}
 

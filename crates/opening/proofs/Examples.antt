@@ -59,6 +59,23 @@ refused :
 unfolding problem allOf isBlank run wordsFrom linesFrom isDigit decimalFrom digitsOf sizeOf numeralOf codeIn afterComments wordsIn sameBytes fourWords sizesOf problemIn problemOf scanFrom bodyOf openedBy
 refused = refl
 
+-- `p cnf 1 1`, then comments: `1`, `c 0`, `0`; and `c`, `1 0`, `c`; then what is refused: ` c`; `1 c`; `c`, `2 0`; `c` alone; `1 0`, ` c`
+commented :
+    map (λ rest. openedBy (problem (49 ∷ 32 ∷ 49 ∷ 10 ∷ rest)) 4 2)
+    ((49 ∷ 10 ∷ 99 ∷ 32 ∷ 48 ∷ 10 ∷ 48 ∷ [])
+    ∷ (99 ∷ 10 ∷ 49 ∷ 32 ∷ 48 ∷ 10 ∷ 99 ∷ [])
+    ∷ (32 ∷ 99 ∷ [])
+    ∷ (49 ∷ 32 ∷ 99 ∷ [])
+    ∷ (99 ∷ 10 ∷ 50 ∷ 32 ∷ 48 ∷ [])
+    ∷ (99 ∷ 10 ∷ [])
+    ∷ (49 ∷ 32 ∷ 48 ∷ 10 ∷ 32 ∷ 99 ∷ [])
+    ∷ [])
+    ≡ Opened.Open 1 1
+    ∷ Opened.Open 1 1
+    ∷ map Opened.Refused (Refusal.NotNumber 11 ∷ Refusal.NotNumber 12 ∷ Refusal.LiteralBeyond 12 ∷ Refusal.ClauseCount 12 ∷ Refusal.ClauseCount 15 ∷ [])
+unfolding problem allOf isBlank run wordsFrom linesFrom isDigit decimalFrom digitsOf sizeOf numeralOf codeIn afterComments wordsIn sameBytes fourWords sizesOf problemIn problemOf scanFrom bodyOf openedBy
+commented = refl
+
 -- the listing where literals and ends are both too short, and where only the ends are
 short : map (λ literals. openedBy listing literals 1) (3 ∷ 4 ∷ []) ≡ map Opened.Refused (Refusal.TooShort 4 ∷ Refusal.TooShort 2 ∷ [])
 unfolding listing problem allOf isBlank run wordsFrom linesFrom isDigit decimalFrom digitsOf sizeOf numeralOf codeIn afterComments wordsIn sameBytes fourWords sizesOf problemIn problemOf scanFrom bodyOf openedBy

@@ -2,20 +2,18 @@
 -- problem line read the same words; one that met a comment was refused there. Assumes nothing.
 use mathlib.Core.Path.{_≡_, refl, sym, ap, _∙_}
 use mathlib.Core.Bool.{Bool, true, false, cond, not, _&&_}
-use mathlib.Core.List.{List, [], _∷_}
+use mathlib.Core.List.{List, _∷_}
 use mathlib.Core.Logic.{_⊎_, inl, inr, ⊎-elim}
 use Prim.Native.Nat.{ℕ, zero, suc, _+_, _-_, _≤_, _<_}
 use native.Mathlib.Numerals.{add-one}
 use native.Mathlib.Omega.{arith}
-use borrow.Author.Tests.{eqb-true, eqb-false}
 use lib.ListN.{length, drop, getD}
 use lib.Seq.{drop-cons}
 use lib.Dec.{eqb, leb, ltb}
 use Rattle.lists.specs.Tests.{allOf}
 use Rattle.lists.proofs.Cases.{never, eq-or-ne}
 use Rattle.dimacs.specs.Words.{isBlank, isWordByte, run, runEnd, Piece, wordsFrom, wordsAt}
-use Rattle.dimacs.specs.Lines.{isLineByte}
-use Rattle.dimacs.specs.Numbers.{Size, Numeral, isDigit, digitsOf, padded, sizeOf, positive, numeralOf, wordAt}
+use Rattle.dimacs.specs.Numbers.{Size, Numeral, isDigit, digitsOf, padded, sizeOf, numeralOf, wordAt}
 use Rattle.dimacs.proofs.Runs.{run-stop, run-end, run-forward, opposite-true}
 use Rattle.dimacs.proofs.WordLaws.{pieceAt, no-word, next-word}
 use Rattle.comments.specs.Comments.{wordsPast}
@@ -27,8 +25,8 @@ use Rattle.store.specs.Numerals.{codeIn, isNumeral}
 use Rattle.store.specs.Stores.{maxLiterals}
 use Rattle.store.specs.declared.refusal.Refusal.{Refusal}
 use Rattle.opening.specs.Problem.{problemOf}
-use Rattle.opening.specs.Clauses.{scanFrom, literalsIn, endsFrom}
-use Rattle.opening.specs.Opening.{bodyOf, openedIf, openedAfter, openedBy, written}
+use Rattle.opening.specs.Clauses.{scanFrom}
+use Rattle.opening.specs.Opening.{bodyOf, openedIf, openedAfter, openedBy}
 use Rattle.opening.specs.Former.{formerBodyOf, formerlyOpenedBy}
 use Rattle.opening.specs.declared.Problem.{Problem}
 use Rattle.opening.specs.declared.Scanned.{Scanned}

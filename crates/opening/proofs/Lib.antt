@@ -9,4 +9,5 @@ pub mod OpeningLaws
 pub mod CutLaws
 pub mod Theorem
 pub mod Examples
+pub mod Body
 pub mod Former

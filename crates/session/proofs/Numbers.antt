@@ -145,16 +145,16 @@ open-low : (s : Store) → Ample s → (text : List ℕ) → saidNumber (openSay
 unfolding openSays openedBy
 open-low s ample text = problem (problemOf text) refl (problem-number text)
   where
-    scan : (n m end : ℕ) → m ≤ maxClauses → (x : Scanned) → scanFrom (length text) n m 0 0 (bodyOf text) ≡ x → scannedNumber x ≤ 6
+    scan : (n m : ℕ) → m ≤ maxClauses → (x : Scanned) → scanFrom (length text) n m 0 0 (bodyOf text) ≡ x → scannedNumber x ≤ 6
         → saidNumber (saidOpened (openedIf x n m (length (s .literals)) (length (s .ends)))) ≤ 6
-    scan n m end few (Scanned.Done count) e h =
+    scan n m few (Scanned.Done count) e h =
         let fits = counted (length text) n m count (bodyOf text) 0 0 e .total-within (omega arith) in
         rw (long-enough n m count (length (s .literals)) (length (s .ends)) (omega (arith, fits, ample .literals)) (omega (arith, ample .ends))) (omega arith)
-    scan n m end few (Scanned.Refused r) e h = h
+    scan n m few (Scanned.Refused r) e h = h
 
     problem : (p : Problem) → problemOf text ≡ p → problemNumber p ≤ 6 → saidNumber (saidOpened (openedAfter p (bodyOf text) (length text) (length (s .literals)) (length (s .ends)))) ≤ 6
     problem (Problem.Line n m end) e h =
-        scan n m end (line-limits text n m end e .clauses) (scanFrom (length text) n m 0 0 (bodyOf text)) refl (scan-number (length text) n m 0 0 (bodyOf text))
+        scan n m (line-limits text n m end e .clauses) (scanFrom (length text) n m 0 0 (bodyOf text)) refl (scan-number (length text) n m 0 0 (bodyOf text))
     problem (Problem.Refused r) e h = h
 
 -- ---- an offer: 20 and 21 by the store, 22, 7 to 11, and 23 only where the images slice is too short

@@ -7,7 +7,7 @@ use native.Mathlib.Omega.{arith}
 use borrow.Author.Needs.{needs}
 use borrow.Author.Tests.{not-true, not-false}
 use lib.ListN.{length, getD}
-use Rattle.dimacs.specs.Words.{isBlank, Piece}
+use Rattle.dimacs.specs.Words.{isBlank}
 use Rattle.dimacs.specs.Lines.{isLineByte}
 use Rattle.dimacs.proofs.Runs.{run-within}
 use Rattle.comments.specs.Comments.{wordsPast, firstPlace}

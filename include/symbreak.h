@@ -98,9 +98,10 @@ symbreak_record symbreak_new_record(void);
  * Entries past those in use are never looked at and never changed. */
 
 /* Opens a formula: it replaces what the store held and drops its rows. The record lent is handed back at a refusal and not looked at otherwise.
- * The text is DIMACS CNF: lines that start with `c`, then the line `p cnf n m`, then m clauses, each a list of literals closed by 0. Words are separated by
- * spaces, tabs and line feeds; a number is an optional `-` and one to six digits without leading zeros. A carriage return is no blank: it belongs to a
- * word, so that lines that end in one are refused. Clauses may be empty, repeated, or hold a literal twice or with its negation.
+ * The text is DIMACS CNF: the line `p cnf n m`, then m clauses, each a list of literals closed by 0. Lines whose first byte is `c` are skipped, before that
+ * line and after it, also inside a clause; they count in offsets and in the text's length. Words are separated by spaces, tabs and line feeds; a number is an
+ * optional `-` and one to six digits without leading zeros. A carriage return is no blank: it belongs to a word, so that lines that end in one are refused.
+ * Clauses may be empty, repeated, or hold a literal twice or with its negation.
  * Refusals 1 to 6, the first fault from the left; then 23 for literals, then 23 for ends. */
 symbreak_stored symbreak_open(uint64_t variables, uint64_t clauses, uint64_t rows, uint64_t is_open, const uint8_t *text, size_t text_len,
                               uint16_t *literals, size_t literals_len, uint16_t *ends, size_t ends_len);

@@ -14,7 +14,7 @@ sys.path[:0] = [os.path.join(TESTS, "reference"), os.path.join(TESTS, "host")]
 import generate
 import reference
 
-# Document 01, "Tried on both edges".
+# Document 01, "Tried on both edges"; then CR 1.
 FIXED = [
     b"512 variables: 0 0",
     b"513 variables: 2 0",
@@ -23,6 +23,17 @@ FIXED = [
     b"row 64: 0 0",
     b"row 65: 22 0",
     b"rows: 64",
+    b"inside a clause: 0 0",
+    b"between clauses: 0 0",
+    b"after the problem line: 0 0",
+    b"as the last line: 0 0",
+    b"without a line feed: 0 0",
+    b"after no clauses: 0 0",
+    b"a blank first: 3 11",
+    b"a blank first, last: 6 15",
+    b"inside a line: 3 12",
+    b"comments alone: 6 16",
+    b"after a comment: 4 14",
 ]
 
 # How many inputs of each kind: refused with a number, or accepted with as many rows that move something.

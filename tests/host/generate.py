@@ -39,8 +39,25 @@ def blank(chance):
     return chance.choice([b" "] * 6 + [b"\t", b"  ", b" \t"])
 
 
+COMMENTS = [b"c", b"c", b"cnf 3 2", b"cp cnf 0 0", b"c 1 0", b"c0", b"c\t-1 0", b"c\r", b"cc", b"c \x00\xff", b"c bracket 7: p cnf 9 9 %", b"c" * 80]
+
+
+def commented(chance, data, most):
+    """The same text with comment lines put in after its problem line, the last at times without its line feed, and where each was put and how long it is."""
+    problem = re.match(rb"(c[^\n]*\n)*", data).end()
+    starts = [feed.end() for feed in re.finditer(rb"\n", data) if feed.end() > problem]
+    if not starts:
+        return data, []
+    put = [(at, chance.choice(COMMENTS) + b"\n") for at in sorted(chance.choices(starts, k=chance.randint(0, most)))]
+    if chance.random() < 0.2:
+        put.append((len(data), b"\n" * (data[-1:] != b"\n") + chance.choice(COMMENTS)))
+    for at, comment in reversed(put):
+        data = data[:at] + comment + data[at:]
+    return data, [(at, len(comment)) for at, comment in put]
+
+
 def text(chance, n, clauses):
-    """The text of a formula, with comment lines before it and clauses that span lines; at times a size is over its limit."""
+    """The text of a formula, with comment lines and clauses that span lines; at times a size is over its limit."""
     lines = [chance.choice([b"c", b"cnf 1 1", b"comment x"]) + b"\n" for _ in range(chance.choice([0, 0, 0, 1, 2]))]
     sizes = [n, len(clauses)]
     if chance.random() < 0.03:
@@ -50,7 +67,8 @@ def text(chance, n, clauses):
         between = chance.choice([b" ", b" ", b"\t", b"\n"])
         lines.append(between.join(b"%d" % literal for literal in [*clause, 0]) + chance.choice([b"\n", b"\n", b" ", b"\n\n"]))
     joined = b"".join(lines)
-    return joined.rstrip(b"\n") if chance.random() < 0.2 else joined
+    joined = joined.rstrip(b"\n") if chance.random() < 0.2 else joined
+    return commented(chance, joined, chance.choice([1, 4]))[0] if chance.random() < 0.4 else joined
 
 
 def line(chance, numbers):

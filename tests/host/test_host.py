@@ -105,6 +105,73 @@ class Stores(Agree):
         answers[number] = answers.get(number, 0) + 1
 
 
+COMMENTS = [
+    ("inside a clause", b"p cnf 2 1\n1\nc x 0\n2 0\n", ("done", 2, 1)),
+    ("before the closing zero", b"p cnf 2 1\n1 2\nc\n0\n", ("done", 2, 1)),
+    ("between clauses", b"p cnf 2 2\n1 0\nc x\nc\n2 0\n", ("done", 2, 2)),
+    ("right after the problem line", b"p cnf 2 1\nc x\n1 2 0\n", ("done", 2, 1)),
+    ("as the last line", b"p cnf 2 1\n1 2 0\nc x\n", ("done", 2, 1)),
+    ("as the last line, without its line feed", b"p cnf 2 1\n1 2 0\nc x", ("done", 2, 1)),
+    ("a `c` alone as the last byte", b"p cnf 2 1\n1 2 0\nc", ("done", 2, 1)),
+    ("where there are no clauses", b"p cnf 0 0\nc\n\nc x\n", ("done", 0, 0)),
+    ("a line like the rest of a problem line", b"p cnf 2 1\ncnf 3 2\n1 2 0\n", ("done", 2, 1)),
+    ("a carriage return before its line feed", b"p cnf 1 1\nc x\r\n1 0\n", ("done", 1, 1)),
+    ("only a line feed ends it", b"p cnf 1 1\nc x\r1 0\n", ("refused", 6, 18)),
+    ("only comments until the end", b"p cnf 2 1\nc x\nc\n", ("refused", 6, 16)),
+    ("only comments until the end, without a line feed", b"p cnf 2 1\nc x\nc", ("refused", 6, 15)),
+    ("a comment in a clause that is not closed", b"p cnf 2 1\n1\nc 0\n2\n", ("refused", 6, 18)),
+    ("a blank first", b"p cnf 2 1\n c x\n1 2 0\n", ("refused", 3, 11)),
+    ("a tab first", b"p cnf 2 1\n1\n\tc\n2 0\n", ("refused", 3, 13)),
+    ("a blank first, after the clauses", b"p cnf 2 1\n1 2 0\n c x\n", ("refused", 6, 17)),
+    ("in the middle of a line", b"p cnf 2 1\n1 c x\n2 0\n", ("refused", 3, 12)),
+    ("in the middle of a line, after the clauses", b"p cnf 2 1\n1 2 0 c\n", ("refused", 6, 16)),
+    ("on the problem line", b"p cnf 0 0 c\n", ("refused", 1, 0)),
+    ("a capital letter", b"p cnf 1 1\nC\n1 0\n", ("refused", 3, 10)),
+    ("a letter after comments", b"p cnf 1 1\nc x\nc y\n1 z 0\n", ("refused", 3, 20)),
+    ("a literal beyond n after a comment", b"p cnf 1 1\nc x\n2 0\n", ("refused", 4, 14)),
+    ("a word after the clauses and a comment", b"p cnf 1 1\n1 0\nc x\n1\n", ("refused", 6, 18)),
+]
+
+
+class Comments(Agree):
+    """CR 1: comment lines after the problem line."""
+
+    def test_cases(self):
+        for name, text, expected in COMMENTS:
+            with self.subTest(name):
+                self.assertEqual(self.open(fresh(), text), expected)
+
+    def test_limits(self):
+        """A remark above each of 4,096 clauses; then literal 12,289, its offset counted with them."""
+        clauses = [b"%d %d -%d 0\n" % (1 + i % 512, 1 + i * 7 % 512, 1 + i * 11 % 512) for i in range(4096)]
+        plain, remarked = fresh(literals=12288, ends=4096), fresh(literals=12288, ends=4096)
+        text = b"p cnf 512 4096\n" + b"".join(b"c bracket %d\n" % i + clause for i, clause in enumerate(clauses))
+        self.assertEqual(self.open(plain, b"p cnf 512 4096\n" + b"".join(clauses)), ("done", 512, 4096))
+        self.assertEqual(self.open(remarked, text), ("done", 512, 4096))
+        self.assertEqual(remarked.parts(), plain.parts())
+        self.assertEqual(self.open(remarked, text[:-2] + b"1\nc\n0\n"), ("refused", 5, len(text) - 2))
+
+    def test_put_in(self):
+        """Comments put into a text, in order or damaged: it opens to the same store, or is refused at the same word, so much further on as they are long."""
+        chance = random.Random(5)
+        seen = {}
+        for _ in range(1000):
+            n = chance.choice([0, 1, 2, 3, 9])
+            text = generate.text(chance, n, generate.formula(chance, n, 12)[0])
+            if chance.random() < 0.5:
+                text = generate.damaged(chance, text)
+            remarked, put = generate.commented(chance, text, 8)
+            before, after = fresh(), fresh()
+            answer, then = self.open(before, text), self.open(after, remarked)
+            if answer[0] == "refused":
+                answer = (*answer[:2], answer[2] + sum(size for at, size in put if at <= answer[2]))
+            self.assertEqual((then, after.parts()), (answer, before.parts()), (text, remarked))
+            kind = answer[1] if answer[0] == "refused" else None
+            seen[kind] = seen.get(kind, 0) + (put != [])
+        for kind in [None, 3, 4, 6]:
+            self.assertGreater(seen.get(kind, 0), 10, kind)
+
+
 class Compare(Agree):
     def test_edges(self):
         self.assertEqual(self.compare([], []), ("done", 0))

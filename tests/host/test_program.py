@@ -66,7 +66,9 @@ OPENINGS = [
     ("plus one", b"p cnf 1 1\n\n\t+1 0\n", "refused 3 12"),
     ("minus alone", b"p cnf 1 1\n- 0\n", "refused 3 10"),
     ("seven digits as a literal", b"p cnf 1 1\n1000000 0\n", "refused 3 10"),
-    ("a comment after the problem line", b"p cnf 1 1\nc\n1 0\n", "refused 3 10"),
+    ("a comment with a blank first", b"p cnf 1 1\n c\n1 0\n", "refused 3 11"),
+    ("a comment in the middle of a line", b"p cnf 1 1\n1 c\n0\n", "refused 3 12"),
+    ("a letter after a comment", b"p cnf 1 1\nc x\nx 0\n", "refused 3 14"),
     ("a carriage return after the zero", b"p cnf 1 1\n1 0\r\n", "refused 3 12"),
     ("a byte of 0", b"p cnf 1 1\n1 0\x00\n", "refused 3 12"),
     ("a byte of 255", b"p cnf 1 1\n\xff 0\n", "refused 3 10"),
@@ -81,7 +83,9 @@ OPENINGS = [
     ("a clause more", b"p cnf 2 1\n1 0\n2 0\n", "refused 6 14"),
     ("a letter after the clauses", b"p cnf 0 0\n x\n", "refused 6 11"),
     ("a literal beyond n after the clauses", b"p cnf 1 1\n1 0 2\n", "refused 6 14"),
-    ("a comment after the clauses", b"p cnf 0 0\nc\n", "refused 6 10"),
+    ("a comment with a blank first after the clauses", b"p cnf 0 0\n c\n", "refused 6 11"),
+    ("a clause more after a comment", b"p cnf 1 1\n1 0\nc\n1 0\n", "refused 6 16"),
+    ("only comments after the problem line", b"p cnf 1 1\nc\nc 1 0\n", "refused 6 18"),
     ("a clause less", b"p cnf 2 2\n1 2 0\n", "refused 6 16"),
     ("a clause not closed", b"p cnf 2 1\n1 2\n\n", "refused 6 15"),
 ]
@@ -185,11 +189,13 @@ class Program(unittest.TestCase):
 
     def test_divider(self):
         """Without a line that is just % it is 15, before all else; of several the first counts."""
-        for line, place in [(b"%%", 22), (b"% ", 22), (b" %", 23), (b"\t%", 23), (b"%\r", 22), (b"%x", 22), (b"c %", 22)]:
+        for line, place in [(b"%%", 22), (b"% ", 22), (b" %", 23), (b"\t%", 23), (b"%\r", 22), (b"%x", 22), (b" c %", 23)]:
             self.prints(LISTING.replace(b"%", line), b"refused 15 0\n")
             self.prints(LISTING.replace(b"%", line + b"\n%"), b"refused 6 %d\n" % place)
         for data in [b"", b"\n", b"x", PLAIN, b"p cnf 0 0%", b"p cnf 513 0\n", b"%%\n%\r\n"]:
             self.prints(data, b"refused 15 0\n")
+        self.prints(LISTING.replace(b"%", b"c %"), b"refused 15 0\n")
+        self.prints(LISTING.replace(b"%", b"c %\n%"), MADE)
         self.prints(b"p cnf 1 1\n1\n%\n0\n%\n", b"refused 6 12\n")
         self.prints(PLAIN + b"%\n%\n1 3\n3 1\n", b"refused 7 0\n")
 
@@ -204,6 +210,7 @@ class Program(unittest.TestCase):
     def test_layout(self):
         """Blanks, line ends and comments don't matter; order, repeats and empty clauses stay; the identity adds nothing."""
         self.prints(b"c %\ncp cnf 9 9\r\np\tcnf  3 \t2 \n\n1\n2 0 2\t3 0\n \n%\n\t3  1 \n1\t3", MADE)
+        self.prints(b"p cnf 3 2\nc\n1\nc % 0\n2 0 2\t3\ncnf 9 9\r\n0\nc 1\n%\n3 1\n1 3", MADE)
         self.prints(b"p cnf 2 6\n0 1 1 0 1 -1 0 0 2 2 2 0 -2 2 0\n%\n2 1\n2 1\n1 2\n",
                     b"p cnf 3 12\n0\n1 1 0\n1 -1 0\n0\n2 2 2 0\n-2 2 0\n-1 2 0\n-3 -1 2 0\n-3 1 -2 0\n3 1 2 0\n3 -1 -2 0\n-3 -2 1 0\n")
         self.prints(b"p cnf 0 0\n%\n", b"p cnf 0 0\n")

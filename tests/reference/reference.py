@@ -1,4 +1,4 @@
-"""Reference symmetry breaker: document 01 alone, written from the papers, naive on purpose.
+"""Reference symmetry breaker: document 01 with CR 1 of document 02, written from the papers, naive on purpose.
 
 A call answers ('refused', number, place) or ('done', value...).  A call that may write lent memory returns that
 answer followed by the new contents of each thing it may write; nothing lent is ever changed in place.
@@ -59,9 +59,9 @@ def overwritten(lent, new, at: int = 0):
     return type(lent)([*lent[:at], *new, *lent[at + len(new):]])
 
 
-def words(text: bytes, start: int = 0) -> List[Tuple[int, bytes]]:
+def words(text: bytes) -> List[Tuple[int, bytes]]:
     """"A word is a run of bytes other than space, tab and line feed", each with its offset."""
-    return [(found.start(), bytes(found.group())) for found in re.compile(rb"[^ \t\n]+").finditer(text, start)]
+    return [(found.start(), bytes(found.group())) for found in re.finditer(rb"[^ \t\n]+", text)]
 
 
 def number_of(word: bytes) -> Optional[int]:
@@ -99,10 +99,17 @@ def problem_counts(place: int, line: bytes) -> Tuple[int, int]:
     return n, m
 
 
-def read_clauses(text: bytes, start: int, n: int, m: int) -> List[Clause]:
+def body_words(text: bytes, problem: int) -> Iterator[Tuple[int, bytes]]:
+    """CR 1: "After the problem line, a line whose first byte is c is skipped, also inside a clause that spans lines"; offsets in the text as lent."""
+    for start, line in lines(text):
+        if start > problem and line[:1] != b"c":
+            yield from ((start + place, word) for place, word in words(line))
+
+
+def read_clauses(text: bytes, problem: int, n: int, m: int) -> List[Clause]:
     """"the first fault from the left counts, and at one word the lower number, but 6 goes before 3, 4 and 5"."""
     closed, current, count = [], [], 0
-    for place, word in words(text, start):
+    for place, word in body_words(text, problem):
         number = number_of(word)
         if len(closed) == m:
             raise Refusal(6, place)
@@ -133,7 +140,7 @@ def open_formula(record, text: bytes, literals, ends):
     """"Opening a formula replaces the old one and drops its rows"; "opening tries literals before ends" (23)."""
     place, line = problem_line(text)
     n, m = problem_counts(place, line)
-    formula = read_clauses(text, place + len(line), n, m)
+    formula = read_clauses(text, place, n, m)
     codes = [literal_code(literal) for clause_ in formula for literal in clause_]
     new_ends = list(accumulate(len(clause_) for clause_ in formula))
     if len(literals) < len(codes):

@@ -139,7 +139,7 @@ class OpeningReadings(unittest.TestCase):
             b"p cnf 1 -1": (1, 0), b"p cnf 999999 0": (2, 0), b" p cnf 0 0": (1, 0), b"pcnf 0 0": (1, 0),
             b"p cnf 0 0 0": (1, 0), b"p cnf 1 1 1 0": (1, 0), b"p cnf 1\n1\n0": (1, 0), b"p cnf 0 0 c x": (1, 0),
             b"px cnf 0 0": (1, 0), b"c\rc\np cnff 0 0": (1, 4), b"p cnf 1 1\n1 0\r": (3, 12),
-            b"p cnf 1 1\n c x": (3, 11), b"p cnf 1 1\nc x\n1 0": (3, 10), b"p cnf 1 1\n1 0\nc": (6, 14),
+            b"p cnf 1 1\n c x": (3, 11), b"p cnf 1 1\n1 c": (3, 12), b"p cnf 1 1\n1 0\n c": (6, 15),
             b"p cnf 3 1\n-4 0": (4, 10), b"p cnf 0 1\n1 0": (4, 10), b"p cnf 3 1\n1 2": (6, 13),
             b"p cnf 3 1\n1 2 \n": (6, 15), b"p cnf 3 0\nx": (6, 10), b"p cnf 3 0\n4": (6, 10),
             b"p cnf 3 0 \n 0": (6, 12), b"p cnf 3 1": (6, 9), b"p cnf 3 1\n999999 0": (4, 10),
@@ -149,6 +149,16 @@ class OpeningReadings(unittest.TestCase):
         for text in (b"p\tcnf  0 0 \t\n\n \t\n", b"cnf 3 2\ncp cnf 0 0\ncomment\r\np cnf 0 0",
                      b"p cnf 1 2 \n\n0 -1 1\n\n1\n0"):
             self.assertEqual(opening(text)[0], "done", text)
+
+    def test_comments(self):
+        """CR 1 and readings A8 to A11."""
+        for body in (b"1\nc x 0\n2 0", b"c\n1 2 0", b"1 2\nc\n0\n", b"1 2 0\nc x\n", b"1 2 0\nc", b"cnf 3 2\n1 2 0\ncp cnf 0 0\ncomment\r\n"):
+            host = Host(b"p cnf 2 1\n" + body)
+            self.assertEqual((host.answer, host.literals[:3], host.ends[:2]), (("done", 2, 1), [2, 4, 9], [2, 8]), body)
+        cases = {b" c x\n1 2 0": (3, 11), b"1 2 0\n c x": (6, 17), b"1 c\n2 0": (3, 12), b"1 2 0 c": (6, 16), b"c x\nc\n": (6, 16), b"c x\nc": (6, 15),
+                 b"c x\n1 3 0": (4, 16), b"1\nc x\ny 0": (3, 16), b"1 2 0\nc x\n1": (6, 20), b"c x\r1 2 0": (6, 19)}
+        for body, refusal in cases.items():
+            self.assertEqual(opening(b"p cnf 2 1\n" + body), ("refused", *refusal), body)
 
     def test_literal_12289(self):
         full = b"p cnf 1 2\n" + b"1 " * 12288

@@ -1,5 +1,5 @@
-// Document 01's unstarred cases ("Tried on both edges"), run: each line is a case, its refusal (0 for none) and its place. Then random inputs of the
-// program, read from standard input, with what it prints for each; the script `make_batch.py` makes them and, by the reference, what is expected.
+// Document 01's unstarred cases ("Tried on both edges") and CR 1's comments, run: each line is a case, its refusal (0 for none) and its place. Then random inputs of
+// the program, read from standard input, with what it prints for each; the script `make_batch.py` makes them and, by the reference, what is expected.
 use dimacs::Reading;
 use offering::Offered;
 use opening::Opened;
@@ -13,6 +13,8 @@ fn main() {
     opened(b"nothing at all: ", b"p cnf 0 0");
     opened(b"minus zero: ", b"p cnf 1 1\n-0 0\n");
     rows();
+    comments();
+    words();
     batch();
 }
 
@@ -89,6 +91,25 @@ fn show(name: &[u8], refusal: u32, place: usize) {
     io::write_all(1, b" ");
     io::print_decimal(1, place as u64);
     io::write_all(1, b"\n");
+}
+
+// Comment lines after the problem line are skipped, wherever they stand.
+fn comments() {
+    opened(b"inside a clause: ", b"p cnf 2 1\n1\nc 0\n2 0\n");
+    opened(b"between clauses: ", b"p cnf 2 2\n1 0\nc x\n2 0\n");
+    opened(b"after the problem line: ", b"p cnf 1 1\nc x\n1 0\n");
+    opened(b"as the last line: ", b"p cnf 1 1\n1 0\nc x\n");
+    opened(b"without a line feed: ", b"p cnf 1 1\n1 0\nc");
+    opened(b"after no clauses: ", b"p cnf 0 0\ncnf 3 2\n");
+}
+
+// What is no comment is refused where it stands, comments before it counted.
+fn words() {
+    opened(b"a blank first: ", b"p cnf 1 1\n c x\n1 0\n");
+    opened(b"a blank first, last: ", b"p cnf 1 1\n1 0\n c x\n");
+    opened(b"inside a line: ", b"p cnf 1 1\n1 c\n0\n");
+    opened(b"comments alone: ", b"p cnf 1 1\nc x\nc\n");
+    opened(b"after a comment: ", b"p cnf 1 1\nc x\n2 0\n");
 }
 
 // Each input of the batch follows its length, which has a line of its own.

@@ -31,7 +31,7 @@ struct Digits {
     value: u32,
 }
 
-// The start of the first word at or after `at`, or the text's length. What lies between words is decided here alone.
+// The start of the first word at or after `at`, or the text's length. What lies between the words of a line is decided here alone.
 pub fn next_word(text: &[u8], at: usize) -> usize
     ensures { λ r. ⌜ r ≡ runEnd isBlank (now (text .entry)) at ⌝ }
 {

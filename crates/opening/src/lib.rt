@@ -1,4 +1,4 @@
-// Opening: a text into the store (document 01, "Plain formula", refusals 1 to 6 and 23). The text is judged whole before anything is
+// Opening: a text into the store (document 01, "Plain formula", refusals 1 to 6 and 23; CR 1). The text is judged whole before anything is
 // written, so that a refused opening changes nothing. What carries the proofs: a text is a list of lines up to the problem line and a list
 // of words after it, and each pass is a walk through such a list.
 use dimacs::Reading;
@@ -162,7 +162,7 @@ fn same_bytes(a: &[u8], b: &[u8]) -> bool
     true
 }
 
-// Judges the words from `start` on and counts the literals. After m clauses every word is refusal 6, so it is not even read.
+// Judges the words past the end of the problem line and counts the literals. After m clauses every word is refusal 6, so it is not even read.
 fn scan(text: &[u8], start: usize, n: usize, m: usize) -> Scanned
     requires { ⌜ Between (now text) start ⌝ }
     ensures { λ r. ⌜ r ≡ scanFrom (length (now (text .entry))) n m 0 0 (wordsPast (now (text .entry)) start) ⌝ }

@@ -39,7 +39,7 @@ static struct world {
     uint8_t out[MAX_LINE];
     uint64_t last[6], said; /* last: the refusal, its place, and the value, moves or rows; then what else was answered */
 } w;
-static uint8_t text[1 << 17], names[1 << 12], values[1 << 12];
+static uint8_t text[1 << 18], names[1 << 12], values[1 << 12];
 static size_t text_len, names_len, values_len;
 static uint64_t step; /* from one clause written to the next */
 
@@ -139,10 +139,12 @@ static void full_rows(unsigned rows)
         for (unsigned i = 0; i < w.n; i++) w.images[r * w.n + i] = (uint16_t)shifted(2 * (i + 1), 4 * (r + 1));
 }
 
-static void write_text(void)
+/* With a remark above each clause, as an editor writes it, or without. */
+static void write_text(int remarks)
 {
     uint8_t *end = text + sprintf((char *)text, "p cnf %d %d\n", (int)w.n, (int)w.m);
     for (unsigned c = 0, i = 0; c < w.m; c++) {
+        if (remarks) end += sprintf((char *)end, "c bracket %u, seat %u\n", c / 8, c % 8);
         for (; i < w.ends[c]; i++) end = plain_put(end, w.literals[i] % 2 ? -(w.literals[i] / 2) : w.literals[i] / 2, ' ');
         end = plain_put(end, 0, '\n');
     }
@@ -181,7 +183,8 @@ static void spoil(unsigned c)
     }
 }
 
-static void to_open(unsigned n, unsigned m, unsigned rows) { closed_formula(n, m), full_rows(rows), write_text(), memset(&w, 0, sizeof w); }
+static void to_open(unsigned n, unsigned m, unsigned rows) { closed_formula(n, m), full_rows(rows), write_text(0), memset(&w, 0, sizeof w); }
+static void to_open_remarked(unsigned n, unsigned m, unsigned rows) { closed_formula(n, m), full_rows(rows), write_text(1), memset(&w, 0, sizeof w); }
 static void to_offer(unsigned n, unsigned m, unsigned rows) { closed_formula(n, m), full_rows(rows - 1), write_offer(); }
 static void to_refuse_last(unsigned n, unsigned m, unsigned rows) { to_offer(n, m, rows), spoil(m - 1); }
 static void to_refuse_first(unsigned n, unsigned m, unsigned rows) { to_offer(n, m, rows), spoil(0); }
@@ -255,6 +258,7 @@ typedef struct {
 
 static const job jobs[] = {
     {"open: 512 variables, 4,096 clauses, 12,288 literals", to_open, open, 512, 4096, 0, 0, 0},
+    {"open the same with a remark above each clause", to_open_remarked, open, 512, 4096, 0, 0, 0},
     {"offer accepted, the same formula, row 64", to_offer, offer, 512, 4096, 64, 0, 64},
     {"offer refused at clause 4,096", to_refuse_last, offer, 512, 4096, 64, SYMBREAK_NO_SYMMETRY, 4096},
     {"offer refused at clause 1", to_refuse_first, offer, 512, 4096, 64, SYMBREAK_NO_SYMMETRY, 1},

@@ -3,13 +3,14 @@ use mathlib.Core.Path.{_≡_, refl, _∙_}
 use mathlib.Core.Bool.{Bool, true, false, cond, not}
 use mathlib.Core.List.{List, [], _∷_}
 use mathlib.Core.Logic.{⊎-elim}
-use Prim.Native.Nat.{ℕ, zero, suc, _+_, _≤_, _<_}
+use Prim.Native.Nat.{ℕ, suc, _+_, _≤_, _<_}
 use native.Mathlib.Omega.{arith}
 use borrow.Author.Tests.{eq-eqb, ne-eqb, eqb-true}
 use lib.ListN.{length, drop, getD}
 use lib.Seq.{drop-cons}
 use lib.Dec.{eqb}
 use Rattle.lists.proofs.Cases.{lt-or-le, eq-or-ne}
+use Rattle.lists.proofs.Steps.{forward}
 use Rattle.dimacs.specs.Words.{run, runEnd}
 use Rattle.dimacs.specs.Lines.{isLineByte, linesAt}
 use Rattle.dimacs.proofs.LineLaws.{no-line, line-here}
@@ -43,19 +44,15 @@ module _ (text : List ℕ) where
   abbrev From : ℕ → Type 0
   From at = (place : ℕ) × (afterComments (linesAt text at) ≡ linesAt text place)
 
-  lines-in : (steps at : ℕ) → length text ≤ at + steps → From at
-  lines-in zero at h = (at, no-lines text at (omega arith))
-  lines-in (suc steps) at h = by (lines-in steps)
+  pub lines-from : From 0
+  lines-from = forward (length text) From (λ at h. (at, no-lines text at h)) here 0
     where
-      by : ((next : ℕ) → length text ≤ next + steps → From next) → From at
-      by ih = ⊎-elim within (λ k. (at, no-lines text at k)) (lt-or-le at (length text))
+      here : (at : ℕ) → ((next : ℕ) → at < next → From next) → From at
+      here at later = ⊎-elim within (λ h. (at, no-lines text at h)) (lt-or-le at (length text))
         where
           within : at < length text → From at
-          within k =
+          within h =
               ⊎-elim
-              (λ c. let r = ih (runEnd isLineByte text at + 1) (omega arith) in (r .0, comment text at k c ∙ r .1))
-              (λ c. (at, no-comment text at k c))
+              (λ c. let r = later (runEnd isLineByte text at + 1) (omega arith) in (r .0, comment text at h c ∙ r .1))
+              (λ c. (at, no-comment text at h c))
               (eq-or-ne (getD text at 0) 99)
-
-  pub lines-from : From 0
-  lines-from = lines-in (length text) 0 (omega arith)

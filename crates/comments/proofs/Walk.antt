@@ -9,6 +9,7 @@ use borrow.Author.Tests.{eq-eqb, ne-eqb, eqb-true, not-false}
 use lib.ListN.{length, getD, List·getD-eq-default}
 use lib.Dec.{eqb}
 use Rattle.lists.proofs.Cases.{never, and-l, and-r, lt-or-le, eq-or-ne}
+use Rattle.lists.proofs.Steps.{forward}
 use Rattle.dimacs.specs.Words.{isBlank, isWordByte, runEnd, Piece}
 use Rattle.dimacs.specs.Numbers.{wordAt}
 use Rattle.dimacs.specs.Lines.{isLineByte, linesAt}
@@ -170,24 +171,19 @@ data First (text : List ℕ) (at : ℕ) : Type 0 where
       → wordsPast text at ≡ pieceAt text place ∷ wordsPast text (runEnd isWordByte text place) → First text at
 
 module _ (text : List ℕ) where
-  later : (at next : ℕ) → at ≤ next → wordsPast text at ≡ wordsPast text next → First text next → First text at
-  later at next h e (First.none q) = First.none (e ∙ q)
-  later at next h e (First.word place k within ink q) = First.word place (omega arith) within ink (e ∙ q)
-
-  -- by the steps that are left at most
-  first-in : (steps at : ℕ) → length text ≤ at + steps → First text at
-  first-in zero at h = First.none (past-end text at (omega arith))
-  first-in (suc steps) at h = by (first-in steps) (step text at)
-    where
-      by : ((next : ℕ) → length text ≤ next + steps → First text next) → Step text at → First text at
-      by ih (Step.ends e) = First.none (past-end text at e)
-      by ih (Step.word within ink) = First.word at (omega arith) within ink (past-word text at within ink)
-      by ih (Step.blank within b e) = later at (at + 1) (omega arith) e (ih (at + 1) (omega arith))
-      by ih (Step.comment within f c e) =
-          later at (runEnd isLineByte text (at + 1)) (omega arith) e (ih (runEnd isLineByte text (at + 1)) (omega arith))
+  passed : (at next : ℕ) → at ≤ next → wordsPast text at ≡ wordsPast text next → First text next → First text at
+  passed at next h e (First.none q) = First.none (e ∙ q)
+  passed at next h e (First.word place k within ink q) = First.word place (omega arith) within ink (e ∙ q)
 
   first : (at : ℕ) → First text at
-  first at = first-in (length text) at (omega arith)
+  first = forward (length text) (First text) (λ at h. First.none (past-end text at h)) (λ at later. by at later (step text at))
+    where
+      by : (at : ℕ) → ((next : ℕ) → at < next → First text next) → Step text at → First text at
+      by at later (Step.ends e) = First.none (past-end text at e)
+      by at later (Step.word within ink) = First.word at (omega arith) within ink (past-word text at within ink)
+      by at later (Step.blank within b e) = passed at (at + 1) (omega arith) e (later (at + 1) (omega arith))
+      by at later (Step.comment within f c e) =
+          passed at (runEnd isLineByte text (at + 1)) (omega arith) e (later (runEnd isLineByte text (at + 1)) (omega arith))
 
   -- ---- what `next_word` says: there is no further word, or the next one stands at `place`
 
@@ -232,17 +228,16 @@ pub record Stands (text : List ℕ) (w : Piece) : Type 0 where
   pub bytes : w .bytes ≡ wordAt text (w .place)
 
 module _ (text : List ℕ) (w : Piece) where
-  stands-in : (steps at : ℕ) → length text ≤ at + steps → List·Memᴰ w (wordsPast text at) → Stands text w
-  stands-in zero at h m = absurd (List·Memᴰ·not-nil (rw (past-end text at (omega arith)) at m))
-  stands-in (suc steps) at h m = by (stands-in steps) (first text at)
+  abbrev From : ℕ → Type 0
+  From at = List·Memᴰ w (wordsPast text at) → Stands text w
+
+  pub stands : (at : ℕ) → From at
+  stands = forward (length text) From (λ at h m. absurd (List·Memᴰ·not-nil (rw (past-end text at h) at m))) (λ at later m. by at later m (first text at))
     where
-      by : ((next : ℕ) → length text ≤ next + steps → List·Memᴰ w (wordsPast text next) → Stands text w) → First text at → Stands text w
-      by ih (First.none e) = absurd (List·Memᴰ·not-nil (rw e at m))
-      by ih (First.word place k within ink e) =
+      by : (at : ℕ) → ((next : ℕ) → at < next → From next) → List·Memᴰ w (wordsPast text at) → First text at → Stands text w
+      by at later m (First.none e) = absurd (List·Memᴰ·not-nil (rw e at m))
+      by at later m (First.word place k within ink e) =
           ⊎-elim
           (λ q. rw q (record { within = within; starts = ink; bytes = refl }))
-          (λ q. ih (runEnd isWordByte text place) (omega (arith, run-forward isWordByte text place within (opposite-true (isBlank (getD text place 0)) ink))) q)
+          (later (runEnd isWordByte text place) (omega (arith, run-forward isWordByte text place within (opposite-true (isBlank (getD text place 0)) ink))))
           (List·Memᴰ·cases-cons (rw e at m))
-
-  pub stands : (at : ℕ) → List·Memᴰ w (wordsPast text at) → Stands text w
-  stands at m = stands-in (length text) at (omega arith) m

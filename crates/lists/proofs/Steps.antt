@@ -1,9 +1,10 @@
--- A loop over a list from index i on: what is left is its first element and the rest, and what that means for a test. Assumes nothing.
+-- A loop over a list from index i on: what is left is its first element and the rest, and what that means for a test; and a walk forward to an end. Assumes nothing.
 use mathlib.Core.Path.{_≡_}
 use mathlib.Core.Bool.{Bool, true, false}
 use mathlib.Core.List.{List, _∷_}
-use Prim.Native.Nat.{ℕ, _+_, _≤_, _<_}
+use Prim.Native.Nat.{ℕ, zero, suc, _+_, _≤_, _<_}
 use native.Mathlib.Numerals.{add-one}
+use native.Mathlib.Omega.{arith}
 use lib.ListN.{length, getD, drop, drop-of-length-le}
 use lib.Seq.{drop-cons}
 use Rattle.lists.specs.Tests.{anyOf, allOf}
@@ -35,3 +36,12 @@ module _ {A : Type 0} (q : A → Bool) (l : List A) (i : ℕ) where
   pub any-drop-end : length l ≤ i → anyOf q (drop i l) ≡ false
   unfolding anyOf
   any-drop-end h = rw (drop-of-length-le l {i = i} h)
+
+-- what holds from an end on, and at a place before it where it holds at all later ones, holds everywhere
+module _ (end : ℕ) (P : ℕ → Type 0) (past : (at : ℕ) → end ≤ at → P at) (here : (at : ℕ) → ((next : ℕ) → at < next → P next) → P at) where
+  forward-in : (steps at : ℕ) → end ≤ at + steps → P at
+  forward-in zero at h = past at (omega arith)
+  forward-in (suc steps) at h = here at (λ next k. forward-in steps next (omega arith))
+
+  pub forward : (at : ℕ) → P at
+  forward at = forward-in end at (omega arith)

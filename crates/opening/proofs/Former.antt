@@ -4,7 +4,7 @@ use mathlib.Core.Path.{_≡_, refl, sym, ap, _∙_}
 use mathlib.Core.Bool.{Bool, true, false, cond, not, _&&_}
 use mathlib.Core.List.{List, _∷_}
 use mathlib.Core.Logic.{_⊎_, inl, inr, ⊎-elim}
-use Prim.Native.Nat.{ℕ, zero, suc, _+_, _-_, _≤_, _<_}
+use Prim.Native.Nat.{ℕ, _+_, _-_, _≤_, _<_}
 use native.Mathlib.Numerals.{add-one}
 use native.Mathlib.Omega.{arith}
 use lib.ListN.{length, drop, getD}
@@ -12,6 +12,7 @@ use lib.Seq.{drop-cons}
 use lib.Dec.{eqb, leb, ltb}
 use Rattle.lists.specs.Tests.{allOf}
 use Rattle.lists.proofs.Cases.{never, eq-or-ne}
+use Rattle.lists.proofs.Steps.{forward}
 use Rattle.dimacs.specs.Words.{isBlank, isWordByte, run, runEnd, Piece, wordsFrom, wordsAt}
 use Rattle.dimacs.specs.Numbers.{Size, Numeral, isDigit, digitsOf, padded, sizeOf, numeralOf, wordAt}
 use Rattle.dimacs.proofs.Runs.{run-stop, run-end, run-forward, opposite-true}
@@ -25,8 +26,8 @@ use Rattle.store.specs.Numerals.{codeIn, isNumeral}
 use Rattle.store.specs.Stores.{maxLiterals}
 use Rattle.store.specs.declared.refusal.Refusal.{Refusal}
 use Rattle.opening.specs.Problem.{problemOf}
-use Rattle.opening.specs.Clauses.{scanFrom}
-use Rattle.opening.specs.Opening.{bodyOf, openedIf, openedAfter, openedBy}
+use Rattle.opening.specs.Clauses.{scanFrom, literalsIn, endsFrom}
+use Rattle.opening.specs.Opening.{bodyOf, openedIf, openedAfter, openedBy, written}
 use Rattle.opening.specs.Former.{formerBodyOf, formerlyOpenedBy}
 use Rattle.opening.specs.declared.Problem.{Problem}
 use Rattle.opening.specs.declared.Scanned.{Scanned}
@@ -138,18 +139,17 @@ module _ (text : List ℕ) where
         let none = no-word text at at (sym (run-end isBlank text at h)) h in
         λ closed count. rw (none, past-end text at h) (same refl (λ total d. refl))
 
-    alike-in : (steps at : ℕ) → length text ≤ at + steps → From at
-    alike-in zero at h = both-end at (omega arith)
-    alike-in (suc steps) at h = by (alike-in steps) (step text at)
+    from : (at : ℕ) → From at
+    from = forward (length text) From both-end (λ at later. by at later (step text at))
       where
-        by : ((next : ℕ) → length text ≤ next + steps → From next) → Step text at → From at
-        by ih (Step.ends e) = both-end at e
-        by ih (Step.word within ink) =
+        by : (at : ℕ) → ((next : ℕ) → at < next → From next) → Step text at → From at
+        by at later (Step.ends e) = both-end at e
+        by at later (Step.word within ink) =
             let here = next-word text at at (sym (run-stop isBlank text at within ink)) within in
-            let forward = run-forward isWordByte text at within (opposite-true (isBlank (getD text at 0)) ink) in
-            rw (here, past-word text at within ink) (word-alike (pieceAt text at) _ _ (ih (runEnd isWordByte text at) (omega arith)))
-        by ih (Step.blank within b e) = rw (words-blank text at within b, e) (ih (at + 1) (omega arith))
-        by ih (Step.comment within feed letter e) =
+            let ahead = run-forward isWordByte text at within (opposite-true (isBlank (getD text at 0)) ink) in
+            rw (here, past-word text at within ink) (word-alike (pieceAt text at) _ _ (later (runEnd isWordByte text at) ahead))
+        by at later (Step.blank within b e) = rw (words-blank text at within b, e) (later (at + 1) (omega arith))
+        by at later (Step.comment within feed letter e) =
             λ closed count.
             comment-stops at within feed letter _ _
             (words-blank text at (omega arith) (feed-blank (getD text at 0) feed)
@@ -157,7 +157,7 @@ module _ (text : List ℕ) where
             closed count
 
     alike : (at : ℕ) → Scans 0 0 (wordsAt text at) (wordsPast text at)
-    alike at = alike-in (length text) at (omega arith) 0 0
+    alike at = from at 0 0
 
 -- ---- the theorems
 
@@ -168,10 +168,11 @@ pub data Kept (text : List ℕ) (literals ends : ℕ) : Type 0 where
       → (formerlyOpenedBy text literals ends ≡ Opened.Refused (Refusal.NotNumber place)) ⊎ (formerlyOpenedBy text literals ends ≡ Opened.Refused (Refusal.ClauseCount place))
       → Kept text literals ends
 
--- "Texts that opened before open to the same store": the answer is as it was, and so are the words, of which the store's literals and ends are (the contract of `open`)
-pub record SameStore (text : List ℕ) (literals ends n m : ℕ) : Type 0 where
-  pub answer : openedBy text literals ends ≡ Opened.Open n m
-  pub body : bodyOf text ≡ formerBodyOf text
+-- "Texts that opened before open to the same store": what `open` answers and what it leaves in the slices, by its contract, is what the former rule gives
+pub record SameStore (text literals ends : List ℕ) (former : Opened) : Type 0 where
+  pub answer : openedBy text (length literals) (length ends) ≡ former
+  pub literals-left : written (openedBy text (length literals) (length ends)) (literalsIn (bodyOf text)) literals ≡ written former (literalsIn (formerBodyOf text)) literals
+  pub ends-left : written (openedBy text (length literals) (length ends)) (endsFrom 0 (bodyOf text)) ends ≡ written former (endsFrom 0 (formerBodyOf text)) ends
 
 module _ (text : List ℕ) where
   -- by what the problem line says
@@ -184,9 +185,6 @@ module _ (text : List ℕ) where
     unfolding formerlyOpenedBy
     former-scan literals ends = rw (line, former-body)
 
-    new-scan : (literals ends : ℕ) → openedBy text literals ends ≡ openedIf (scanFrom (length text) n m 0 0 (wordsPast text end)) n m literals ends
-    new-scan literals ends = opened-past text n m end line literals ends
-
   pub kept : (literals ends : ℕ) → Kept text literals ends
   unfolding formerlyOpenedBy openedBy
   kept literals ends = by (problemOf text) refl
@@ -197,7 +195,7 @@ module _ (text : List ℕ) where
         where
           go : Alike text (scanFrom (length text) n m 0 0 (wordsAt text end)) (scanFrom (length text) n m 0 0 (wordsPast text end)) (wordsAt text end) (wordsPast text end)
               → Kept text literals ends
-          go (Alike.same q words) = same-answer (former-scan n m end e literals ends ∙ rw q (sym (new-scan n m end e literals ends)))
+          go (Alike.same q words) = same-answer (former-scan n m end e literals ends ∙ rw q (sym (opened-past text n m end e literals ends)))
           go (Alike.stopped place c q) =
               met-comment place c
               (⊎-elim
@@ -205,11 +203,15 @@ module _ (text : List ℕ) where
               (λ k. inr (former-scan n m end e literals ends ∙ rw k))
               q)
 
-  pub same-store : (literals ends n m : ℕ) → formerlyOpenedBy text literals ends ≡ Opened.Open n m → SameStore text literals ends n m
+  record SameWords (literals ends n m : ℕ) : Type 0 where
+    answer : openedBy text literals ends ≡ Opened.Open n m
+    body : bodyOf text ≡ formerBodyOf text
+
+  same-words : (literals ends n m : ℕ) → formerlyOpenedBy text literals ends ≡ Opened.Open n m → SameWords literals ends n m
   unfolding formerlyOpenedBy
-  same-store literals ends n m opened = by (problemOf text) refl opened
+  same-words literals ends n m opened = by (problemOf text) refl opened
     where
-      by : (p : Problem) → problemOf text ≡ p → openedAfter p (formerBodyOf text) (length text) literals ends ≡ Opened.Open n m → SameStore text literals ends n m
+      by : (p : Problem) → problemOf text ≡ p → openedAfter p (formerBodyOf text) (length text) literals ends ≡ Opened.Open n m → SameWords literals ends n m
       by (Problem.Refused r) e q = never (cc)
       by (Problem.Line a b end) e q = go (alike text a b end)
         where
@@ -220,10 +222,17 @@ module _ (text : List ℕ) where
           done = room (scanFrom (length text) a b 0 0 (wordsAt text end)) a b literals ends n m was .0
 
           go : Alike text (scanFrom (length text) a b 0 0 (wordsAt text end)) (scanFrom (length text) a b 0 0 (wordsPast text end)) (wordsAt text end) (wordsPast text end)
-              → SameStore text literals ends n m
+              → SameWords literals ends n m
           go (Alike.same k words) =
               record {
-                answer = new-scan a b end e literals ends ∙ rw (← k) was;
+                answer = opened-past text a b end e literals ends ∙ rw (← k) was;
                 body = body-past text a b end e ∙ sym (words (done .count) (done .done)) ∙ sym (former-body a b end e);
               }
           go (Alike.stopped place c k) = ⊎-elim (λ r. never (cc (r, done .done))) (λ r. never (cc (r, done .done))) k
+
+pub same-store : (text literals ends : List ℕ) (n m : ℕ) → formerlyOpenedBy text (length literals) (length ends) ≡ Opened.Open n m
+    → SameStore text literals ends (formerlyOpenedBy text (length literals) (length ends))
+same-store text literals ends n m opened =
+    let s = same-words text (length literals) (length ends) n m opened in
+    let answer = s .answer ∙ sym opened in
+    record { answer = answer; literals-left = rw (answer, s .body); ends-left = rw (answer, s .body) }

@@ -130,7 +130,7 @@ symbreak_stored plain_open(RECORD, const uint8_t *text, size_t text_len, uint16_
     if (variables > MAX_N || clauses > MAX_M) REFUSE(SYMBREAK_SIZE_OVER_LIMIT, line);
     in.end = text_len;
     while ((kind = next(&in, &v)) != END) {
-        if (kind == OTHER && text[in.start] == 'c' && text[in.start - 1] == '\n') { /* a comment: none starts with a number */
+        if (kind == OTHER && text[in.start] == 'c' && text[in.start - 1] == '\n') { /* a comment, whose first word is no number */
             in.at = line_end(text, in.start, text_len);
             continue;
         }

@@ -15,7 +15,7 @@ use Rattle.dimacs.specs.Numbers.{wordAt}
 use Rattle.dimacs.specs.Lines.{isLineByte, linesAt}
 use Rattle.dimacs.proofs.Runs.{run-past, run-forward, run-within, there, opposite-true}
 use Rattle.dimacs.proofs.WordLaws.{pieceAt}
-use Rattle.comments.specs.Comments.{wordsIn, wordsPast, Between, firstPlace}
+use Rattle.comments.specs.Comments.{wordsIn, startsComment, wordsPast, Between, firstPlace}
 use Rattle.comments.proofs.WordLaws.{past-end, line-comment, line-other, past-blank, past-feed, past-word}
 
 -- a blank is no `c`, nor is what ends a line
@@ -89,8 +89,8 @@ module _ (text : List ℕ) where
   pub left-start : (at : ℕ) → Between text at → wordsPast text at ≡ left text at
   left-start at b = sym (left-other at (between-other text at b))
 
-  pub left-word : (i : ℕ) → (eqb (getD text i 0) 99 && eqb (getD text (i - 1) 0) 10) ≡ false → left text i ≡ wordsPast text i
-  unfolding left
+  pub left-word : (i : ℕ) → startsComment text i ≡ false → left text i ≡ wordsPast text i
+  unfolding left startsComment
   left-word i e = by (eqb (getD text (i - 1) 0) 10) (eqb (getD text i 0) 99) refl e
     where
       by : (t u : Bool) → eqb (getD text i 0) 99 ≡ u → (u && t) ≡ false → cond t (wordsIn (linesAt text i)) (wordsPast text i) ≡ wordsPast text i
@@ -103,8 +103,8 @@ module _ (text : List ℕ) where
     pub words : left text i ≡ left text (runEnd isLineByte text i)
     pub forward : i < runEnd isLineByte text i
 
-  pub comment-passed : (i : ℕ) → i < length text → (eqb (getD text i 0) 99 && eqb (getD text (i - 1) 0) 10) ≡ true → Comment i
-  unfolding left
+  pub comment-passed : (i : ℕ) → i < length text → startsComment text i ≡ true → Comment i
+  unfolding left startsComment
   comment-passed i h e =
       let c : getD text i 0 ≡ 99 = eqb-true (getD text i 0) 99 (and-l (eqb (getD text i 0) 99) (eqb (getD text (i - 1) 0) 10) e) in
       record {
@@ -142,6 +142,13 @@ pub data Step (text : List ℕ) (at : ℕ) : Type 0 where
   blank : at < length text → isBlank (getD text at 0) ≡ true → wordsPast text at ≡ wordsPast text (at + 1) → Step text at
   comment : at + 1 < length text → getD text at 0 ≡ 10 → getD text (at + 1) 0 ≡ 99
       → wordsPast text at ≡ wordsPast text (runEnd isLineByte text (at + 1)) → Step text at
+
+-- the comment of such a step
+pub starts : (text : List ℕ) (at : ℕ) → getD text at 0 ≡ 10 → getD text (at + 1) 0 ≡ 99 → startsComment text (at + 1) ≡ true
+unfolding startsComment
+starts text at feed letter =
+    let back : at + 1 - 1 ≡ at = omega arith in
+    rw (letter, back, feed)
 
 pub step : (text : List ℕ) (at : ℕ) → Step text at
 step text at = ⊎-elim within ends (lt-or-le at (length text))

@@ -1,7 +1,7 @@
 -- Comment lines (document 01, "Plain formula"; document 02, CR 1). Assumes nothing.
-use Prim.Native.Nat.{ℕ, _+_, _≤_}
+use Prim.Native.Nat.{ℕ, _+_, _-_, _≤_}
 use mathlib.Core.Path.{_≡_}
-use mathlib.Core.Bool.{Bool, true, cond}
+use mathlib.Core.Bool.{Bool, true, cond, _&&_}
 use mathlib.Core.List.{List, [], _∷_, _++_}
 use lib.ListN.{length, drop, getD}
 use lib.Dec.{eqb}
@@ -22,6 +22,10 @@ afterComments (line ∷ lines) = cond (isComment line) (afterComments lines) (li
 unfoldable pub wordsIn : List Piece → List Piece
 wordsIn [] = []
 wordsIn (line ∷ lines) = cond (isComment line) (wordsIn lines) (wordsFrom true (line .place) (line .bytes) ++ wordsIn lines)
+
+-- a comment starts at the place: a `c` stands there, after a line feed
+unfoldable pub startsComment : List ℕ → ℕ → Bool
+startsComment text at = eqb (getD text at 0) 99 && eqb (getD text (at - 1) 0) 10
 
 -- ---- from a place inside a line that is no comment
 

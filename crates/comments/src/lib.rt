@@ -1,13 +1,12 @@
-// Comment lines (document 01, "Plain formula", and CR 1): the lines of a text whose first byte is `c`, before its problem line and after it. Names and value lines know
-// none, so that `dimacs` does not either. What carries the proofs: from a place inside a line that is no comment, the words that are left are those of the rest of the line
-// and of the later lines but for the comments, and each step of a walk leaves them as they are.
+// Comment lines (document 01, "Plain formula", and CR 1): the lines of a text whose first byte is `c`, before its problem line and after it.
+// Names and value lines know none, so that `dimacs` does not either. What carries the proofs: from a place inside a line that is no comment,
+// the words that are left are those of the rest of the line and of the later lines but for the comments, and each step of a walk leaves them
+// as they are.
 ghost use mathlib.Core.Path.{_≡_};
-ghost use mathlib.Core.Bool.{_&&_};
-ghost use Prim.Native.Nat.{_-_, _≤_, _<_};
-ghost use lib.ListN.{length, getD};
-ghost use lib.Dec.{eqb};
+ghost use Prim.Native.Nat.{_≤_, _<_};
+ghost use lib.ListN.{length};
 ghost use Rattle.dimacs.specs.Lines.{linesAt};
-ghost use Rattle.comments.specs.Comments.{afterComments, wordsPast, Between, firstPlace};
+ghost use Rattle.comments.specs.Comments.{afterComments, startsComment, wordsPast, Between, firstPlace};
 
 // The start of the first line that is no comment, or a place at which no line starts.
 pub fn first_line(text: &[u8]) -> usize
@@ -23,7 +22,8 @@ pub fn first_line(text: &[u8]) -> usize
     at
 }
 
-// The start of the first word at or after `at` that stands in no comment, or the text's length. What lies between the words of a body is decided here alone.
+// The start of the first word at or after `at` that stands in no comment, or the text's length. What lies between the words of a body is
+// decided here alone.
 pub fn next_word(text: &[u8], at: usize) -> usize
     requires { ⌜ Between (now text) at ⌝ }
     ensures { λ r. ⌜ r ≡ firstPlace (length (now (text .entry))) (wordsPast (now (text .entry)) at) ⌝ }
@@ -42,11 +42,10 @@ pub fn next_word(text: &[u8], at: usize) -> usize
     i
 }
 
-// Whether the byte at a place is a `c` and stands first in its line.
+// Whether a comment starts at a place that is not the text's first.
 fn starts_comment(text: &[u8], at: usize) -> bool
     requires { ⌜ (1 ≤ at) × (at < length (now text)) ⌝ }
-    ensures { λ r. let here = now (text .entry) in
-        ⌜ r ≡ (eqb (getD here at 0) 99 && eqb (getD here (at - 1) 0) 10) ⌝ }
+    ensures { λ r. ⌜ r ≡ startsComment (now (text .entry)) at ⌝ }
 {
     if text[at] != b'c' {
         return false;

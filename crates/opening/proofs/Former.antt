@@ -17,10 +17,10 @@ use Rattle.dimacs.specs.Words.{isBlank, isWordByte, run, runEnd, Piece, wordsFr
 use Rattle.dimacs.specs.Numbers.{Size, Numeral, isDigit, digitsOf, padded, sizeOf, numeralOf, wordAt}
 use Rattle.dimacs.proofs.Runs.{run-stop, run-end, run-forward, opposite-true}
 use Rattle.dimacs.proofs.WordLaws.{pieceAt, no-word, next-word}
-use Rattle.comments.specs.Comments.{wordsPast}
+use Rattle.comments.specs.Comments.{startsComment, wordsPast}
 use Rattle.comments.proofs.RunLaws.{run-more}
 use Rattle.comments.proofs.WordLaws.{past-end, past-word}
-use Rattle.comments.proofs.Walk.{Step, step}
+use Rattle.comments.proofs.Walk.{Step, starts, step}
 use Rattle.store.specs.Literals.{variableOf}
 use Rattle.store.specs.Numerals.{codeIn, isNumeral}
 use Rattle.store.specs.Stores.{maxLiterals}
@@ -34,13 +34,6 @@ use Rattle.opening.specs.declared.Scanned.{Scanned}
 use Rattle.opening.specs.declared.Opened.{Opened}
 use Rattle.opening.proofs.ScanLaws.{scan-extra, scan-word}
 use Rattle.opening.proofs.OpeningLaws.{body-past, opened-past, SlicesFit, room}
-
--- a line that starts at the place is a comment: a `c` stands there, after a line feed
-pub record CommentAt (text : List ℕ) (place : ℕ) : Type 0 where
-  pub before : ℕ
-  pub next : place ≡ before + 1
-  pub feed : getD text before 0 ≡ 10
-  pub letter : getD text place 0 ≡ 99
 
 -- ---- a word that starts with `c` is no number
 
@@ -76,7 +69,7 @@ words-blank text at h e = rw (drop-cons text at 0 h, e, add-one at)
 module _ (text : List ℕ) where
   data Alike (former new : Scanned) (former-words new-words : List Piece) : Type 0 where
     same : former ≡ new → ((total : ℕ) → former ≡ Scanned.Done total → former-words ≡ new-words) → Alike former new former-words new-words
-    stopped : (place : ℕ) → CommentAt text place
+    stopped : (place : ℕ) → startsComment text place ≡ true
         → (former ≡ Scanned.Refused (Refusal.NotNumber place)) ⊎ (former ≡ Scanned.Refused (Refusal.ClauseCount place))
         → Alike former new former-words new-words
 
@@ -124,7 +117,7 @@ module _ (text : List ℕ) where
     comment-stops : (at : ℕ) → at + 1 < length text → getD text at 0 ≡ 10 → getD text (at + 1) 0 ≡ 99 → (former new : List Piece)
         → former ≡ pieceAt text (at + 1) ∷ wordsAt text (runEnd isWordByte text (at + 1)) → (closed count : ℕ) → Scans closed count former new
     comment-stops at h feed letter former new e closed count =
-        stopped (at + 1) (record { before = at; next = refl; feed = feed; letter = letter })
+        stopped (at + 1) (starts text at feed letter)
         (⊎-elim
         (λ full. inr (scan-extra (length text) n m closed count former _ _ e full))
         (λ more. inl (scan-word (length text) n m closed count former _ _ e more (letter-word text (at + 1) h letter)))
@@ -161,12 +154,12 @@ module _ (text : List ℕ) where
 
 -- ---- the theorems
 
--- whatever is lent: the former answer is the new one, or it was 3 or 6 at a comment after the problem line
-pub data Kept (text : List ℕ) (literals ends : ℕ) : Type 0 where
-  same-answer : formerlyOpenedBy text literals ends ≡ openedBy text literals ends → Kept text literals ends
-  met-comment : (place : ℕ) → CommentAt text place
+-- whatever is lent: the former answer is the new one, or it was 3 or 6 where a comment starts
+pub data FormerAnswer (text : List ℕ) (literals ends : ℕ) : Type 0 where
+  same-answer : formerlyOpenedBy text literals ends ≡ openedBy text literals ends → FormerAnswer text literals ends
+  met-comment : (place : ℕ) → startsComment text place ≡ true
       → (formerlyOpenedBy text literals ends ≡ Opened.Refused (Refusal.NotNumber place)) ⊎ (formerlyOpenedBy text literals ends ≡ Opened.Refused (Refusal.ClauseCount place))
-      → Kept text literals ends
+      → FormerAnswer text literals ends
 
 -- "Texts that opened before open to the same store": what `open` answers and what it leaves in the slices, by its contract, is what the former rule gives
 pub record SameStore (text literals ends : List ℕ) (former : Opened) : Type 0 where
@@ -185,16 +178,16 @@ module _ (text : List ℕ) where
     unfolding formerlyOpenedBy
     former-scan literals ends = rw (line, former-body)
 
-  pub kept : (literals ends : ℕ) → Kept text literals ends
+  pub former-answer : (literals ends : ℕ) → FormerAnswer text literals ends
   unfolding formerlyOpenedBy openedBy
-  kept literals ends = by (problemOf text) refl
+  former-answer literals ends = by (problemOf text) refl
     where
-      by : (p : Problem) → problemOf text ≡ p → Kept text literals ends
+      by : (p : Problem) → problemOf text ≡ p → FormerAnswer text literals ends
       by (Problem.Refused r) e = same-answer (rw e)
       by (Problem.Line n m end) e = go (alike text n m end)
         where
           go : Alike text (scanFrom (length text) n m 0 0 (wordsAt text end)) (scanFrom (length text) n m 0 0 (wordsPast text end)) (wordsAt text end) (wordsPast text end)
-              → Kept text literals ends
+              → FormerAnswer text literals ends
           go (Alike.same q words) = same-answer (former-scan n m end e literals ends ∙ rw q (sym (opened-past text n m end e literals ends)))
           go (Alike.stopped place c q) =
               met-comment place c

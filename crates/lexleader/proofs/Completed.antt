@@ -50,7 +50,7 @@ module _ (n : ℕ) (a t : List Bool) (size : length a ≡ n) where
       rw (
         pairs-say (valueOf (a ++ t)) e (pairsOf row),
         along-same (isLiteral n) (valueOf (a ++ t)) (valueOf a) (literal-front n a t size) (pairsOf row) within,
-        along-moved n row r a size,
+        along-moved row a (size ∙ sym (r .size)),
         settings-same (isLiteral n) (valueOf (a ++ t)) (valueOf a) (literal-front n a t size) true (pairsOf row) within,
       )
 

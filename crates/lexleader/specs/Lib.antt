@@ -1,5 +1,6 @@
 pub mod Models
 pub mod Rows
+pub mod Deciding
 pub mod Made
 pub mod Store
 pub mod Bounds

@@ -52,6 +52,9 @@ found i (false ∷ a) (false ∷ b) = further i false a b refl refl (found (i + 
 pub difference-zero : (a b : List Bool) → length a ≡ length b → firstDifference a b ≡ 0 → a ≡ b
 difference-zero a b e q = elim (found 1 a b) [ none z f s ↦ s e | at d z f s ↦ absurd (omega arith) ]
 
+pub difference-within : (a b : List Bool) → firstDifference a b ≤ length a
+difference-within a b = elim (found 1 a b) [ none z f s ↦ omega arith | at d z f s ↦ omega (arith, s .within) ]
+
 pub difference-first : (a b : List Bool) (i : ℕ) → length a ≡ length b → 1 ≤ i → i < firstDifference a b → valueOf a i ≡ valueOf b i
 difference-first a b i e h l = elim (found 1 a b) [ none z f s ↦ absurd (omega arith) | at d z f s ↦ s .before (i - 1) (omega arith) ]
 

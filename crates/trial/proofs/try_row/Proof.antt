@@ -1,0 +1,84 @@
+-- `trial::try_row` meets its contract. The invariant: the pairs at index i and after it decide as all pairs do. Assumes nothing.
+use mathlib.Core.Path.{_≡_, refl, sym, ap, _∙_}
+use mathlib.Core.Bool.{Bool, true, false}
+use mathlib.Core.List.{[]}
+use mathlib.Core.Logic.{⊎-elim}
+use Prim.Native.Nat.{_+_, _-_, _*_, _≤_, _<_}
+use native.Mathlib.Omega.{arith}
+use borrow.Author.Tests.{eqb-true, eqb-false, not-true, not-false}
+use lib.ListN.{length, getD}
+use Rattle.lexleader.specs.Rows.{pairsOf}
+use Rattle.lexleader.specs.Clause.{pairsAt}
+use Rattle.trial.specs.Spans.{byCode}
+use Rattle.trial.proofs.PairLaws.{SameFound, found-start, found-on, found-past, found-alike, found-here, found-none, pair-among}
+use borrow.Author.Needs.{needs}
+use Rattle.trial.proofs.try_row.Statement.{statement}
+use Rattle.trial.proofs.try_row.Tie as tie
+
+abbrev Inv-loop : tie.InvT-loop
+Inv-loop row span values i₀ i = (i ≤ span .end) × SameFound (byCode values) (pairsOf row) (pairsAt i row)
+
+abbrev μ-loop : tie.MeasureT-loop
+μ-loop row span values i₀ i = span .end - i
+
+loop-holds : tie.Need-loop-holds Inv-loop μ-loop
+loop-holds c = (c .pre .0 .order, found-start _ (c .pre .0 .none-before))
+
+shared-slice-read-image : tie.Need-shared-slice-read-image Inv-loop μ-loop
+shared-slice-read-image c = omega (arith, c .before .before .before .before .pre .0 .within)
+
+cast-image : tie.Need-cast-image Inv-loop μ-loop
+cast-image c = omega (arith, c .shared-slice-known .given (c .before .before .before .loop .i))
+
+-- the index is one of the row's
+inside : (c : tie.Then1 Inv-loop μ-loop) → c .before .before .loop .i < length (c .before .before .before .args .row .now)
+inside c = omega (arith, c .before .before .before .pre .0 .within)
+
+-- a moved variable and its image have places among the values
+places : (c : tie.Then2 Inv-loop μ-loop) → let l = c .before .before .before .before in
+    let a = l .before .args in
+    (2 * l .loop .i + 2 < length (a .values .now)) × (getD (a .row .now) (l .loop .i) 0 < length (a .values .now))
+places c =
+    let l = c .before .before .before .before in
+    l .before .pre .1 _ (pair-among (l .before .args .row .now) (l .loop .i) (2 * l .loop .i + 2) (inside (c .before .before)) (omega arith) (c .if2 .taken))
+
+shared-slice-read-value : tie.Need-shared-slice-read-value Inv-loop μ-loop
+shared-slice-read-value c = places (c .before) .0
+
+shared-slice-read-if3 : tie.Need-shared-slice-read-if3 Inv-loop μ-loop
+shared-slice-read-if3 c = places (c .before .before) .1
+
+returns : tie.Need-returns Inv-loop μ-loop
+returns c =
+    let t = c .before .before .before in
+    let l = t .before .before .before .before in
+    let i = l .loop .i in
+    let here = found-here _ (l .before .args .row .now) i (inside (t .before .before)) (2 * i + 2) (omega arith) (t .if2 .taken) (c .if3 .taken) in
+    (sym (l .loop .inv .1 .variable ∙ here .0), sym (l .loop .inv .1 .yes ∙ here .1))
+
+loop-again : tie.Need-loop-again Inv-loop μ-loop
+loop-again c =
+    let t = c .before .before in
+    let l = t .before .before in
+    let i = l .loop .i in
+    let value = byCode (l .before .args .values .now) in
+    let row = l .before .args .row .now in
+    let on : SameFound value (pairsAt i row) (pairsAt (i + 1) row) =
+    ⊎-elim (λ f. found-alike value row i (inside t) (2 * i + 2) (omega arith) (f .0 .taken) (f .3 .left))
+    (λ f. found-past value row i (inside t) (2 * i + 2) (omega arith) (f .left)) (c .if2 .came) in
+    (omega arith, found-on value (l .loop .inv .1) on)
+
+returns-2 : tie.Need-returns-2 Inv-loop μ-loop
+returns-2 c =
+    let l = c .before .before in
+    let value = byCode (l .before .args .values .now) in
+    let last : l .loop .i ≡ l .before .args .span .end = omega arith in
+    let none : SameFound value (pairsOf (l .before .args .row .now)) [] =
+    found-on value (l .loop .inv .1) (found-start value (rw last (l .before .pre .0 .none-after))) in
+    (sym (none .variable ∙ found-none value .0), sym (none .yes ∙ found-none value .1))
+
+pub try-row-spec : {M : Type 1} → statement M
+try-row-spec =
+    tie.close
+    (tie.spec Inv-loop μ-loop loop-holds (search needs) (search needs) (search needs) shared-slice-read-image cast-image
+    shared-slice-read-value shared-slice-read-if3 (search needs) returns (search needs) (search needs) loop-again returns-2)

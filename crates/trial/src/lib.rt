@@ -1,0 +1,80 @@
+// A trial of a row (document 02, CR 2): whether the row makes an assignment A smaller, found by looking "at the row's moved variables
+// alone", in rising order, up to the first that decides; and which that was.
+//
+// A moved has at a moved variable x the value that A has at its image y, and everywhere else what A has. So the two first differ at the
+// first x that has another value than its y, and there A's own value is the answer: A moved is smaller where that is true.
+//
+// The values come by code, as a table has them (`valuation`), but of that table only the places of moved variables and their images are
+// asked for: others may hold anything, or not be there. So no contract here speaks of a whole assignment. What a trial says of one is a
+// theorem for every assignment that has the values lent at these places (`trial-answers`, proofs/Theorem.antt).
+//
+// A row may be tried many times and moves the same variables each time. Whoever does so notes its span first, from the first moved
+// variable to the last, and a trial then walks that alone.
+ghost use mathlib.Core.Path.{_≡_};
+ghost use Prim.Native.Nat.{_≤_};
+ghost use lib.ListN.{length};
+ghost use Rattle.store.specs.Stores.{maxVariables};
+ghost use Rattle.lexleader.specs.Rows.{pairsOf};
+ghost use Rattle.lexleader.specs.Deciding.{deciding, lowersAlong};
+ghost use Rattle.trial.specs.Spans.{byCode, Places, Covers, IsSpan};
+
+// Whether the row makes the assignment smaller, and the variable that decided, 0 where none does.
+pub struct Trial {
+    pub lowers: bool,
+    pub variable: usize,
+}
+
+// A part of a row, by indices: from `first` up to `end`, which is past its last.
+pub struct Span {
+    pub first: usize,
+    pub end: usize,
+}
+
+// Tries a row on the values of literals by code, where no variable outside of a span is moved.
+pub fn try_row(row: &[u16], span: Span, values: &[bool]) -> Trial
+    requires { ⌜ Covers (now row) (span .first) (span .end) × Places (pairsOf (now row)) (now values) ⌝ }
+    ensures variable { λ r. ⌜ r .variable ≡ deciding (byCode (now (values .entry))) (pairsOf (now (row .entry))) ⌝ }
+    ensures lowers { λ r. ⌜ r .lowers ≡ lowersAlong (byCode (now (values .entry))) (pairsOf (now (row .entry))) ⌝ }
+{
+    let mut i = span.first;
+    while i < span.end {
+        let own = 2 * i + 2;
+        let image = row[i] as usize;
+        if image != own {
+            let value = values[own];
+            if value != values[image] {
+                return Trial {
+                    lowers: value,
+                    variable: i + 1,
+                };
+            }
+        }
+        i += 1;
+    }
+    Trial {
+        lowers: false,
+        variable: 0,
+    }
+}
+
+// The span of a row's moved variables: from the first to the last; an empty one at the row's end where nothing is moved.
+pub fn span_of(row: &[u16]) -> Span
+    requires { ⌜ length (now row) ≤ maxVariables ⌝ }
+    ensures { λ r. ⌜ IsSpan (now (row .entry)) (r .first) (r .end) ⌝ }
+{
+    let first = lexleader::places::next_moved(row, 0);
+    let mut end = row.len();
+    while first < end {
+        if row[end - 1] as usize != 2 * end {
+            return Span {
+                first,
+                end,
+            };
+        }
+        end -= 1;
+    }
+    Span {
+        first,
+        end,
+    }
+}

@@ -3,25 +3,27 @@
 // a limit reached at the last useful move is no spent descent.
 //
 // A row is tried far more often than it moves: up to 64 rows at each of the moves, and most are told apart from A at one of the first
-// variables. So the values of all literals are put into a table by code once (`valuation::tabulate`), a row is tried by reading the
-// table at its images, without moving anything (`lowers`), and only the row that is taken makes a new table (`move_by`). The words are
-// written once, at the end.
+// variables that they move. So the values of all literals are put into a table by code once (`valuation::tabulate`), and where each row's
+// moved variables are is noted once (`note_spans`). A row is then tried by reading the table at what it moves (`trial::try_row`), and the
+// row that is taken changes the table there alone (`move_by`). The words are written once, at the end.
 //
 // What makes the proof go: a table is that of one assignment, `bitsIn` of it, and every contract speaks of that; so words occur only
 // before and after the loop. The loop's invariant (`Reached`) is that the descent from the words lent comes to what the descent from the
-// table's assignment comes to with the moves that are left; a turn is one unfolding of `descendFrom`. `lowers` compares from the first
-// variable on, and the invariant is that what is left decides (`lowersFrom`): the first variable at which the two differ is where the
-// order is decided, and there A's own value is the answer.
+// table's assignment comes to with the moves that are left; a turn is one unfolding of `descendFrom`.
+use store::record::Record;
+use trial::Span;
 ghost use mathlib.Core.Path.{_≡_};
 ghost use mathlib.Core.Bool.{true};
 ghost use Prim.Native.Nat.{_<_, _≤_};
-ghost use lib.ListN.{length, take};
+ghost use lib.ListN.{length, getD};
 ghost use Rattle.packed.specs.Words.{bitsOf, wordCount, wordsOf, isAssignment};
 ghost use Rattle.store.specs.Stores.{maxVariables, isRow, rowsOf, rowAt, FormedRows};
-ghost use Rattle.lexleader.specs.Rows.{moved, lowers};
+ghost use Rattle.lexleader.specs.Rows.{moved};
 ghost use Rattle.lexleader.specs.Descent.{rest, to, stepBy, descend};
 ghost use Rattle.valuation.specs.Tables.{maxTable, bitsIn, Table};
-ghost use Rattle.descent.specs.Words.{answerOf, outcomeOf, descended};
+ghost use Rattle.trial.specs.Spans.{Covers};
+ghost use Rattle.descent.specs.Words.{answerOf, reachedBy, outcomeOf, descended};
+ghost use Rattle.descent.specs.Noted.{Noted};
 
 // How a descent ends, with the count of its moves.
 pub enum Descended {
@@ -38,25 +40,67 @@ pub fn descend(images: &[u16], rows: usize, n: usize, a: &mut [u64], limit: u64)
 {
     let mut values = [false; valuation::TABLE];
     valuation::tabulate(a, n, &mut values);
+    let mut firsts = [0u16; Record::MAX_ROWS];
+    let mut ends = [0u16; Record::MAX_ROWS];
+    note_spans(images, rows, n, &mut firsts, &mut ends);
+    let ended = settle(images, rows, n, &firsts, &ends, &mut values, limit);
+    write_back(&values, n, a);
+    ended
+}
+
+// Descends from the assignment of a table.
+fn settle(images: &[u16], rows: usize, n: usize, firsts: &[u16], ends: &[u16], values: &mut [bool], limit: u64) -> Descended
+    requires { ⌜ FormedRows n rows (now images) × Noted n rows (now images) (now firsts) (now ends)
+        × Table n (now values) × (length (now values) ≡ maxTable) ⌝ }
+    ensures answer { λ r. let held = rowsOf n rows (now (images .entry)) in
+        ⌜ outcomeOf r ≡ answerOf (descend limit held (bitsIn n (now (values .entry)))) ⌝ }
+    ensures table { λ _. ⌜ Table n (now (values .exit)) ⌝ }
+    ensures reached { λ _. let held = rowsOf n rows (now (images .entry)) in
+        ⌜ bitsIn n (now (values .exit)) ≡ reachedBy (descend limit held (bitsIn n (now (values .entry)))) ⌝ }
+{
     let mut moves: u64 = 0;
     loop {
-        let r = first_lowering(images, rows, n, &values);
+        let r = first_lowering(images, rows, n, firsts, ends, values);
         if r == rows {
-            write_back(&values, n, a);
             return Descended::Settled(moves);
         }
         if moves == limit {
-            write_back(&values, n, a);
             return Descended::Spent(moves);
         }
-        move_by(store::rows::row(images, n, r), &mut values);
+        move_by(store::rows::row(images, n, r), noted(firsts, ends, r), values);
         moves += 1;
     }
 }
 
+// Notes where each row's moved variables are.
+fn note_spans(images: &[u16], rows: usize, n: usize, firsts: &mut [u16], ends: &mut [u16])
+    requires { ⌜ FormedRows n rows (now images) × (rows ≤ length (now firsts)) × (rows ≤ length (now ends)) ⌝ }
+    ensures { λ _. ⌜ Noted n rows (now (images .entry)) (now (firsts .exit)) (now (ends .exit)) ⌝ }
+{
+    let mut r = 0;
+    while r < rows {
+        let span = trial::span_of(store::rows::row(images, n, r));
+        firsts[r] = span.first as u16;
+        ends[r] = span.end as u16;
+        r += 1;
+    }
+}
+
+// The span noted of row r.
+fn noted(firsts: &[u16], ends: &[u16], r: usize) -> Span
+    requires { ⌜ (r < length (now firsts)) × (r < length (now ends)) ⌝ }
+    ensures first { λ s. ⌜ s .first ≡ getD (now (firsts .entry)) r 0 ⌝ }
+    ensures end { λ s. ⌜ s .end ≡ getD (now (ends .entry)) r 0 ⌝ }
+{
+    Span {
+        first: firsts[r] as usize,
+        end: ends[r] as usize,
+    }
+}
+
 // The first row, from 0, that makes the assignment of a table smaller; the count of rows where none does.
-fn first_lowering(images: &[u16], rows: usize, n: usize, values: &[bool]) -> usize
-    requires { ⌜ FormedRows n rows (now images) × Table n (now values) ⌝ }
+fn first_lowering(images: &[u16], rows: usize, n: usize, firsts: &[u16], ends: &[u16], values: &[bool]) -> usize
+    requires { ⌜ FormedRows n rows (now images) × Noted n rows (now images) (now firsts) (now ends) × Table n (now values) ⌝ }
     ensures within { λ r. ⌜ r ≤ rows ⌝ }
     ensures none { λ r. let held = rowsOf n rows (now (images .entry)) in
         ⌜ (r ≡ rows → stepBy held (bitsIn n (now (values .entry))) ≡ rest) ⌝ }
@@ -65,7 +109,8 @@ fn first_lowering(images: &[u16], rows: usize, n: usize, values: &[bool]) -> usi
 {
     let mut r = 0;
     while r < rows {
-        if lowers(store::rows::row(images, n, r), values) {
+        let tried = trial::try_row(store::rows::row(images, n, r), noted(firsts, ends, r), values);
+        if tried.lowers {
             return r;
         }
         r += 1;
@@ -73,52 +118,48 @@ fn first_lowering(images: &[u16], rows: usize, n: usize, values: &[bool]) -> usi
     r
 }
 
-// Whether a row makes the assignment of a table smaller: where the two first differ, the moved one has 0.
-pub fn lowers(row: &[u16], values: &[bool]) -> bool
-    requires { ⌜ (isRow (length (now row)) (now row) ≡ true) × Table (length (now row)) (now values) ⌝ }
-    ensures { λ r. let n = length (now (row .entry)) in ⌜ r ≡ lowers (now (row .entry)) (bitsIn n (now (values .entry))) ⌝ }
-{
-    let mut i = 0;
-    while i < row.len() {
-        let own = values[2 * i + 2];
-        if own != values[row[i] as usize] {
-            return own;
-        }
-        i += 1;
-    }
-    false
-}
-
-// Moves the assignment of a table by a row: at variable i the value of its image.
-fn move_by(row: &[u16], values: &mut [bool])
+// Moves the assignment of a table by a row, of which no variable outside of a span is moved.
+fn move_by(row: &[u16], span: Span, values: &mut [bool])
     requires { let n = length (now row) in
-        ⌜ (isRow n (now row) ≡ true) × Table n (now values) × (length (now values) ≤ maxTable) ⌝ }
+        ⌜ (isRow n (now row) ≡ true) × Covers (now row) (span .first) (span .end)
+        × Table n (now values) × (length (now values) ≡ maxTable) ⌝ }
     ensures table { λ _. ⌜ Table (length (now (row .entry))) (now (values .exit)) ⌝ }
     ensures bits { λ _. let n = length (now (row .entry)) in
         ⌜ bitsIn n (now (values .exit)) ≡ moved (now (row .entry)) (bitsIn n (now (values .entry))) ⌝ }
 {
-    let mut next = [false; valuation::TABLE];
-    let mut i = 1;
-    while i <= row.len() {
-        let own = 2 * i;
-        let image = row[i - 1] as usize;
-        let value = values[image];
-        next[own] = value;
-        next[own + 1] = !value;
-        i += 1;
-    }
-    copy(&next, values);
+    let mut before = [false; valuation::TABLE];
+    copy(values, &mut before);
+    move_span(row, span, &before, values);
 }
 
-// Writes a table over a lent one, as much of it as that is long.
-fn copy(next: &[bool], values: &mut [bool])
-    requires { ⌜ length (now values) ≤ length (now next) ⌝ }
-    ensures { λ _. ⌜ now (values .exit) ≡ take (length (now (values .entry))) (now (next .entry)) ⌝ }
+// Writes a table over another of the same length.
+fn copy(values: &[bool], out: &mut [bool])
+    requires { ⌜ length (now values) ≡ length (now out) ⌝ }
+    ensures { λ _. ⌜ now (out .exit) ≡ now (values .entry) ⌝ }
 {
     let mut k = 0;
-    while k < values.len() {
-        values[k] = next[k];
+    while k < out.len() {
+        out[k] = values[k];
         k += 1;
+    }
+}
+
+// Moves the variables of a span: each has the value that its image had before, and all others have theirs.
+fn move_span(row: &[u16], span: Span, before: &[bool], values: &mut [bool])
+    requires { let n = length (now row) in
+        ⌜ (isRow n (now row) ≡ true) × Covers (now row) (span .first) (span .end) × Table n (now before) × (now values ≡ now before) ⌝ }
+    ensures table { λ _. ⌜ Table (length (now (row .entry))) (now (values .exit)) ⌝ }
+    ensures bits { λ _. let n = length (now (row .entry)) in
+        ⌜ bitsIn n (now (values .exit)) ≡ moved (now (row .entry)) (bitsIn n (now (before .entry))) ⌝ }
+{
+    let mut i = span.first;
+    while i < span.end {
+        let own = 2 * i + 2;
+        let image = row[i] as usize;
+        let value = before[image];
+        values[own] = value;
+        values[own + 1] = !value;
+        i += 1;
     }
 }
 

@@ -28,22 +28,22 @@ module _ (value : ℕ → Bool) where
   pub found-on : {pairs rest next : List Pair} → SameFound value pairs rest → SameFound value rest next → SameFound value pairs next
   found-on s t = record { yes = s .yes ∙ t .yes; variable = s .variable ∙ t .variable }
 
-  module _ (row : List ℕ) (i : ℕ) (h : i < length row) (own : ℕ) (is : own ≡ 2 * (i + 1)) where
-    pub found-past : getD row i 0 ≡ own → SameFound value (pairsAt i row) (pairsAt (i + 1) row)
-    found-past e = found-start (walk-past row i h (e ∙ is))
+  module _ (row : List ℕ) (i : ℕ) (h : i < length row) where
+    pub found-past : getD row i 0 ≡ 2 * (i + 1) → SameFound value (pairsAt i row) (pairsAt (i + 1) row)
+    found-past e = found-start (walk-past row i h e)
 
-    module _ (m : getD row i 0 ≡ own → ⊥) where
-      front : pairsAt i row ≡ record { x = own; y = getD row i 0 } ∷ pairsAt (i + 1) row
-      front = rw is (walk-moved row i h (λ e. m (e ∙ sym is)))
-
-      pub found-alike : not (Bool·beq (value own) (value (getD row i 0))) ≡ false → SameFound value (pairsAt i row) (pairsAt (i + 1) row)
+    module _ (m : getD row i 0 ≡ 2 * (i + 1) → ⊥) where
+      pub found-alike : not (Bool·beq (value (2 * (i + 1))) (value (getD row i 0))) ≡ false → SameFound value (pairsAt i row) (pairsAt (i + 1) row)
       unfolding lowersAlong deciding decides
-      found-alike e = record { yes = rw (front, e); variable = rw (front, e) }
+      found-alike e = let front = walk-moved row i h m in record { yes = rw (front, e); variable = rw (front, e) }
 
-      pub found-here : not (Bool·beq (value own) (value (getD row i 0))) ≡ true
-          → (deciding value (pairsAt i row) ≡ i + 1) × (lowersAlong value (pairsAt i row) ≡ value own)
+      pub found-here : not (Bool·beq (value (2 * (i + 1))) (value (getD row i 0))) ≡ true
+          → (deciding value (pairsAt i row) ≡ i + 1) × (lowersAlong value (pairsAt i row) ≡ value (2 * (i + 1)))
       unfolding lowersAlong deciding decides
-      found-here e = let half : own / 2 ≡ i + 1 = omega arith in (rw (front, e) half, rw (front, e))
+      found-here e =
+          let half : 2 * (i + 1) / 2 ≡ i + 1 = omega arith in
+          let front = walk-moved row i h m in
+          (rw (front, e) half, rw (front, e))
 
   pub found-none : (deciding value [] ≡ 0) × (lowersAlong value [] ≡ false)
   unfolding lowersAlong deciding
@@ -65,9 +65,8 @@ module _ (row : List ℕ) where
   from-start q (suc i) m = from-start q i (earlier q i (rw (add-one i) m))
 
   -- a moved variable and its image are a pair of the row
-  pub pair-among : (i own : ℕ) → i < length row → own ≡ 2 * (i + 1) → (getD row i 0 ≡ own → ⊥) → List·Memᴰ (record { x = own; y = getD row i 0 }) (pairsOf row)
-  pair-among i own h is m =
-      rw (is, pairs-start row) (from-start (pairAt row i) i (rw (walk-moved row i h (λ e. m (e ∙ sym is))) (List·Memᴰ·head refl)))
+  pub pair-among : (i : ℕ) → i < length row → (getD row i 0 ≡ 2 * (i + 1) → ⊥) → List·Memᴰ (pairAt row i) (pairsOf row)
+  pair-among i h m = rw (pairs-start row) (from-start (pairAt row i) i (rw (walk-moved row i h m) (List·Memᴰ·head refl)))
 
   -- where the pairs do not become fewer, nothing is moved
   pub none-between : (j k : ℕ) → length (pairsAt j row) ≡ length (pairsAt k row) → (i : ℕ) → j ≤ i → i < k → i < length row → getD row i 0 ≡ 2 * (i + 1)

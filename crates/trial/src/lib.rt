@@ -38,7 +38,7 @@ pub fn try_row(row: &[u16], span: Span, values: &[bool]) -> Trial
 {
     let mut i = span.first;
     while i < span.end {
-        let own = 2 * i + 2;
+        let own = 2 * (i + 1);
         let image = row[i] as usize;
         if image != own {
             let value = values[own];

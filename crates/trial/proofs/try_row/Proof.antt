@@ -37,10 +37,10 @@ inside c = omega (arith, c .before .before .before .pre .0 .within)
 -- a moved variable and its image have places among the values
 places : (c : tie.Then2 Inv-loop μ-loop) → let l = c .before .before .before .before in
     let a = l .before .args in
-    (2 * l .loop .i + 2 < length (a .values .now)) × (getD (a .row .now) (l .loop .i) 0 < length (a .values .now))
+    (2 * (l .loop .i + 1) < length (a .values .now)) × (getD (a .row .now) (l .loop .i) 0 < length (a .values .now))
 places c =
     let l = c .before .before .before .before in
-    l .before .pre .1 _ (pair-among (l .before .args .row .now) (l .loop .i) (2 * l .loop .i + 2) (inside (c .before .before)) (omega arith) (c .if2 .taken))
+    l .before .pre .1 _ (pair-among (l .before .args .row .now) (l .loop .i) (inside (c .before .before)) (c .if2 .taken))
 
 shared-slice-read-value : tie.Need-shared-slice-read-value Inv-loop μ-loop
 shared-slice-read-value c = places (c .before) .0
@@ -53,7 +53,7 @@ returns c =
     let t = c .before .before .before in
     let l = t .before .before .before .before in
     let i = l .loop .i in
-    let here = found-here _ (l .before .args .row .now) i (inside (t .before .before)) (2 * i + 2) (omega arith) (t .if2 .taken) (c .if3 .taken) in
+    let here = found-here _ (l .before .args .row .now) i (inside (t .before .before)) (t .if2 .taken) (c .if3 .taken) in
     (sym (l .loop .inv .1 .variable ∙ here .0), sym (l .loop .inv .1 .yes ∙ here .1))
 
 loop-again : tie.Need-loop-again Inv-loop μ-loop
@@ -64,8 +64,8 @@ loop-again c =
     let value = byCode (l .before .args .values .now) in
     let row = l .before .args .row .now in
     let on : SameFound value (pairsAt i row) (pairsAt (i + 1) row) =
-    ⊎-elim (λ f. found-alike value row i (inside t) (2 * i + 2) (omega arith) (f .0 .taken) (f .3 .left))
-    (λ f. found-past value row i (inside t) (2 * i + 2) (omega arith) (f .left)) (c .if2 .came) in
+    ⊎-elim (λ f. found-alike value row i (inside t) (f .0 .taken) (f .3 .left))
+    (λ f. found-past value row i (inside t) (f .left)) (c .if2 .came) in
     (omega arith, found-on value (l .loop .inv .1) on)
 
 returns-2 : tie.Need-returns-2 Inv-loop μ-loop

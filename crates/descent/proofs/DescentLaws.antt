@@ -5,14 +5,13 @@ use mathlib.Core.Bool.{Bool, true, false}
 use mathlib.Core.List.{List}
 use Prim.Native.Nat.{ℕ, zero, suc, _+_, _-_, _≤_, _<_}
 use native.Mathlib.Omega.{arith}
-use Rattle.packed.specs.Words.{bitsOf, wordsOf}
 use Rattle.store.specs.Stores.{rowsOf, rowsFrom, rowAt}
 use Rattle.store.proofs.RowLaws.{from-first, from-here, from-end}
 use Rattle.lexleader.specs.Rows.{moved, lowers}
 use Rattle.lexleader.specs.Descent.{rest, to, stepBy, settled, spent, descendFrom, descend}
 use Rattle.valuation.specs.Tables.{bitsIn, Table}
 use Rattle.descent.specs.declared.Descended.{Descended}
-use Rattle.descent.specs.Words.{answerOf, outcomeOf, descended}
+use Rattle.descent.specs.Words.{answerOf, reachedBy, outcomeOf}
 
 -- ---- the search for a row
 
@@ -54,33 +53,31 @@ pub record Reached (n limit : ℕ) (rows : List (List ℕ)) (start values : List
   pub table : Table n values
   pub same : descend limit rows start ≡ descendFrom moves (limit - moves) rows (bitsIn n values)
 
--- what a descent answers and leaves
-abbrev DescentEnds : ℕ → ℕ → List (List ℕ) → List ℕ → Descended → List ℕ → Type 0
-DescentEnds n limit rows start answer a = (outcomeOf answer ≡ answerOf (descend limit rows (bitsOf n start))) × (a ≡ descended n limit rows start)
+-- what a descent answers, and what the table is then of
+abbrev DescentEnds : ℕ → ℕ → List (List ℕ) → List Bool → Descended → List Bool → Type 0
+DescentEnds n limit rows start answer values =
+    (outcomeOf answer ≡ answerOf (descend limit rows start)) × (Table n values × (bitsIn n values ≡ reachedBy (descend limit rows start)))
 
 module _ (n limit : ℕ) (rows : List (List ℕ)) where
-  pub reached-none : (start values : List Bool) → Table n values → bitsIn n values ≡ start → Reached n limit rows start values 0
-  reached-none start values table is =
+  pub reached-none : (values : List Bool) → Table n values → Reached n limit rows (bitsIn n values) values 0
+  reached-none values table =
       let all : limit - 0 ≡ limit = omega arith in
-      record { most = omega arith; table = table; same = rw (all, is) }
+      record { most = omega arith; table = table; same = rw all refl }
 
-  module _ (start : List ℕ) (values : List Bool) (moves : ℕ) (r : Reached n limit rows (bitsOf n start) values moves) where
-    module _ (a : List ℕ) (words : a ≡ wordsOf (bitsIn n values)) where
-      pub ends-settled : stepBy rows (bitsIn n values) ≡ rest → DescentEnds n limit rows start (Descended.Settled moves) a
-      unfolding descended
-      ends-settled e =
-          let end = r .same ∙ settles moves rows (bitsIn n values) (limit - moves) e in
-          rw end (refl, words)
+  module _ (start values : List Bool) (moves : ℕ) (r : Reached n limit rows start values moves) where
+    pub ends-settled : stepBy rows (bitsIn n values) ≡ rest → DescentEnds n limit rows start (Descended.Settled moves) values
+    ends-settled e =
+        let end = r .same ∙ settles moves rows (bitsIn n values) (limit - moves) e in
+        rw end (refl, (r .table, refl))
 
-      pub ends-spent : (b : List Bool) → moves ≡ limit → stepBy rows (bitsIn n values) ≡ to b → DescentEnds n limit rows start (Descended.Spent moves) a
-      unfolding descended
-      ends-spent b q e =
-          let none : limit - moves ≡ 0 = omega arith in
-          let end = (rw none at (r .same)) ∙ spends moves rows (bitsIn n values) b e in
-          rw end (refl, words)
+    pub ends-spent : (b : List Bool) → moves ≡ limit → stepBy rows (bitsIn n values) ≡ to b → DescentEnds n limit rows start (Descended.Spent moves) values
+    ends-spent b q e =
+        let none : limit - moves ≡ 0 = omega arith in
+        let end = (rw none at (r .same)) ∙ spends moves rows (bitsIn n values) b e in
+        rw end (refl, (r .table, refl))
 
     pub reached-more : (b next : List Bool) → (moves ≡ limit → ⊥) → stepBy rows (bitsIn n values) ≡ to b → Table n next → bitsIn n next ≡ b
-        → Reached n limit rows (bitsOf n start) next (moves + 1)
+        → Reached n limit rows start next (moves + 1)
     reached-more b next q e table is =
         let one : limit - moves ≡ suc (limit - (moves + 1)) = omega (arith, r .most) in
         record {

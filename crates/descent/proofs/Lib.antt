@@ -1,3 +1,4 @@
 pub mod MoveLaws
+pub mod NotedLaws
 pub mod DescentLaws
 pub mod Examples

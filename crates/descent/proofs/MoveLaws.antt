@@ -1,107 +1,108 @@
--- One row and the table of an assignment: the values in the table, the order of what is left from index i on, and the table moved. Assumes nothing.
-use mathlib.Core.Path.{_≡_, refl, sym, _∙_}
-use mathlib.Core.Bool.{Bool, true, false, not, Bool·beq}
-use mathlib.Core.List.{List, _∷_}
-use Prim.Native.Nat.{ℕ, _+_, _*_, _≤_, _<_}
+-- One row and the table of an assignment: the table moved, variable by variable of a span. Assumes nothing.
+use mathlib.Core.Path.{_≡_, refl, sym, ap, _∙_}
+use mathlib.Core.Bool.{Bool, true, false, not, cond}
+use mathlib.Core.List.{List}
+use mathlib.Core.Logic.{⊎-elim}
+use Prim.Native.Nat.{ℕ, _+_, _-_, _*_, _/_, _≤_, _<_}
 use native.Mathlib.Numerals.{add-one}
 use native.Mathlib.Omega.{arith}
-use lib.ListN.{length, getD, take, drop, set, drop-of-length-le}
-use lib.Seq.{getD-take, take-suc, take-suc-set, length-take-le}
-use Rattle.lists.proofs.Cases.{never}
-use Rattle.lists.proofs.Steps.{drop-step}
+use lib.ListN.{length, getD, take, set, length-set}
+use lib.Seq.{getD-set-other, take-suc, take-suc-set}
+use Rattle.lists.proofs.Cases.{lt-or-le}
 use Rattle.lists.proofs.Members.{map-at}
-use Rattle.packed.specs.Order.{valueOf, less}
+use Rattle.packed.specs.Order.{valueOf}
+use Rattle.store.specs.Literals.{isNegative}
 use Rattle.store.specs.Stores.{isRow}
 use Rattle.store.proofs.Formed.{row-of}
 use Rattle.lexleader.specs.Models.{literalValue}
-use Rattle.lexleader.specs.Rows.{moved, lowers}
+use Rattle.lexleader.specs.Rows.{moved}
 use Rattle.lexleader.proofs.Images.{length-moved}
 use Rattle.valuation.specs.Tables.{bitsIn, Table}
-use Rattle.valuation.proofs.TableLaws.{length-in, bit-in, TableBegun, begun-bits, begun-table}
+use Rattle.valuation.proofs.TableLaws.{TableBegun, begun-bits, begun-table, begun-more}
+use Rattle.trial.specs.Spans.{Covers}
+use Rattle.trial.proofs.PairLaws.{stays-before, stays-after}
+use Rattle.trial.proofs.Theorem.{stays-same}
 
--- ---- what is left from index i on
+-- the variables up to number i are moved, and those after it not yet
+pub record MovedTo (row : List ℕ) (before values : List Bool) (i : ℕ) : Type 0 where
+  pub size : length values ≡ length before
+  pub begun : TableBegun (moved row (bitsIn (length row) before)) values (i + 1)
+  pub others : (code : ℕ) → i < code / 2 → getD values code false ≡ getD before code false
 
--- the moved assignment is smaller from index i on
-unfoldable pub lowersFrom : List ℕ → List Bool → ℕ → Bool
-lowersFrom row bits i = less (drop i (moved row bits)) (drop i bits)
-
-pub lowers-all : (row : List ℕ) (bits : List Bool) → lowers row bits ≡ lowersFrom row bits 0
-unfolding lowers lowersFrom
-lowers-all row bits = refl
-
-pub lowers-end : (row : List ℕ) (bits : List Bool) (i : ℕ) → length row ≤ i → lowersFrom row bits i ≡ false
-unfolding lowersFrom less
-lowers-end row bits i h = rw (drop-of-length-le (moved row bits) {i = i} (omega (arith, length-moved row bits)))
-
--- two assignments from a place on, with the values that they have there: the first difference decides
-less-here : (own image : Bool) (a b : List Bool) → not (Bool·beq own image) ≡ true → less (image ∷ a) (own ∷ b) ≡ own
-unfolding less
-less-here true true a b e = never e
-less-here true false a b e = refl
-less-here false true a b e = refl
-less-here false false a b e = never e
-
-less-on : (own image : Bool) (a b : List Bool) → not (Bool·beq own image) ≡ false → less (image ∷ a) (own ∷ b) ≡ less a b
-unfolding less
-less-on true true a b e = refl
-less-on true false a b e = never (sym e)
-less-on false true a b e = never (sym e)
-less-on false false a b e = refl
-
--- ---- a row and a table of as many variables
-
-module _ (row : List ℕ) (values : List Bool) (good : isRow (length row) row ≡ true) (table : Table (length row) values) where
+-- a row and a table of as many variables
+module _ (row : List ℕ) (before : List Bool) (good : isRow (length row) row ≡ true) (table : Table (length row) before) where
   -- the assignment in the table
   abbrev bits : List Bool
-  bits = bitsIn (length row) values
+  bits = bitsIn (length row) before
 
   module _ (i : ℕ) (h : i < length row) where
-    pub image-in : getD row i 0 < length values
+    pub image-in : getD row i 0 < length before
     image-in = omega (arith, row-of (length row) row good .high i h, table .room)
 
     -- the value of a variable's image, which is its own once the row has moved the assignment
-    pub image-is : getD (moved row bits) i false ≡ getD values (getD row i 0) false
+    pub image-is : getD before (getD row i 0) false ≡ getD (moved row bits) i false
     unfolding moved
     image-is =
         let r = row-of (length row) row good in
-        map-at (literalValue (valueOf bits)) row i 0 false h ∙ sym (table .value (getD row i 0) (r .low i h) (r .high i h))
+        table .value (getD row i 0) (r .low i h) (r .high i h) ∙ sym (map-at (literalValue (valueOf bits)) row i 0 false h)
 
-    abbrev own : Bool
-    own = getD values (2 * i + 2) false
+  -- a literal whose variable stays
+  stays-value : (code : ℕ) → 1 ≤ code / 2 → code / 2 ≤ length row → getD row (code / 2 - 1) 0 ≡ 2 * (code / 2 - 1 + 1)
+      → getD before code false ≡ literalValue (valueOf (moved row bits)) code
+  unfolding literalValue
+  stays-value code low high e =
+      let here : 2 * (code / 2 - 1 + 1) ≡ 2 * (code / 2) = omega arith in
+      table .value code low high
+      ∙ ap (λ (b : Bool). cond (isNegative code) (not b) b) (sym (stays-same row bits (code / 2) low high (e ∙ here)))
 
-    abbrev image : Bool
-    image = getD values (getD row i 0) false
+  module _ {first end : ℕ} (covers : Covers row first end) where
+    pub moved-none : MovedTo row before before first
+    moved-none = record {
+      size = refl;
+      begun = record {
+        value = λ code low high.
+            stays-value code low (omega (arith, covers .order, covers .within)) (stays-before covers (code / 2 - 1) (omega arith));
+      };
+      others = λ code h. refl;
+    }
 
-    front : lowersFrom row bits i ≡ less (image ∷ drop (i + 1) (moved row bits)) (own ∷ drop (i + 1) bits)
-    unfolding lowersFrom
-    front =
-        rw (
-          drop-step (moved row bits) i false (omega (arith, length-moved row bits)),
-          drop-step bits i false (omega (arith, length-in (length row) values)),
-          bit-in (length row) values i h,
-          image-is,
-        )
+    module _ (values : List Bool) (m : MovedTo row before values end) where
+      whole : TableBegun (moved row bits) values (length row + 1)
+      whole = record {
+        value = λ code low high.
+            ⊎-elim (λ (h : code / 2 < end + 1). m .begun .value code low h)
+            (λ (h : end + 1 ≤ code / 2).
+            m .others code (omega arith) ∙ stays-value code low (omega arith) (stays-after covers (code / 2 - 1) (omega arith) (omega arith)))
+            (lt-or-le (code / 2) (end + 1));
+      }
 
-    pub lowers-here : not (Bool·beq own image) ≡ true → lowersFrom row bits i ≡ own
-    lowers-here e = front ∙ less-here own image _ _ e
+      pub moved-table : Table (length row) values
+      moved-table =
+          begun-table (length row) (moved row bits) values (length row + 1) (length-moved row bits) (omega arith) whole (omega (arith, m .size, table .room))
 
-    pub lowers-on : not (Bool·beq own image) ≡ false → lowersFrom row bits i ≡ lowersFrom row bits (i + 1)
-    unfolding lowersFrom
-    lowers-on e = front ∙ less-on own image _ _ e
+      pub moved-bits : bitsIn (length row) values ≡ moved row bits
+      moved-bits = begun-bits (length row) (moved row bits) values (length row + 1) (length-moved row bits) (omega arith) whole
 
-  -- the table of the moved assignment, once it is made and written over the first
-  module _ (next out : List Bool) (i : ℕ) (past : length row < i) (begun : TableBegun (moved row bits) next i)
-      (long : length values ≤ length next) (is : out ≡ take (length values) next) where
-    written : TableBegun (moved row bits) out (length row + 1)
-    written = rw is (record { value = λ code low high. getD-take (length values) next code false (omega (arith, table .room)) ∙ begun .value code low (omega arith) })
+  module _ (values : List Bool) (i : ℕ) (m : MovedTo row before values i) (h : i < length row) where
+    abbrev b : Bool
+    b = getD before (getD row i 0) false
 
-    pub moved-table : Table (length row) out
-    moved-table =
-        let size : length out ≡ length values = rw is (length-take-le (length values) next long) in
-        begun-table (length row) (moved row bits) out (length row + 1) (length-moved row bits) (omega arith) written (omega (arith, table .room, size))
+    abbrev next : List Bool
+    next = set (set values (2 * (i + 1)) b) (2 * (i + 1) + 1) (not b)
 
-    pub moved-bits : bitsIn (length row) out ≡ moved row bits
-    moved-bits = begun-bits (length row) (moved row bits) out (length row + 1) (length-moved row bits) (omega arith) written
+    pub moved-more : MovedTo row before next (i + 1)
+    moved-more =
+        let place : i ≡ i + 1 - 1 = omega arith in
+        record {
+          size = length-set (set values (2 * (i + 1)) b) (2 * (i + 1) + 1) (not b) ∙ length-set values (2 * (i + 1)) b ∙ m .size;
+          begun =
+              begun-more (moved row bits) values (i + 1) (m .begun) (omega (arith, m .size, table .room)) b
+              (image-is i h ∙ ap (λ (k : ℕ). getD (moved row bits) k false) place);
+          others = λ code k.
+              getD-set-other (set values (2 * (i + 1)) b) (2 * (i + 1) + 1) code (not b) false (λ e. omega arith)
+              ∙ getD-set-other values (2 * (i + 1)) code b false (λ e. omega arith)
+              ∙ m .others code (omega arith);
+        }
 
 -- ---- a table written over another
 

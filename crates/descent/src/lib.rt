@@ -49,7 +49,15 @@ pub fn descend(images: &[u16], rows: usize, n: usize, a: &mut [u64], limit: u64)
 }
 
 // Descends from the assignment of a table.
-fn settle(images: &[u16], rows: usize, n: usize, firsts: &[u16], ends: &[u16], values: &mut [bool], limit: u64) -> Descended
+fn settle(
+    images: &[u16],
+    rows: usize,
+    n: usize,
+    firsts: &[u16],
+    ends: &[u16],
+    values: &mut [bool],
+    limit: u64,
+) -> Descended
     requires { ⌜ FormedRows n rows (now images) × Noted n rows (now images) (now firsts) (now ends)
         × Table n (now values) × (length (now values) ≡ maxTable) ⌝ }
     ensures answer { λ r. let held = rowsOf n rows (now (images .entry)) in
@@ -67,7 +75,11 @@ fn settle(images: &[u16], rows: usize, n: usize, firsts: &[u16], ends: &[u16], v
         if moves == limit {
             return Descended::Spent(moves);
         }
-        move_by(store::rows::row(images, n, r), noted(firsts, ends, r), values);
+        move_by(
+            store::rows::row(images, n, r),
+            noted(firsts, ends, r),
+            values,
+        );
         moves += 1;
     }
 }
@@ -99,7 +111,14 @@ fn noted(firsts: &[u16], ends: &[u16], r: usize) -> Span
 }
 
 // The first row, from 0, that makes the assignment of a table smaller; the count of rows where none does.
-fn first_lowering(images: &[u16], rows: usize, n: usize, firsts: &[u16], ends: &[u16], values: &[bool]) -> usize
+fn first_lowering(
+    images: &[u16],
+    rows: usize,
+    n: usize,
+    firsts: &[u16],
+    ends: &[u16],
+    values: &[bool],
+) -> usize
     requires { ⌜ FormedRows n rows (now images) × Noted n rows (now images) (now firsts) (now ends) × Table n (now values) ⌝ }
     ensures within { λ r. ⌜ r ≤ rows ⌝ }
     ensures none { λ r. let held = rowsOf n rows (now (images .entry)) in
@@ -109,7 +128,11 @@ fn first_lowering(images: &[u16], rows: usize, n: usize, firsts: &[u16], ends: &
 {
     let mut r = 0;
     while r < rows {
-        let tried = trial::try_row(store::rows::row(images, n, r), noted(firsts, ends, r), values);
+        let tried = trial::try_row(
+            store::rows::row(images, n, r),
+            noted(firsts, ends, r),
+            values,
+        );
         if tried.lowers {
             return r;
         }
@@ -154,7 +177,7 @@ fn move_span(row: &[u16], span: Span, before: &[bool], values: &mut [bool])
 {
     let mut i = span.first;
     while i < span.end {
-        let own = 2 * i + 2;
+        let own = 2 * (i + 1);
         let image = row[i] as usize;
         let value = before[image];
         values[own] = value;

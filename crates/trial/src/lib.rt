@@ -66,15 +66,9 @@ pub fn span_of(row: &[u16]) -> Span
     let mut end = row.len();
     while first < end {
         if row[end - 1] as usize != 2 * end {
-            return Span {
-                first,
-                end,
-            };
+            return Span { first, end };
         }
         end -= 1;
     }
-    Span {
-        first,
-        end,
-    }
+    Span { first, end }
 }

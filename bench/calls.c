@@ -21,15 +21,15 @@ typedef struct {
     __typeof__(symbreak_clause) *clause;
     __typeof__(symbreak_fill_in) *fill_in;
     __typeof__(symbreak_check) *check;
-    __typeof__(symbreak_descend) *descend;
+    __typeof__(symbreak_descend) *descend, *descend_noting;
     __typeof__(symbreak_compare) *compare;
 } calls;
 
-#define CALLS(prefix) \
+#define CALLS(prefix, noting) \
     { \
-        prefix##_open, prefix##_offer, prefix##_header, prefix##_clause, prefix##_fill_in, prefix##_check, prefix##_descend, prefix##_compare \
+        prefix##_open, prefix##_offer, prefix##_header, prefix##_clause, prefix##_fill_in, prefix##_check, prefix##_descend, noting, prefix##_compare \
     }
-static const calls library = CALLS(symbreak), plain = CALLS(plain);
+static const calls library = CALLS(symbreak, symbreak_descend), plain = CALLS(plain, plain_descend_noting);
 
 /* All that is lent, the last answer and the sum of all. */
 static struct world {
@@ -78,11 +78,14 @@ static void clause(const calls *c) { say_answer(c->clause(STORE, w.m + 6 * w.row
 static void fill_in(const calls *c) { say_answer(c->fill_in(STORE, w.a, (w.n + 63) / 64, SLICE(w.b))); }
 static void check(const calls *c) { say_answer(c->check(STORE, w.b, (w.n + w.rows * (w.n - 1) + 63) / 64)); }
 
-static void descend(const calls *c)
+static void descend_by(__typeof__(symbreak_descend) *call)
 {
     memcpy(w.b, w.a, sizeof(uint64_t) * (MAX_N / 64));
-    say_descent(c->descend(STORE, w.b, (w.n + 63) / 64, UINT64_MAX));
+    say_descent(call(STORE, w.b, (w.n + 63) / 64, UINT64_MAX));
 }
+
+static void descend(const calls *c) { descend_by(c->descend); }
+static void descend_noting(const calls *c) { descend_by(c->descend_noting); }
 
 static void compare(const calls *c) { say_answer(c->compare(SLICE(w.a), SLICE(w.b))); }
 
@@ -236,6 +239,17 @@ static void to_count(unsigned n, unsigned m, unsigned rows)
     }
 }
 
+/* One true variable, number `rows`. Row r shifts all to the left by r + 1, which is no smaller, but the last row to the right by one: n - rows moves, at each of
+   which all rows are tried. */
+static void to_shift(unsigned n, unsigned m, unsigned rows)
+{
+    (void)m;
+    unmoved_rows(n, rows);
+    set(w.a, rows - 1);
+    for (unsigned r = 0; r < rows; r++)
+        for (unsigned i = 0; i < n; i++) w.images[r * n + i] = (uint16_t)(2 * ((i + (r + 1 < rows ? r + 1 : n - 1)) % n + 1));
+}
+
 static void to_compare(unsigned n, unsigned m, unsigned rows)
 {
     closed_formula(n, m);
@@ -268,7 +282,11 @@ static const job jobs[] = {
     {"fill in, 64 full rows", to_write, fill_in, 512, 4096, 64, 0, 519},
     {"check, 64 full rows, all clauses true", to_check, check, 512, 4096, 64, 0, 0},
     {"descend, 1,056 moves, 64 exchanges of neighbours", to_exchange, descend, 512, 0, 64, 0, 1056},
+    {"the same against C that notes what rows move", to_exchange, descend_noting, 512, 0, 64, 0, 1056},
     {"descend, 4,095 moves, a counter of 64 rows", to_count, descend, 512, 0, 64, 0, 4095},
+    {"the same against C that notes what rows move", to_count, descend_noting, 512, 0, 64, 0, 4095},
+    {"descend, 448 moves, 64 full rows", to_shift, descend, 512, 0, 64, 0, 448},
+    {"the same against C that notes what rows move", to_shift, descend_noting, 512, 0, 64, 0, 448},
     {"compare 519 words, alike but for the last bit", to_compare, compare, 512, 4096, 64, 0, 64 * 519},
 };
 enum { JOBS = sizeof jobs / sizeof *jobs };

@@ -401,6 +401,12 @@ symbreak_answer plain_check(RECORD, FORMULA, IMAGES, const uint64_t *a, size_t a
     return answer(0);
 }
 
+static void pack(const uint8_t *value, uint64_t n, uint64_t *a, size_t a_len)
+{
+    memset(a, 0, a_len * sizeof *a);
+    for (size_t i = 0; i < n; i++) a[i / 64] |= (uint64_t)value[i + 1] << (63 - i % 64);
+}
+
 /* A row is walked from variable 1 to the first at which a and a moved differ, over variables that it does not move as well. */
 symbreak_descent plain_descend(RECORD, FORMULA, IMAGES, uint64_t *a, size_t a_len, uint64_t limit)
 {
@@ -428,10 +434,46 @@ symbreak_descent plain_descend(RECORD, FORMULA, IMAGES, uint64_t *a, size_t a_le
         moves++;
         r = 0;
     }
-    if (moves) {
-        memset(a, 0, a_len * sizeof *a);
-        for (size_t i = 0; i < n; i++) a[i / 64] |= (uint64_t)value[i + 1] << (63 - i % 64);
+    if (moves) pack(value, n, a, a_len);
+    return (symbreak_descent){0, 0, settled, moves};
+}
+
+/* The same, with a note of where each row's moved variables are: from first[r] up to end[r]. Only these are walked and moved. */
+symbreak_descent plain_descend_noting(RECORD, FORMULA, IMAGES, uint64_t *a, size_t a_len, uint64_t limit)
+{
+    uint16_t moved[MAX_ROWS], first[MAX_ROWS], end[MAX_ROWS];
+    uint8_t value[MAX_N + 1], other[MAX_N];
+    uint64_t moves = 0, settled = 1;
+    uint32_t refusal = fault(LENT, moved);
+    if (!refusal && !is_assignment(a, a_len, n)) refusal = SYMBREAK_BAD_ASSIGNMENT;
+    if (refusal) return (symbreak_descent){refusal, 0, 0, 0};
+    unpack(a, n, value);
+    for (size_t r = 0; r < rows; r++) {
+        const uint16_t *row = images + r * n;
+        size_t from = 0, to = n;
+        while (from < n && row[from] == 2 * (from + 1)) from++;
+        while (from < to && row[to - 1] == 2 * to) to--;
+        first[r] = (uint16_t)from;
+        end[r] = (uint16_t)to;
     }
+    for (size_t r = 0; r < rows;) {
+        const uint16_t *row = images + r * n;
+        size_t from = first[r], to = end[r], i = from;
+        while (i < to && value[i + 1] == value[row[i] / 2]) i++;
+        if (i == to || !value[i + 1]) {
+            r++;
+            continue;
+        }
+        if (moves == limit) {
+            settled = 0;
+            break;
+        }
+        for (i = from; i < to; i++) other[i] = value[row[i] / 2];
+        memcpy(value + from + 1, other + from, to - from);
+        moves++;
+        r = 0;
+    }
+    if (moves) pack(value, n, a, a_len);
     return (symbreak_descent){0, 0, settled, moves};
 }
 

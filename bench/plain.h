@@ -13,6 +13,9 @@ __typeof__(symbreak_check) plain_check;
 __typeof__(symbreak_descend) plain_descend;
 __typeof__(symbreak_compare) plain_compare;
 
+/* The same as plain_descend, by a quicker way for rows that move few variables. */
+__typeof__(symbreak_descend) plain_descend_noting;
+
 /* What program.c takes beside them: it keeps its own store, so that nobody has to test it again, and writes pages. */
 
 /* An offer to an open store known to be well formed: refusals 22, 7 to 11, 23. */

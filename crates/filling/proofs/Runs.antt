@@ -7,7 +7,7 @@ use Prim.Native.Nat.{ℕ, suc, _+_, _-_, _*_, _/_, _≤_, _<_}
 use native.Mathlib.Omega.{arith}
 use borrow.Author.Tests.{eqb-true, eqb-false}
 use mir.Val.{boolByte}
-use lib.ListN.{length, getD, replicate, length-append}
+use lib.ListN.{length, take, replicate, length-append}
 use lib.Dec.{eqb}
 use Rattle.lists.proofs.Cases.{never}
 use Rattle.packed.specs.Words.{maxWords, bitsOf, wordCount}
@@ -18,7 +18,8 @@ use Rattle.packed.proofs.Bits.{length-bits}
 use Rattle.store.specs.Stores.{rowsOf, rowsFrom, rowAt, FormedRows}
 use Rattle.store.proofs.RowLaws.{from-here, from-end}
 use Rattle.lexleader.specs.Models.{literalValue}
-use Rattle.lexleader.specs.Rows.{Pair, pairsOf}
+use Rattle.lexleader.specs.Rows.{Pair, pairsFrom, pairsOf}
+use Rattle.lexleader.specs.Deciding.{decides, deciding}
 use Rattle.lexleader.specs.Clause.{pairAt, pairsAt}
 use Rattle.lexleader.specs.Made.{agrees, settingsAfter, rowSettings, settings, auxiliaries, allAuxiliaries, filledIn, madeVariables}
 use Rattle.lexleader.proofs.Settings.{length-settings}
@@ -26,10 +27,6 @@ use Rattle.lexleader.proofs.Walk.{walk-past, walk-moved, walk-end}
 use Rattle.lexleader.proofs.Bounds.{all-auxiliaries-most}
 use Rattle.valuation.specs.Tables.{bitsIn, Table}
 use Rattle.filling.specs.Written.{agreeing}
-
-beq-refl : (b : Bool) → Bool·beq b b ≡ true
-beq-refl true = refl
-beq-refl false = refl
 
 -- ---- the auxiliaries of a row: a run of true, then one of false
 
@@ -76,38 +73,57 @@ module _ (row : List ℕ) (bits : List Bool) (all agreed : ℕ) (count : all ≡
   unfolding rowSettings auxiliaries
   settings-apart h = rw count (after-true (valueOf bits) (pairsOf row) agreed is .1 (omega (arith, count)))
 
--- ---- how far a row's variables agree with their images
+-- ---- how far a row's variables agree with their images: up to the one that decides
 
--- the code reads the values of a variable and of its image from a table
-pub agrees-is : {n : ℕ} {values : List Bool} → Table n values → (x y : ℕ) → 1 ≤ x / 2 → x / 2 ≤ n → 1 ≤ y / 2 → y / 2 ≤ n
-    → Bool·beq (getD values x false) (getD values y false) ≡ agrees (valueOf (bitsIn n values)) (record { x = x; y = y })
-unfolding agrees
-agrees-is t x y a b c d = ap₂ Bool·beq (t .value x a b) (t .value y c d)
+module _ (v : ℕ → Bool) where
+  -- no variable from i on decides
+  agreeing-all : (i : ℕ) (row : List ℕ) → 1 ≤ i → deciding (literalValue v) (pairsFrom i row) ≡ 0 → agreeing v (pairsFrom i row) ≡ length (pairsFrom i row)
+  unfolding pairsFrom deciding decides agreeing agrees
+  agreeing-all i [] low e = refl
+  agreeing-all i (y ∷ row) low e = go (eqb y (2 * i)) (Bool·beq (literalValue v (2 * i)) (literalValue v y)) refl (agreeing-all (i + 1) row (omega arith)) e
+    where
+      go : (c b : Bool) → Bool·beq (literalValue v (2 * i)) (literalValue v y) ≡ b
+          → (deciding (literalValue v) (pairsFrom (i + 1) row) ≡ 0 → agreeing v (pairsFrom (i + 1) row) ≡ length (pairsFrom (i + 1) row))
+          → let pairs = cond c (pairsFrom (i + 1) row) (record { x = 2 * i; y = y } ∷ pairsFrom (i + 1) row) in
+          deciding (literalValue v) pairs ≡ 0 → agreeing v pairs ≡ length pairs
+      go true b q later e = later e
+      go false true q later e = rw q (omega (arith, later (rw q at e)))
+      go false false q later e = let none : 2 * i / 2 ≡ 0 = rw q at e in absurd (omega arith)
 
-module _ (v : ℕ → Bool) (row : List ℕ) (i : ℕ) where
-  pub agreeing-end : length row ≤ i → agreeing v (pairsAt i row) ≡ 0
-  unfolding agreeing
-  agreeing-end h = rw (walk-end row i h)
+  -- variable d decides, i or a later one
+  agreeing-before : (i : ℕ) (row : List ℕ) (d : ℕ) → 1 ≤ d → deciding (literalValue v) (pairsFrom i row) ≡ d
+      → (i ≤ d) × (agreeing v (pairsFrom i row) ≡ length (pairsFrom i (take (d - i) row)))
+  unfolding pairsFrom deciding decides agreeing agrees
+  agreeing-before i [] d low e = absurd (omega arith)
+  agreeing-before i (y ∷ row) d low e = go (eqb y (2 * i)) refl (Bool·beq (literalValue v (2 * i)) (literalValue v y)) refl (agreeing-before (i + 1) row d low) e
+    where
+      go : (c : Bool) → eqb y (2 * i) ≡ c → (b : Bool) → Bool·beq (literalValue v (2 * i)) (literalValue v y) ≡ b
+          → (deciding (literalValue v) (pairsFrom (i + 1) row) ≡ d
+          → (i + 1 ≤ d) × (agreeing v (pairsFrom (i + 1) row) ≡ length (pairsFrom (i + 1) (take (d - (i + 1)) row))))
+          → let pairs = cond c (pairsFrom (i + 1) row) (record { x = 2 * i; y = y } ∷ pairsFrom (i + 1) row) in
+          deciding (literalValue v) pairs ≡ d → (i ≤ d) × (agreeing v pairs ≡ length (pairsFrom i (take (d - i) (y ∷ row))))
+      go true is b q later e =
+          let rest = later e in
+          let next : d - i ≡ suc (d - (i + 1)) = omega (arith, rest .0) in
+          (omega (arith, rest .0), rw (next, is) (rest .1))
+      go false is true q later e =
+          let rest = later (rw q at e) in
+          let next : d - i ≡ suc (d - (i + 1)) = omega (arith, rest .0) in
+          (omega (arith, rest .0), rw (next, is, q) (omega (arith, rest .1)))
+      go false is false q later e =
+          let here : 2 * i / 2 ≡ d = rw q at e in
+          let none : d - i ≡ 0 = omega arith in
+          (omega arith, rw (none, q))
 
-  module _ (own : ℕ) (is : own ≡ 2 * (i + 1)) (h : i < length row) where
-    -- a variable that stays agrees with itself
-    same : getD row i 0 ≡ own → agrees v (pairAt row i) ≡ true
-    unfolding agrees
-    same e = rw (e, is) (beq-refl (literalValue v (2 * (i + 1))))
+  module _ (row : List ℕ) where
+    pub agreeing-none : deciding (literalValue v) (pairsOf row) ≡ 0 → agreeing v (pairsOf row) ≡ length (pairsOf row)
+    unfolding pairsOf
+    agreeing-none e = agreeing-all 1 row (omega arith) e
 
-    pub agreeing-stops : agrees v (pairAt row i) ≡ false → agreeing v (pairsAt i row) ≡ 0
-    unfolding agreeing
-    agreeing-stops differ = rw (walk-moved row i h (λ e. never (sym differ ∙ same (e ∙ sym is))), differ)
-
-    pub agreeing-on : agrees v (pairAt row i) ≡ true
-        → (agreeing v (pairsAt i row) ≡ boolByte (not (eqb (getD row i 0) own)) + agreeing v (pairsAt (i + 1) row)) × (boolByte (not (eqb (getD row i 0) own)) ≤ 1)
-    unfolding agreeing
-    agreeing-on agree = go (eqb (getD row i 0) own) refl
-      where
-        go : (b : Bool) → eqb (getD row i 0) own ≡ b
-            → (agreeing v (pairsAt i row) ≡ boolByte (not b) + agreeing v (pairsAt (i + 1) row)) × (boolByte (not b) ≤ 1)
-        go true e = (omega (arith, ap (agreeing v) (walk-past row i h (eqb-true (getD row i 0) own e ∙ is))), omega arith)
-        go false e = (rw (walk-moved row i h (λ q. eqb-false (getD row i 0) own e (q ∙ sym is)), agree), omega arith)
+    pub agreeing-to : 1 ≤ deciding (literalValue v) (pairsOf row)
+        → agreeing v (pairsOf row) ≡ length (pairsOf (take (deciding (literalValue v) (pairsOf row) - 1) row))
+    unfolding pairsOf
+    agreeing-to h = agreeing-before 1 row (deciding (literalValue v) (pairsFrom 1 row)) h refl .1
 
 -- ---- the auxiliaries of all rows
 

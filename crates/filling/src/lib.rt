@@ -4,15 +4,16 @@
 // The auxiliaries of a row stand for its moved variables but the last, in their order, and agreement as far as xj is agreement as far as
 // x(j-1) and at xj. So along a row the auxiliaries are a run of true, as long as the moved variables agree with their images, and then a
 // run of false: once two values differ, nothing behind them is looked at. Variables that stay agree with themselves and have no
-// auxiliary. Hence a row costs one walk that counts the moved variables and one, mostly short, that counts how many agree (`agreeing`),
-// and then two runs, which a writer takes up to 32 values at a time (`packed::writer`). Values are read from a table by code
-// (`valuation::tabulate`), not from the words.
+// auxiliary. Hence a row costs one walk that counts the moved variables and, mostly short, a trial (`trial::try_row`) for the first that
+// does not agree and a count of those before it (`agreeing`); and then two runs, which a writer takes up to 32 values at a time
+// (`packed::writer`). Values are read from a table by code (`valuation::tabulate`), not from the words.
 //
 // What makes the proof go: `settings-alike` and `settings-apart` (proofs/Runs.antt) say that the definition, which carries agreement
 // along the pairs, is these two runs; each function's contract is that it appends its values to whatever the writer holds (`Appends`),
 // so the loop over the rows needs only that the rows passed and the rows left make up all of them.
 use packed::writer;
 use packed::writer::Writer;
+use trial::Span;
 ghost use mathlib.Core.Path.{_≡_};
 ghost use mathlib.Core.Bool.{true};
 ghost use mathlib.Core.List.{_++_};
@@ -90,16 +91,13 @@ fn agreeing(row: &[u16], values: &[bool]) -> usize
     ensures { λ r. let bits = bitsIn (length (now (row .entry))) (now (values .entry)) in
         ⌜ r ≡ agreeing (valueOf bits) (pairsOf (now (row .entry))) ⌝ }
 {
-    let mut count: usize = 0;
-    let mut own: u16 = 2;
-    let mut i = 0;
-    while i < row.len() {
-        if values[own as usize] != values[row[i] as usize] {
-            return count;
-        }
-        count += (row[i] != own) as usize;
-        own += 2;
-        i += 1;
+    let span = Span {
+        first: 0,
+        end: row.len(),
+    };
+    let tried = trial::try_row(row, span, values);
+    if tried.variable == 0 {
+        return lexleader::counting::pair_count(row);
     }
-    count
+    lexleader::counting::pair_count(&row[..tried.variable - 1])
 }

@@ -40,7 +40,8 @@ module _ (n : ℕ) (row : List ℕ) (values : List Bool) (good : isRow n row ≡
   is : (code : ℕ) → isLiteral n code ≡ true → byCode values code ≡ literalValue (valueOf (bitsIn n values)) code
   is code l = table .value code (literal-low n code l) (literal-high n code l)
 
+  pub table-same : SameAlong (pairsOf row) (byCode values) (literalValue (valueOf (bitsIn n values)))
+  table-same q m = (is (q .x) (literals q m .0), is (q .y) (literals q m .1))
+
   pub table-answers : Answers row (bitsIn n values) (lowersAlong (byCode values) (pairsOf row)) (deciding (byCode values) (pairsOf row))
-  table-answers =
-      trial-answers row (bitsIn n values) (length-in n values ∙ sym (row-of n row good .size)) (byCode values)
-      (λ q m. (is (q .x) (literals q m .0), is (q .y) (literals q m .1)))
+  table-answers = trial-answers row (bitsIn n values) (length-in n values ∙ sym (row-of n row good .size)) (byCode values) table-same

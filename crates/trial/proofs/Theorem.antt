@@ -6,7 +6,7 @@ use Prim.Native.Nat.{ℕ, _-_, _*_, _≤_, _<_}
 use native.Mathlib.Omega.{arith}
 use lib.ListN.{length, getD}
 use Rattle.lists.proofs.Members.{map-at}
-use Rattle.packed.specs.Order.{valueOf}
+use Rattle.packed.specs.Order.{valueOf, firstDifference}
 use Rattle.packed.proofs.OrderLaws.{difference-zero, difference-first, difference-here, difference-within}
 use Rattle.lexleader.specs.Models.{literalValue}
 use Rattle.lexleader.specs.Rows.{moved, pairsOf}
@@ -27,13 +27,17 @@ module _ (row : List ℕ) (a : List Bool) (size : length a ≡ length row) (valu
   alike : length a ≡ length (moved row a)
   alike = size ∙ sym (length-moved row a)
 
+  within : firstDifference a (moved row a) ≤ length row
+  within = omega (arith, size, difference-within a (moved row a))
+
   pub trial-answers : Answers row a (lowersAlong value (pairsOf row)) (deciding value (pairsOf row))
   trial-answers =
       let at = deciding-same value (literalValue (valueOf a)) (pairsOf row) same ∙ deciding-moved row a size in
       rw at (record {
         says = lowers-same value (literalValue (valueOf a)) (pairsOf row) same ∙ along-moved row a size;
         compared = refl;
-        is-moved = λ h e. difference-here a (moved row a) alike h (sym (stays-same row a _ h (omega (arith, size, difference-within a (moved row a))) e));
+        within = within;
+        is-moved = λ h e. difference-here a (moved row a) alike h (sym (stays-same row a _ h within e));
         differs = difference-here a (moved row a) alike;
         least = λ i low h. difference-first a (moved row a) i alike low h;
         none = difference-zero a (moved row a) alike;

@@ -1,88 +1,66 @@
--- `filling::agreeing` meets its contract. The invariant: the variables before index i agree with their images, and `count` of them are moved. Assumes nothing.
-use mathlib.Core.Path.{_≡_, sym, ap, _∙_}
-use mathlib.Core.Bool.{Bool, false, Bool·beq}
+-- `filling::agreeing` meets its contract: the moved variables before the one that decides agree with their images, or all where none decides.
+-- Assumes nothing.
+use mathlib.Core.Path.{_≡_, refl, sym, ap, _∙_}
+use mathlib.Core.Bool.{Bool}
 use mathlib.Core.List.{List}
-use Prim.Native.Nat.{_+_, _-_, _*_, _≤_}
+use Prim.Native.Nat.{_-_, _≤_}
 use native.Mathlib.Omega.{arith}
-use borrow.Author.Tests.{not-true, not-false}
-use lib.ListN.{length, getD}
-use Rattle.packed.specs.Order.{valueOf}
-use Rattle.store.proofs.Formed.{row-of}
-use Rattle.lexleader.specs.Rows.{pairsOf}
-use Rattle.lexleader.specs.Clause.{pairAt, pairsAt}
-use Rattle.lexleader.specs.Made.{agrees}
-use Rattle.lexleader.proofs.Walk.{pairs-start, walk-counts}
-use Rattle.valuation.specs.Tables.{bitsIn}
-use Rattle.filling.specs.Written.{agreeing}
-use Rattle.filling.proofs.Runs.{agrees-is, agreeing-end, agreeing-stops, agreeing-on}
 use borrow.Author.Needs.{needs}
+use lib.ListN.{length}
+use lib.Seq.{length-take-le}
+use Rattle.packed.specs.Order.{valueOf}
+use Rattle.lexleader.specs.Models.{literalValue}
+use Rattle.lexleader.specs.Rows.{pairsOf}
+use Rattle.lexleader.specs.Deciding.{deciding}
+use Rattle.lexleader.proofs.Pairs.{deciding-same}
+use Rattle.valuation.specs.Tables.{bitsIn}
+use Rattle.trial.proofs.PairLaws.{covers-all}
+use Rattle.trial.proofs.OnTable.{table-places, table-same, table-answers}
+use Rattle.filling.proofs.Runs.{agreeing-none, agreeing-to}
 use Rattle.filling.proofs.agreeing.Statement.{statement}
 use Rattle.filling.proofs.agreeing.Tie as tie
 
-abbrev Inv-loop : tie.InvT-loop
-Inv-loop row values count₀ own₀ i₀ count own i =
-    (i ≤ length row) × (count ≤ i) × (own ≡ 2 * (i + 1))
-    × (agreeing (valueOf (bitsIn (length row) values)) (pairsOf row) ≡ count + agreeing (valueOf (bitsIn (length row) values)) (pairsAt i row))
-
-abbrev μ-loop : tie.MeasureT-loop
-μ-loop row values count₀ own₀ i₀ count own i = length row - i
-
 -- the assignment in the table
-abbrev bits : tie.Start Inv-loop μ-loop → List Bool
+abbrev bits : tie.Start → List Bool
 bits s = bitsIn (length (s .args .row .now)) (s .args .values .now)
 
-loop-holds : tie.Need-loop-holds Inv-loop μ-loop
-loop-holds c = (omega arith, omega arith, omega arith, omega (arith, ap (agreeing (valueOf (bits c))) (pairs-start (c .args .row .now))))
+try-row-requires : tie.Need-try-row-requires
+try-row-requires c κs = let s = c .before .before in (covers-all _, table-places _ _ _ (s .pre .1) (s .pre .2))
 
-cast-if1-2 : tie.Need-cast-if1-2 Inv-loop μ-loop
-cast-if1-2 c = omega (arith, c .shared-slice-known2 .given (c .before .before .before .loop .i))
+-- what the trial tells is the variable that decides for the assignment
+decided : (c : tie.After-try-row) → let s = c .before .before .before in
+    c .try-row .result .variable ≡ deciding (literalValue (valueOf (bits s))) (pairsOf (s .args .row .now))
+decided c =
+    let s = c .before .before .before in
+    c .try-row .ensures .0 ∙ deciding-same _ _ _ (table-same _ _ _ (s .pre .1) (s .pre .2))
 
-shared-slice-read-if1-3 : tie.Need-shared-slice-read-if1-3 Inv-loop μ-loop
-shared-slice-read-if1-3 c =
-    let l = c .before .before .before .before in
-    let s = l .before in
-    omega (arith, row-of (length (s .args .row .now)) (s .args .row .now) (s .pre .1) .high (l .loop .i) (omega arith), s .pre .2 .room)
-
--- the code's test is whether the variable at i and its image agree
-agree : (c : tie.After-shared-slice-known3 Inv-loop μ-loop) → let l = c .before .before .before .before in
-    let a = l .before .args in
-    Bool·beq (getD (a .values .now) (l .loop .own) false) (getD (a .values .now) (getD (a .row .now) (l .loop .i) 0) false)
-    ≡ agrees (valueOf (bits (l .before))) (pairAt (a .row .now) (l .loop .i))
-agree c =
-    let l = c .before .before .before .before in
-    let s = l .before in
-    let row = row-of (length (s .args .row .now)) (s .args .row .now) (s .pre .1) in
-    rw (l .loop .inv .2)
-    (agrees-is (s .pre .2) (2 * (l .loop .i + 1)) (getD (s .args .row .now) (l .loop .i) 0) (omega arith) (omega arith)
-    (row .low (l .loop .i) (omega arith)) (row .high (l .loop .i) (omega arith)))
-
-returns : tie.Need-returns Inv-loop μ-loop
+returns : tie.Need-returns
 returns c =
-    let l = c .before .before .before .before .before in
-    let s = l .before in
-    let differ = sym (agree (c .before)) ∙ not-true _ (c .if1 .taken) in
-    omega (arith, l .loop .inv .3, agreeing-stops (valueOf (bits s)) (s .args .row .now) (l .loop .i) (l .loop .own) (l .loop .inv .2) (omega arith) differ)
+    let t = c .before .before .before in
+    let row = t .before .before .before .args .row .now in
+    c .pair-count .ensures ∙ sym (agreeing-none (valueOf (bits (t .before .before .before))) row (sym (decided t) ∙ c .before .if1 .taken))
 
-add-count : tie.Need-add-count Inv-loop μ-loop
-add-count c =
-    let l = c .before .before .before .before .before .before in
-    omega (arith, walk-counts (l .before .args .row .now) (l .loop .i) (l .loop .own) (omega arith) (l .loop .inv .2))
+-- the variable is one of the row's
+within : (c : tie.After-try-row) → c .try-row .result .variable ≤ length (c .before .before .before .args .row .now)
+within c = let s = c .before .before .before in omega (arith, c .try-row .ensures .0, table-answers _ _ _ (s .pre .1) (s .pre .2) .within)
 
-loop-again : tie.Need-loop-again Inv-loop μ-loop
-loop-again c =
-    let l = c .before .before .before .before .before .before in
-    let row = l .before .args .row .now in
-    let same = sym (agree (c .before .before)) ∙ not-false _ (c .before .if1 .left) in
-    let on = agreeing-on (valueOf (bits (l .before))) row (l .loop .i) (l .loop .own) (l .loop .inv .2) (omega arith) same in
-    (omega arith, omega (arith, walk-counts row (l .loop .i) (l .loop .own) (omega arith) (l .loop .inv .2)), omega arith, omega (arith, l .loop .inv .3, on))
+slice-aggregate-pair-count : tie.Need-slice-aggregate-pair-count
+slice-aggregate-pair-count c = let t = c .before .before .before .before in sym (length-take-le _ _ (omega (arith, within t)))
 
-returns-2 : tie.Need-returns-2 Inv-loop μ-loop
+pair-count-requires-2 : tie.Need-pair-count-requires-2
+pair-count-requires-2 c κs =
+    let t = c .before .before .before .before in
+    let s = t .before .before .before in
+    omega (arith, s .pre .0, within t, length-take-le (t .try-row .result .variable - 1) (s .args .row .now) (omega (arith, within t)))
+
+returns-2 : tie.Need-returns-2
 returns-2 c =
-    let l = c .before in
-    omega (arith, l .loop .inv .3, agreeing-end (valueOf (bits (l .before))) (l .before .args .row .now) (l .loop .i) (omega arith))
+    let t = c .before .before .before .before .before in
+    let s = t .before .before .before in
+    let one : 1 ≤ deciding (literalValue (valueOf (bits s))) (pairsOf (s .args .row .now)) = omega (arith, decided t) in
+    c .pair-count2 .ensures ∙ sym (rw (← decided t) at (agreeing-to (valueOf (bits s)) (s .args .row .now) one))
 
 pub agreeing-spec : {M : Type 1} → statement M
 agreeing-spec =
     tie.close
-    (tie.spec Inv-loop μ-loop loop-holds (search needs) (search needs) (search needs) (search needs) cast-if1-2 shared-slice-read-if1-3
-    returns (search needs) (search needs) (search needs) add-count (search needs) (search needs) (search needs) loop-again returns-2)
+    (tie.spec try-row-requires (search needs) returns (search needs) slice-aggregate-pair-count pair-count-requires-2 returns-2)

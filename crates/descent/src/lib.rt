@@ -4,18 +4,20 @@
 //
 // A row is tried far more often than it moves: up to 64 rows at each of the moves, and most are told apart from A at one of the first
 // variables that they move. So the values of all literals are put into a table by code once (`valuation::tabulate`), and where each row's
-// moved variables are is noted once (`note_spans`). A row is then tried by reading the table at what it moves (`trial::try_row`), and the
+// moved variables are is noted once (`spans::note`). A row is then tried by reading the table at what it moves (`trial::try_row`), and the
 // row that is taken changes the table there alone (`move_by`). The words are written once, at the end.
 //
-// What makes the proof go: a table is that of one assignment, `bitsIn` of it, and every contract speaks of that; so words occur only
-// before and after the loop. The loop's invariant (`Reached`) is that the descent from the words lent comes to what the descent from the
-// table's assignment comes to with the moves that are left; a turn is one unfolding of `descendFrom`.
+// What makes the proof go: a table is that of one assignment, `bitsIn` of it, and every contract speaks of that; words occur in `descend`
+// alone. The invariant of `settle` (`Reached`) is that the descent from the table as it was lent comes to what the descent from the table
+// as it is now comes to with the moves that are left; a turn is one unfolding of `descendFrom`.
+mod spans;
+
 use store::record::Record;
 use trial::Span;
 ghost use mathlib.Core.Path.{_≡_};
 ghost use mathlib.Core.Bool.{true};
 ghost use Prim.Native.Nat.{_<_, _≤_};
-ghost use lib.ListN.{length, getD};
+ghost use lib.ListN.{length};
 ghost use Rattle.packed.specs.Words.{bitsOf, wordCount, wordsOf, isAssignment};
 ghost use Rattle.store.specs.Stores.{maxVariables, isRow, rowsOf, rowAt, FormedRows};
 ghost use Rattle.lexleader.specs.Rows.{moved};
@@ -42,7 +44,7 @@ pub fn descend(images: &[u16], rows: usize, n: usize, a: &mut [u64], limit: u64)
     valuation::tabulate(a, n, &mut values);
     let mut firsts = [0u16; Record::MAX_ROWS];
     let mut ends = [0u16; Record::MAX_ROWS];
-    note_spans(images, rows, n, &mut firsts, &mut ends);
+    spans::note(images, rows, n, &mut firsts, &mut ends);
     let ended = settle(images, rows, n, &firsts, &ends, &mut values, limit);
     write_back(&values, n, a);
     ended
@@ -77,36 +79,10 @@ fn settle(
         }
         move_by(
             store::rows::row(images, n, r),
-            noted(firsts, ends, r),
+            spans::noted(firsts, ends, r),
             values,
         );
         moves += 1;
-    }
-}
-
-// Notes where each row's moved variables are.
-fn note_spans(images: &[u16], rows: usize, n: usize, firsts: &mut [u16], ends: &mut [u16])
-    requires { ⌜ FormedRows n rows (now images) × (rows ≤ length (now firsts)) × (rows ≤ length (now ends)) ⌝ }
-    ensures { λ _. ⌜ Noted n rows (now (images .entry)) (now (firsts .exit)) (now (ends .exit)) ⌝ }
-{
-    let mut r = 0;
-    while r < rows {
-        let span = trial::span_of(store::rows::row(images, n, r));
-        firsts[r] = span.first as u16;
-        ends[r] = span.end as u16;
-        r += 1;
-    }
-}
-
-// The span noted of row r.
-fn noted(firsts: &[u16], ends: &[u16], r: usize) -> Span
-    requires { ⌜ (r < length (now firsts)) × (r < length (now ends)) ⌝ }
-    ensures first { λ s. ⌜ s .first ≡ getD (now (firsts .entry)) r 0 ⌝ }
-    ensures end { λ s. ⌜ s .end ≡ getD (now (ends .entry)) r 0 ⌝ }
-{
-    Span {
-        first: firsts[r] as usize,
-        end: ends[r] as usize,
     }
 }
 
@@ -130,7 +106,7 @@ fn first_lowering(
     while r < rows {
         let tried = trial::try_row(
             store::rows::row(images, n, r),
-            noted(firsts, ends, r),
+            spans::noted(firsts, ends, r),
             values,
         );
         if tried.lowers {

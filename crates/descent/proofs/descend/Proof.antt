@@ -15,22 +15,22 @@ tabulate-requires c κs =
     let s = c .before .before .before .before in
     (form-room (s .args .n) (s .args .a .now) (s .pre .1), omega (arith, s .pre .0 .small))
 
-slice-aggregate-note-spans : tie.Need-slice-aggregate-note-spans
-slice-aggregate-note-spans c = refl
+slice-aggregate-note : tie.Need-slice-aggregate-note
+slice-aggregate-note c = refl
 
-slice-aggregate-note-spans-2 : tie.Need-slice-aggregate-note-spans-2
-slice-aggregate-note-spans-2 c = refl
+slice-aggregate-note-2 : tie.Need-slice-aggregate-note-2
+slice-aggregate-note-2 c = refl
 
-note-spans-requires : tie.Need-note-spans-requires
-note-spans-requires c κs =
+note-requires : tie.Need-note-requires
+note-requires c κs =
     let s = c .before .before .before .before .before .before .before .before in
     (s .pre .0, s .pre .0 .rows-fit, s .pre .0 .rows-fit)
 
 slice-aggregate-settle : tie.Need-slice-aggregate-settle
-slice-aggregate-settle c = sym (c .before .before .before .note-spans .kept .1 .1 .1 .0)
+slice-aggregate-settle c = sym (c .before .before .before .note .kept .1 .1 .1 .0)
 
 slice-aggregate-settle-2 : tie.Need-slice-aggregate-settle-2
-slice-aggregate-settle-2 c = sym (c .before .before .before .before .note-spans .kept .1 .1 .1 .1 .0)
+slice-aggregate-settle-2 c = sym (c .before .before .before .before .note .kept .1 .1 .1 .1 .0)
 
 slice-aggregate-settle-3 : tie.Need-slice-aggregate-settle-3
 slice-aggregate-settle-3 c = sym (c .before .before .before .before .before .before .before .before .before .tabulate .kept .1 .1 .0)
@@ -40,7 +40,7 @@ settle-requires c κs =
     let m = c .before .before .before .before .before in
     let t = m .before .before .before .before in
     let s = t .before .before .before .before .before in
-    (s .pre .0, m .note-spans .ensures, t .tabulate .ensures .0, t .tabulate .kept .1 .1 .0)
+    (s .pre .0, m .note .ensures, t .tabulate .ensures .0, t .tabulate .kept .1 .1 .0)
 
 slice-aggregate-write-back : tie.Need-slice-aggregate-write-back
 slice-aggregate-write-back c =
@@ -67,6 +67,6 @@ returns c =
 pub descend-spec : {M : Type 1} → statement M
 descend-spec =
     tie.close
-    (tie.spec slice-aggregate-tabulate tabulate-requires slice-aggregate-note-spans slice-aggregate-note-spans-2 note-spans-requires
+    (tie.spec slice-aggregate-tabulate tabulate-requires slice-aggregate-note slice-aggregate-note-2 note-requires
     slice-aggregate-settle slice-aggregate-settle-2 slice-aggregate-settle-3 settle-requires slice-aggregate-write-back write-back-requires
     same-length returns)

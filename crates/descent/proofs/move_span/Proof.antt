@@ -2,7 +2,7 @@
 use mathlib.Core.Path.{_≡_, sym, ap, _∙_}
 use Prim.Native.Nat.{_-_, _≤_, _<_}
 use native.Mathlib.Omega.{arith}
-use lib.ListN.{length, length-set}
+use lib.ListN.{length, getD, length-set}
 use Rattle.descent.proofs.MoveLaws.{MovedTo, image-in, moved-none, moved-more, moved-table, moved-bits}
 use borrow.Author.Needs.{needs}
 use Rattle.descent.proofs.move_span.Statement.{statement}
@@ -27,21 +27,27 @@ shared-slice-read-image c = inside (c .before)
 cast-image : tie.Need-cast-image Inv-loop μ-loop
 cast-image c = omega (arith, c .shared-slice-known .given (c .before .before .before .loop .i))
 
-shared-slice-read-value : tie.Need-shared-slice-read-value Inv-loop μ-loop
-shared-slice-read-value c =
-    let l = c .before .before .before .before in
+-- the image has a place in the table; the writes rest on it too, so that a move by the inverse (must-fail/by_inverse) is refused for its values alone
+image-here : (c : tie.After-shared-slice-known Inv-loop μ-loop) → let l = c .before .before .before in
+    let a = l .before .args in
+    getD (a .row .now) (l .loop .i) 0 < length (a .before .now)
+image-here c =
+    let l = c .before .before .before in
     let s = l .before in
-    image-in (s .args .row .now) (s .args .before .now) (s .pre .0) (s .pre .2) (l .loop .i) (inside (c .before .before))
+    image-in (s .args .row .now) (s .args .before .now) (s .pre .0) (s .pre .2) (l .loop .i) (inside (c .before))
+
+shared-slice-read-value : tie.Need-shared-slice-read-value Inv-loop μ-loop
+shared-slice-read-value c = let l = c .before .before .before .before in omega (arith, image-here (c .before), inside (c .before .before), l .before .pre .2 .room)
 
 slice-write-values : tie.Need-slice-write-values Inv-loop μ-loop
 slice-write-values c =
     let l = c .before .before .before .before in
-    omega (arith, inside (c .before .before), l .loop .inv .1 .size, l .before .pre .2 .room)
+    omega (arith, image-here (c .before), inside (c .before .before), l .loop .inv .1 .size, l .before .pre .2 .room)
 
 slice-write-values-2 : tie.Need-slice-write-values-2 Inv-loop μ-loop
 slice-write-values-2 c =
     let l = c .before .before .before .before in
-    simp length-set (omega (arith, inside (c .before .before), l .loop .inv .1 .size, l .before .pre .2 .room))
+    simp length-set (omega (arith, image-here (c .before), inside (c .before .before), l .loop .inv .1 .size, l .before .pre .2 .room))
 
 loop-again : tie.Need-loop-again Inv-loop μ-loop
 loop-again c =

@@ -1,4 +1,4 @@
--- `descent::note_spans` meets its contract. The invariant: the spans of the rows before r are noted. Assumes nothing.
+-- `descent::spans::note` meets its contract. The invariant: the spans of the rows before r are noted. Assumes nothing.
 use mathlib.Core.Path.{_≡_, refl, sym, _∙_}
 use Prim.Native.Nat.{_-_, _≤_, _<_}
 use native.Mathlib.Omega.{arith}
@@ -9,8 +9,8 @@ use Rattle.trial.specs.Spans.{IsSpan}
 use Rattle.descent.specs.Noted.{Noted}
 use Rattle.descent.proofs.NotedLaws.{noted-none, noted-more}
 use borrow.Author.Needs.{needs}
-use Rattle.descent.proofs.note_spans.Statement.{statement}
-use Rattle.descent.proofs.note_spans.Tie as tie
+use Rattle.descent.proofs.spans.note.Statement.{statement}
+use Rattle.descent.proofs.spans.note.Tie as tie
 
 abbrev Inv-loop : tie.InvT-loop
 Inv-loop images rows n firsts₀ ends₀ r₀ firsts ends r =
@@ -81,8 +81,8 @@ returns c =
     let all : l .loop .r ≡ l .before .before .before .before .args .rows = omega arith in
     rw all at (l .loop .inv .0)
 
-pub note-spans-spec : {M : Type 1} → statement M
-note-spans-spec =
+pub note-spec : {M : Type 1} → statement M
+note-spec =
     tie.close
     (tie.spec Inv-loop μ-loop loop-holds row-requires span-of-requires cast-firsts (search needs) slice-write-firsts cast-ends
     (search needs) slice-write-ends (search needs) (search needs) loop-again same-length same-length-2 returns)

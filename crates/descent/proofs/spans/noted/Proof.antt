@@ -1,9 +1,9 @@
--- `descent::noted` meets its contract. Assumes nothing.
+-- `descent::spans::noted` meets its contract. Assumes nothing.
 use mathlib.Core.Path.{refl}
 use native.Mathlib.Omega.{arith}
 use borrow.Author.Needs.{needs}
-use Rattle.descent.proofs.noted.Statement.{statement}
-use Rattle.descent.proofs.noted.Tie as tie
+use Rattle.descent.proofs.spans.noted.Statement.{statement}
+use Rattle.descent.proofs.spans.noted.Tie as tie
 
 cast-t7 : tie.Need-cast-t7
 cast-t7 c = omega (arith, c .shared-slice-known .given (c .before .args .r))

@@ -35,16 +35,12 @@ module _ (row : List ℕ) (before : List Bool) (good : isRow (length row) row �
   abbrev bits : List Bool
   bits = bitsIn (length row) before
 
-  module _ (i : ℕ) (h : i < length row) where
-    pub image-in : getD row i 0 < length before
-    image-in = omega (arith, row-of (length row) row good .high i h, table .room)
-
-    -- the value of a variable's image, which is its own once the row has moved the assignment
-    pub image-is : getD before (getD row i 0) false ≡ getD (moved row bits) i false
-    unfolding moved
-    image-is =
-        let r = row-of (length row) row good in
-        table .value (getD row i 0) (r .low i h) (r .high i h) ∙ sym (map-at (literalValue (valueOf bits)) row i 0 false h)
+  -- the value of a variable's image, which is its own once the row has moved the assignment
+  image-is : (i : ℕ) → i < length row → getD before (getD row i 0) false ≡ getD (moved row bits) i false
+  unfolding moved
+  image-is i h =
+      let r = row-of (length row) row good in
+      table .value (getD row i 0) (r .low i h) (r .high i h) ∙ sym (map-at (literalValue (valueOf bits)) row i 0 false h)
 
   -- a literal whose variable stays
   stays-value : (code : ℕ) → 1 ≤ code / 2 → code / 2 ≤ length row → getD row (code / 2 - 1) 0 ≡ 2 * (code / 2 - 1 + 1)

@@ -151,8 +151,9 @@ fn move_span(row: &[u16], span: Span, before: &[bool], values: &mut [bool])
     ensures bits { λ _. let n = length (now (row .entry)) in
         ⌜ bitsIn n (now (values .exit)) ≡ moved (now (row .entry)) (bitsIn n (now (before .entry))) ⌝ }
 {
+    let end = span.end;
     let mut i = span.first;
-    while i < span.end {
+    while i < end {
         let own = 2 * (i + 1);
         let image = row[i] as usize;
         let value = before[image];

@@ -36,8 +36,10 @@ pub fn try_row(row: &[u16], span: Span, values: &[bool]) -> Trial
     ensures variable { λ r. ⌜ r .variable ≡ deciding (byCode (now (values .entry))) (pairsOf (now (row .entry))) ⌝ }
     ensures lowers { λ r. ⌜ r .lowers ≡ lowersAlong (byCode (now (values .entry))) (pairsOf (now (row .entry))) ⌝ }
 {
-    let mut i = span.first;
-    while i < span.end {
+    let first = span.first;
+    let end = span.end;
+    let mut i = first;
+    while i < end {
         let own = 2 * (i + 1);
         let image = row[i] as usize;
         if image != own {

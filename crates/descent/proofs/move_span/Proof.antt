@@ -1,66 +1,67 @@
 -- `descent::move_span` meets its contract. The invariant: the variables up to number i are moved, and those after it not yet. Assumes nothing.
 use mathlib.Core.Path.{_≡_, sym, ap, _∙_}
-use Prim.Native.Nat.{_-_, _≤_, _<_}
+use Prim.Native.Nat.{_-_, _/_, _≤_, _<_}
 use native.Mathlib.Omega.{arith}
 use lib.ListN.{length, getD, length-set}
-use Rattle.descent.proofs.MoveLaws.{MovedTo, image-in, moved-none, moved-more, moved-table, moved-bits}
+use Rattle.store.proofs.Formed.{row-of}
+use Rattle.descent.proofs.MoveLaws.{MovedTo, moved-none, moved-more, moved-table, moved-bits}
 use borrow.Author.Needs.{needs}
 use Rattle.descent.proofs.move_span.Statement.{statement}
 use Rattle.descent.proofs.move_span.Tie as tie
 
 abbrev Inv-loop : tie.InvT-loop
-Inv-loop row span before values₀ i₀ values i = (i ≤ span .end) × MovedTo row before values i
+Inv-loop row before values₀ end i₀ values i = (i ≤ end) × MovedTo row before values i
 
 abbrev μ-loop : tie.MeasureT-loop
-μ-loop row span before values₀ i₀ values i = span .end - i
+μ-loop row before values₀ end i₀ values i = end - i
 
 loop-holds : tie.Need-loop-holds Inv-loop μ-loop
 loop-holds c = (c .pre .1 .order, rw (c .pre .3) (moved-none _ _ (c .pre .0) (c .pre .2) (c .pre .1)))
 
 -- the index is one of the row's
-inside : (c : tie.Then1 Inv-loop μ-loop) → c .before .before .loop .i < length (c .before .before .before .args .row .now)
-inside c = omega (arith, c .before .before .before .pre .1 .within)
+inside : (c : tie.In-loop Inv-loop μ-loop) → c .before .loop .i < length (c .before .before .args .row .now)
+inside c = omega (arith, c .before .before .pre .1 .within)
 
 shared-slice-read-image : tie.Need-shared-slice-read-image Inv-loop μ-loop
 shared-slice-read-image c = inside (c .before)
 
 cast-image : tie.Need-cast-image Inv-loop μ-loop
-cast-image c = omega (arith, c .shared-slice-known .given (c .before .before .before .loop .i))
+cast-image c = omega (arith, c .shared-slice-known .given (c .before .before .loop .i))
 
 -- the image has a place in the table; the writes rest on it too, so that a move by the inverse (must-fail/by_inverse) is refused for its values alone
-image-here : (c : tie.After-shared-slice-known Inv-loop μ-loop) → let l = c .before .before .before in
-    let a = l .before .args in
-    getD (a .row .now) (l .loop .i) 0 < length (a .before .now)
+image-here : (c : tie.In-loop Inv-loop μ-loop) → let row = c .before .before .args .row .now in getD row (c .before .loop .i) 0 / 2 ≤ length row
 image-here c =
-    let l = c .before .before .before in
-    let s = l .before in
-    image-in (s .args .row .now) (s .args .before .now) (s .pre .0) (s .pre .2) (l .loop .i) (inside (c .before))
+    let s = c .before .before in
+    row-of (length (s .args .row .now)) (s .args .row .now) (s .pre .0) .high (c .before .loop .i) (inside c)
 
 shared-slice-read-value : tie.Need-shared-slice-read-value Inv-loop μ-loop
-shared-slice-read-value c = let l = c .before .before .before .before in omega (arith, image-here (c .before), inside (c .before .before), l .before .pre .2 .room)
+shared-slice-read-value c =
+    let t = c .before .before in
+    omega (arith, image-here t, inside t, t .before .before .pre .2 .room)
 
 slice-write-values : tie.Need-slice-write-values Inv-loop μ-loop
 slice-write-values c =
-    let l = c .before .before .before .before in
-    omega (arith, image-here (c .before), inside (c .before .before), l .loop .inv .1 .size, l .before .pre .2 .room)
+    let t = c .before .before in
+    omega (arith, image-here t, inside t, t .before .loop .inv .1 .size, t .before .before .pre .2 .room)
 
 slice-write-values-2 : tie.Need-slice-write-values-2 Inv-loop μ-loop
 slice-write-values-2 c =
-    let l = c .before .before .before .before in
-    simp length-set (omega (arith, image-here (c .before), inside (c .before .before), l .loop .inv .1 .size, l .before .pre .2 .room))
+    let t = c .before .before in
+    simp length-set (omega (arith, image-here t, inside t, t .before .loop .inv .1 .size, t .before .before .pre .2 .room))
 
 loop-again : tie.Need-loop-again Inv-loop μ-loop
 loop-again c =
-    let l = c .before .before .before .before in
+    let t = c .before .before in
+    let l = t .before in
     let s = l .before in
-    (omega arith, moved-more (s .args .row .now) (s .args .before .now) (s .pre .0) (s .pre .2) (l .loop .values) (l .loop .i) (l .loop .inv .1) (inside (c .before .before)))
+    (omega arith, moved-more (s .args .row .now) (s .args .before .now) (s .pre .0) (s .pre .2) (l .loop .values) (l .loop .i) (l .loop .inv .1) (inside t))
 
 same-length : tie.Need-same-length Inv-loop μ-loop
-same-length c = let l = c .before .before in l .loop .inv .1 .size ∙ ap length (sym (l .before .pre .3))
+same-length c = let l = c .before in l .loop .inv .1 .size ∙ ap length (sym (l .before .pre .3))
 
 returns : tie.Need-returns Inv-loop μ-loop
 returns c =
-    let l = c .before .before in
+    let l = c .before in
     let s = l .before in
     let last : l .loop .i ≡ s .args .span .end = omega arith in
     let all = rw last at (l .loop .inv .1) in

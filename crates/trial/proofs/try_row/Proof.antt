@@ -16,61 +16,59 @@ use Rattle.trial.proofs.try_row.Statement.{statement}
 use Rattle.trial.proofs.try_row.Tie as tie
 
 abbrev Inv-loop : tie.InvT-loop
-Inv-loop row span values i₀ i = (i ≤ span .end) × SameFound (byCode values) (pairsOf row) (pairsAt i row)
+Inv-loop row values first end i₀ i = (i ≤ end) × SameFound (byCode values) (pairsOf row) (pairsAt i row)
 
 abbrev μ-loop : tie.MeasureT-loop
-μ-loop row span values i₀ i = span .end - i
+μ-loop row values first end i₀ i = end - i
 
 loop-holds : tie.Need-loop-holds Inv-loop μ-loop
 loop-holds c = (c .pre .0 .order, found-start _ (c .pre .0 .none-before))
 
+-- the index is one of the row's
+inside : (c : tie.In-loop Inv-loop μ-loop) → c .before .loop .i < length (c .before .before .args .row .now)
+inside c = omega (arith, c .before .before .pre .0 .within)
+
 shared-slice-read-image : tie.Need-shared-slice-read-image Inv-loop μ-loop
-shared-slice-read-image c = omega (arith, c .before .before .before .before .pre .0 .within)
+shared-slice-read-image c = omega (arith, inside (c .before))
 
 cast-image : tie.Need-cast-image Inv-loop μ-loop
-cast-image c = omega (arith, c .shared-slice-known .given (c .before .before .before .loop .i))
-
--- the index is one of the row's
-inside : (c : tie.Then1 Inv-loop μ-loop) → c .before .before .loop .i < length (c .before .before .before .args .row .now)
-inside c = omega (arith, c .before .before .before .pre .0 .within)
+cast-image c = omega (arith, c .shared-slice-known .given (c .before .before .loop .i))
 
 -- a moved variable and its image have places among the values
-places : (c : tie.Then2 Inv-loop μ-loop) → let l = c .before .before .before .before in
+places : (c : tie.Then1 Inv-loop μ-loop) → let l = c .before .before .before in
     let a = l .before .args in
     (2 * (l .loop .i + 1) < length (a .values .now)) × (getD (a .row .now) (l .loop .i) 0 < length (a .values .now))
 places c =
-    let l = c .before .before .before .before in
-    l .before .pre .1 _ (pair-among (l .before .args .row .now) (l .loop .i) (inside (c .before .before)) (c .if2 .taken))
+    let l = c .before .before .before in
+    l .before .pre .1 _ (pair-among (l .before .args .row .now) (l .loop .i) (inside (c .before .before)) (c .if1 .taken))
 
 shared-slice-read-value : tie.Need-shared-slice-read-value Inv-loop μ-loop
 shared-slice-read-value c = places (c .before) .0
 
-shared-slice-read-if3 : tie.Need-shared-slice-read-if3 Inv-loop μ-loop
-shared-slice-read-if3 c = places (c .before .before) .1
+shared-slice-read-if2 : tie.Need-shared-slice-read-if2 Inv-loop μ-loop
+shared-slice-read-if2 c = places (c .before .before) .1
 
 returns : tie.Need-returns Inv-loop μ-loop
 returns c =
     let t = c .before .before .before in
-    let l = t .before .before .before .before in
-    let i = l .loop .i in
-    let here = found-here _ (l .before .args .row .now) i (inside (t .before .before)) (t .if2 .taken) (c .if3 .taken) in
+    let l = t .before .before .before in
+    let here = found-here _ (l .before .args .row .now) (l .loop .i) (inside (t .before .before)) (t .if1 .taken) (c .if2 .taken) in
     (sym (l .loop .inv .1 .variable ∙ here .0), sym (l .loop .inv .1 .yes ∙ here .1))
 
 loop-again : tie.Need-loop-again Inv-loop μ-loop
 loop-again c =
     let t = c .before .before in
-    let l = t .before .before in
+    let l = t .before in
     let i = l .loop .i in
     let value = byCode (l .before .args .values .now) in
     let row = l .before .args .row .now in
     let on : SameFound value (pairsAt i row) (pairsAt (i + 1) row) =
-    ⊎-elim (λ f. found-alike value row i (inside t) (f .0 .taken) (f .3 .left))
-    (λ f. found-past value row i (inside t) (f .left)) (c .if2 .came) in
+    ⊎-elim (λ f. found-alike value row i (inside t) (f .0 .taken) (f .3 .left)) (λ f. found-past value row i (inside t) (f .left)) (c .if1 .came) in
     (omega arith, found-on value (l .loop .inv .1) on)
 
 returns-2 : tie.Need-returns-2 Inv-loop μ-loop
 returns-2 c =
-    let l = c .before .before in
+    let l = c .before in
     let value = byCode (l .before .args .values .now) in
     let last : l .loop .i ≡ l .before .args .span .end = omega arith in
     let none : SameFound value (pairsOf (l .before .args .row .now)) [] =
@@ -81,4 +79,4 @@ pub try-row-spec : {M : Type 1} → statement M
 try-row-spec =
     tie.close
     (tie.spec Inv-loop μ-loop loop-holds (search needs) (search needs) (search needs) shared-slice-read-image cast-image
-    shared-slice-read-value shared-slice-read-if3 (search needs) returns (search needs) (search needs) loop-again returns-2)
+    shared-slice-read-value shared-slice-read-if2 (search needs) returns (search needs) (search needs) loop-again returns-2)

@@ -1,4 +1,4 @@
-"""Reference symmetry breaker: document 01 with CR 1 of document 02, written from the papers, naive on purpose.
+"""Reference symmetry breaker: document 01 with CR 1 and CR 2 of document 02, written from the papers, naive on purpose.
 
 A call answers ('refused', number, place) or ('done', value...).  A call that may write lent memory returns that
 answer followed by the new contents of each thing it may write; nothing lent is ever changed in place.
@@ -399,6 +399,14 @@ def moved(row: Row, a: Assignment) -> Assignment:
 def lowers(row: Row, a: Assignment) -> bool:
     """"p carries A to that, and makes A smaller when that is < A"."""
     return less(moved(row, a), a)
+
+
+def trial(row: Row, a: Assignment) -> Tuple[bool, int]:
+    """CR 2: "look at the row's moved variables alone and stop at the first that decides"; yes or no, and "the variable that decided .. or 0 where none does"."""
+    for x in moved_variables(row):
+        if a[x] != a[row[x]]:
+            return a[x], x
+    return False, 0
 
 
 def true_clause(clause_: Clause, a: Assignment) -> bool:

@@ -444,6 +444,17 @@ class Demands(unittest.TestCase):
                     lowered = ref.lowers(dict(enumerate(p, 1)), a)
                     self.assertEqual(full, [] if lowered else [ref.filled_in(host.record, host.images, a)])
 
+    def test_trial_is_comparison(self):
+        """CR 2 and reading F9: every row of up to five variables on every assignment."""
+        for n in range(1, 6):
+            for p in itertools.permutations(range(1, n + 1)):
+                row = dict(enumerate(p, 1))
+                for bits in itertools.product((False, True), repeat=n):
+                    a = dict(enumerate(bits, 1))
+                    lowered, decided = ref.trial(row, a)
+                    self.assertEqual((lowered, decided), (ref.lowers(row, a), ref.first_difference(a, ref.moved(row, a))))
+                    self.assertTrue(decided == 0 or row[decided] != decided)
+
 
 if __name__ == "__main__":
     unittest.main()

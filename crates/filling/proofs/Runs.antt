@@ -1,15 +1,12 @@
 -- The settings of a row's auxiliaries as two runs, how far its variables agree with their images, and what the settings of all rows come to.
 -- Assumes nothing.
-use mathlib.Core.Path.{_≡_, refl, sym, ap, ap₂, _∙_}
-use mathlib.Core.Bool.{Bool, true, false, not, cond, Bool·beq}
+use mathlib.Core.Path.{_≡_, refl}
+use mathlib.Core.Bool.{Bool, true, false, cond, Bool·beq}
 use mathlib.Core.List.{List, [], _∷_, _++_}
 use Prim.Native.Nat.{ℕ, suc, _+_, _-_, _*_, _/_, _≤_, _<_}
 use native.Mathlib.Omega.{arith}
-use borrow.Author.Tests.{eqb-true, eqb-false}
-use mir.Val.{boolByte}
 use lib.ListN.{length, take, replicate, length-append}
 use lib.Dec.{eqb}
-use Rattle.lists.proofs.Cases.{never}
 use Rattle.packed.specs.Words.{maxWords, bitsOf, wordCount}
 use Rattle.packed.specs.Order.{valueOf}
 use Rattle.packed.specs.Writing.{WriterHolds, Appends}
@@ -20,12 +17,9 @@ use Rattle.store.proofs.RowLaws.{from-here, from-end}
 use Rattle.lexleader.specs.Models.{literalValue}
 use Rattle.lexleader.specs.Rows.{Pair, pairsFrom, pairsOf}
 use Rattle.lexleader.specs.Deciding.{decides, deciding}
-use Rattle.lexleader.specs.Clause.{pairAt, pairsAt}
 use Rattle.lexleader.specs.Made.{agrees, settingsAfter, rowSettings, settings, auxiliaries, allAuxiliaries, filledIn, madeVariables}
 use Rattle.lexleader.proofs.Settings.{length-settings}
-use Rattle.lexleader.proofs.Walk.{walk-past, walk-moved, walk-end}
 use Rattle.lexleader.proofs.Bounds.{all-auxiliaries-most}
-use Rattle.valuation.specs.Tables.{bitsIn, Table}
 use Rattle.filling.specs.Written.{agreeing}
 
 -- ---- the auxiliaries of a row: a run of true, then one of false

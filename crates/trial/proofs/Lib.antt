@@ -1,3 +1,4 @@
 pub mod PairLaws
 pub mod Theorem
 pub mod OnTable
+pub mod Examples

@@ -1,8 +1,7 @@
 -- `descent::first_lowering` meets its contract. The invariant: a step by all rows is a step by row r and those after it. Assumes nothing.
 use mathlib.Core.Path.{_≡_, sym, _∙_}
-use Prim.Native.Nat.{_-_, _≤_, _<_}
+use Prim.Native.Nat.{_-_, _≤_}
 use native.Mathlib.Omega.{arith}
-use lib.ListN.{length}
 use Rattle.store.specs.Stores.{rowsOf, rowsFrom, rowAt}
 use Rattle.store.proofs.RowLaws.{rows-at}
 use Rattle.store.proofs.RowParts.{part-room}

@@ -1,6 +1,5 @@
 -- `descent::move_by` meets its contract. Assumes nothing.
-use mathlib.Core.Path.{_≡_, refl, sym, _∙_}
-use lib.ListN.{length}
+use mathlib.Core.Path.{refl, sym, _∙_}
 use Rattle.descent.proofs.move_by.Statement.{statement}
 use Rattle.descent.proofs.move_by.Tie as tie
 

@@ -1,13 +1,13 @@
 -- `descent::settle` meets its contract. The invariant: from the assignment of the table the descent comes to what it does from the one lent (`Reached`).
 -- Assumes nothing.
-use mathlib.Core.Path.{_≡_, refl, sym, _∙_}
+use mathlib.Core.Path.{_≡_, refl, _∙_}
 use Prim.Native.Nat.{_-_, _<_}
 use native.Mathlib.Omega.{arith}
 use lib.ListN.{length}
 use Rattle.store.specs.Stores.{rowsOf, rowAt}
 use Rattle.store.proofs.RowParts.{part-room, part-size, part-row}
 use Rattle.lexleader.specs.Rows.{moved}
-use Rattle.valuation.specs.Tables.{maxTable, bitsIn}
+use Rattle.valuation.specs.Tables.{bitsIn}
 use Rattle.trial.proofs.PairLaws.{span-covers}
 use Rattle.descent.proofs.DescentLaws.{Reached, reached-none, reached-more, ends-settled, ends-spent}
 use Rattle.descent.proofs.settle.Statement.{statement}

@@ -1,6 +1,6 @@
 -- `filling::agreeing` meets its contract: the moved variables before the one that decides agree with their images, or all where none decides.
 -- Assumes nothing.
-use mathlib.Core.Path.{_≡_, refl, sym, ap, _∙_}
+use mathlib.Core.Path.{_≡_, sym, _∙_}
 use mathlib.Core.Bool.{Bool}
 use mathlib.Core.List.{List}
 use Prim.Native.Nat.{_-_, _≤_}

@@ -1,11 +1,9 @@
 -- `trial::try_row` meets its contract. The invariant: the pairs at index i and after it decide as all pairs do. Assumes nothing.
-use mathlib.Core.Path.{_≡_, refl, sym, ap, _∙_}
-use mathlib.Core.Bool.{Bool, true, false}
+use mathlib.Core.Path.{_≡_, sym, _∙_}
 use mathlib.Core.List.{[]}
 use mathlib.Core.Logic.{⊎-elim}
 use Prim.Native.Nat.{_+_, _-_, _*_, _≤_, _<_}
 use native.Mathlib.Omega.{arith}
-use borrow.Author.Tests.{eqb-true, eqb-false, not-true, not-false}
 use lib.ListN.{length, getD}
 use Rattle.lexleader.specs.Rows.{pairsOf}
 use Rattle.lexleader.specs.Clause.{pairsAt}
@@ -22,7 +20,7 @@ abbrev μ-loop : tie.MeasureT-loop
 μ-loop row values first end i₀ i = end - i
 
 loop-holds : tie.Need-loop-holds Inv-loop μ-loop
-loop-holds c = (c .pre .0 .order, found-start _ (c .pre .0 .none-before))
+loop-holds c = (omega (arith, c .pre .0 .order), found-start _ (c .pre .0 .none-before))
 
 -- the index is one of the row's
 inside : (c : tie.In-loop Inv-loop μ-loop) → c .before .loop .i < length (c .before .before .args .row .now)

@@ -1,6 +1,6 @@
 -- `descent::spans::note` meets its contract. The invariant: the spans of the rows before r are noted. Assumes nothing.
-use mathlib.Core.Path.{_≡_, refl, sym, _∙_}
-use Prim.Native.Nat.{_-_, _≤_, _<_}
+use mathlib.Core.Path.{_≡_, refl}
+use Prim.Native.Nat.{_-_, _≤_}
 use native.Mathlib.Omega.{arith}
 use lib.ListN.{length, length-set}
 use Rattle.store.specs.Stores.{maxVariables, rowAt}

@@ -69,7 +69,7 @@ module _ (row : List ℕ) where
   pair-among i h m = rw (pairs-start row) (from-start (pairAt row i) i (rw (walk-moved row i h m) (List·Memᴰ·head refl)))
 
   -- where the pairs do not become fewer, nothing is moved
-  pub none-between : (j k : ℕ) → length (pairsAt j row) ≡ length (pairsAt k row) → (i : ℕ) → j ≤ i → i < k → i < length row → getD row i 0 ≡ 2 * (i + 1)
+  none-between : (j k : ℕ) → length (pairsAt j row) ≡ length (pairsAt k row) → (i : ℕ) → j ≤ i → i < k → i < length row → getD row i 0 ≡ 2 * (i + 1)
   none-between j k e i low high h =
       ⊎-elim (λ (s : getD row i 0 ≡ 2 * (i + 1)). s)
       (λ (m : getD row i 0 ≡ 2 * (i + 1) → ⊥).

@@ -18,39 +18,35 @@ tabulate-requires c κs =
 slice-aggregate-note : tie.Need-slice-aggregate-note
 slice-aggregate-note c = refl
 
-slice-aggregate-note-2 : tie.Need-slice-aggregate-note-2
-slice-aggregate-note-2 c = refl
-
 note-requires : tie.Need-note-requires
 note-requires c κs =
-    let s = c .before .before .before .before .before .before .before .before in
-    (s .pre .0, s .pre .0 .rows-fit, s .pre .0 .rows-fit)
+    let s = c .before .before .before .before .before .before .before in
+    (s .pre .0, omega (arith, s .pre .0 .rows-fit))
 
 slice-aggregate-settle : tie.Need-slice-aggregate-settle
-slice-aggregate-settle c = sym (c .before .before .before .note .kept .1 .1 .1 .0)
+slice-aggregate-settle c = sym (c .before .before .note .kept .1 .1 .1 .0)
 
 slice-aggregate-settle-2 : tie.Need-slice-aggregate-settle-2
-slice-aggregate-settle-2 c = sym (c .before .before .before .before .note .kept .1 .1 .1 .1 .0)
+slice-aggregate-settle-2 c = sym (c .before .before .before .before .before .before .tabulate .kept .1 .1 .0)
 
 slice-aggregate-settle-3 : tie.Need-slice-aggregate-settle-3
-slice-aggregate-settle-3 c = sym (c .before .before .before .before .before .before .before .before .before .tabulate .kept .1 .1 .0)
+slice-aggregate-settle-3 c = sym (c .before .before .before .before .before .before .before .tabulate .kept .1 .1 .0)
 
 settle-requires : tie.Need-settle-requires
 settle-requires c κs =
-    let m = c .before .before .before .before .before in
-    let t = m .before .before .before .before in
-    let s = t .before .before .before .before .before in
-    (s .pre .0, m .note .ensures, t .tabulate .ensures .0, t .tabulate .kept .1 .1 .0)
+    let o = c .before .before .before .before in
+    let t = o .before .before .before in
+    (t .before .before .before .before .before .pre .0, o .note .ensures, t .tabulate .ensures .0, refl)
 
 slice-aggregate-write-back : tie.Need-slice-aggregate-write-back
 slice-aggregate-write-back c =
-    let e = c .before .before in
-    sym (e .settle .kept .1 .1 .1 .1 .1 .0 ∙ e .before .before .before .before .before .before .before .before .before .before .tabulate .kept .1 .1 .0)
+    let e = c .before .before .before in
+    sym (e .settle .kept .1 .1 .1 .1 .1 .0 ∙ e .before .before .before .before .before .before .before .before .tabulate .kept .1 .1 .0)
 
 write-back-requires : tie.Need-write-back-requires
 write-back-requires c κs =
-    let e = c .before .before .before in
-    let s = e .before .before .before .before .before .before .before .before .before .before .before .before .before .before .before in
+    let e = c .before .before .before .before in
+    let s = e .before .before .before .before .before .before .before .before .before .before .before .before .before in
     (s .pre .0 .small, e .settle .ensures .1 .0, form-count (s .args .n) (s .args .a .now) (s .pre .1))
 
 same-length : tie.Need-same-length
@@ -60,13 +56,12 @@ returns : tie.Need-returns
 unfolding descended
 returns c =
     let w = c .before .before in
-    let e = w .before .before .before .before in
-    let t = e .before .before .before .before .before .before .before .before .before .before in
+    let e = w .before .before .before .before .before in
+    let t = e .before .before .before .before .before .before .before .before in
     (rw (t .tabulate .ensures .1) at (e .settle .ensures .0), w .write-back .ensures ∙ ap wordsOf (rw (t .tabulate .ensures .1) at (e .settle .ensures .1 .1)))
 
 pub descend-spec : {M : Type 1} → statement M
 descend-spec =
     tie.close
-    (tie.spec slice-aggregate-tabulate tabulate-requires slice-aggregate-note slice-aggregate-note-2 note-requires
-    slice-aggregate-settle slice-aggregate-settle-2 slice-aggregate-settle-3 settle-requires slice-aggregate-write-back write-back-requires
-    same-length returns)
+    (tie.spec slice-aggregate-tabulate tabulate-requires slice-aggregate-note note-requires slice-aggregate-settle slice-aggregate-settle-2
+    slice-aggregate-settle-3 settle-requires slice-aggregate-write-back write-back-requires same-length returns)

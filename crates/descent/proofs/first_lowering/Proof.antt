@@ -16,38 +16,36 @@ use Rattle.descent.proofs.first_lowering.Statement.{statement}
 use Rattle.descent.proofs.first_lowering.Tie as tie
 
 abbrev Inv-loop : tie.InvT-loop
-Inv-loop images rows n firsts ends values r₀ r =
+Inv-loop images rows n spans values r₀ r =
     (stepBy (rowsOf n rows images) (bitsIn n values) ≡ stepBy (rowsFrom n rows images r) (bitsIn n values)) × (r ≤ rows)
 
 abbrev μ-loop : tie.MeasureT-loop
-μ-loop images rows n firsts ends values r₀ r = rows - r
+μ-loop images rows n spans values r₀ r = rows - r
 
 loop-holds : tie.Need-loop-holds Inv-loop μ-loop
 loop-holds c = (step-all _ _ _ _, omega arith)
 
 row-requires : tie.Need-row-requires Inv-loop μ-loop
-row-requires c κs = let s = c .before .before .before .before .before .before in part-room (s .pre .0) (c .before .loop .r) (omega arith)
+row-requires c κs = let s = c .before .before .before .before .before in part-room (s .pre .0) (c .before .loop .r) (omega arith)
 
 noted-requires : tie.Need-noted-requires Inv-loop μ-loop
-noted-requires c κs =
-    let s = c .before .before .before .before .before .before .before in
-    (omega (arith, s .pre .1 .firsts-room), omega (arith, s .pre .1 .ends-room))
+noted-requires c κs = omega (arith, c .before .before .before .before .before .before .pre .1 .room)
 
 try-row-requires : tie.Need-try-row-requires Inv-loop μ-loop
 try-row-requires c κs =
     let l = c .before .before .before in
-    let s = l .before .before .before .before .before in
+    let s = l .before .before .before .before in
     let good = rows-at _ _ _ (s .pre .0 .good) (l .loop .r) (omega arith) in
     rw (c .before .row .ensures, c .noted .ensures .0, c .noted .ensures .1)
-    (span-covers (s .pre .1 .spans (l .loop .r) (omega arith)), table-places _ _ _ good (s .pre .2))
+    (span-covers (s .pre .1 .spans-are (l .loop .r) (omega arith)), table-places _ _ _ good (s .pre .2))
 
 -- what the trial of row r says
 lowering : (c : tie.After-try-row Inv-loop μ-loop) → let l = c .before .before .before .before in
-    let a = l .before .before .before .before .before .args in
+    let a = l .before .before .before .before .args in
     lowers (rowAt (a .n) (l .loop .r) (a .images .now)) (bitsIn (a .n) (a .values .now)) ≡ c .try-row .result .lowers
 lowering c =
     let l = c .before .before .before .before in
-    let s = l .before .before .before .before .before in
+    let s = l .before .before .before .before in
     let good = rows-at _ _ _ (s .pre .0 .good) (l .loop .r) (omega arith) in
     sym (c .try-row .ensures .1 ∙ rw (c .before .before .row .ensures) (table-answers _ _ _ good (s .pre .2) .says))
 

@@ -1,22 +1,22 @@
--- `descent::move_span` meets its contract. The invariant: the variables up to number i are moved, and those after it not yet. Assumes nothing.
+-- `descent::move_span` meets its contract. The invariant: the variables of the span up to number i are moved in the second table, and no others. Assumes nothing.
 use mathlib.Core.Path.{_≡_, sym, ap, _∙_}
 use Prim.Native.Nat.{_-_, _/_, _≤_, _<_}
 use native.Mathlib.Omega.{arith}
 use lib.ListN.{length, getD, length-set}
 use Rattle.store.proofs.Formed.{row-of}
-use Rattle.descent.proofs.MoveLaws.{MovedTo, moved-none, moved-more, moved-table, moved-bits}
+use Rattle.descent.proofs.MoveLaws.{MovedTo, moved-none, moved-more, moved-all}
 use borrow.Author.Needs.{needs}
 use Rattle.descent.proofs.move_span.Statement.{statement}
 use Rattle.descent.proofs.move_span.Tie as tie
 
 abbrev Inv-loop : tie.InvT-loop
-Inv-loop row before values₀ end i₀ values i = (i ≤ end) × MovedTo row before values i
+Inv-loop row values next₀ end i₀ next i = (i₀ ≤ i) × (i ≤ end) × MovedTo row i₀ values next i
 
 abbrev μ-loop : tie.MeasureT-loop
-μ-loop row before values₀ end i₀ values i = end - i
+μ-loop row values next₀ end i₀ next i = end - i
 
 loop-holds : tie.Need-loop-holds Inv-loop μ-loop
-loop-holds c = (c .pre .1 .order, rw (c .pre .3) (moved-none _ _ (c .pre .0) (c .pre .2) (c .pre .1)))
+loop-holds c = (omega arith, omega (arith, c .pre .1 .order), rw (c .pre .3) (moved-none _ _ (c .pre .0) (c .pre .2) (c .pre .1)))
 
 -- the index is one of the row's
 inside : (c : tie.In-loop Inv-loop μ-loop) → c .before .loop .i < length (c .before .before .args .row .now)
@@ -39,37 +39,39 @@ shared-slice-read-value c =
     let t = c .before .before in
     omega (arith, image-here t, inside t, t .before .before .pre .2 .room)
 
-slice-write-values : tie.Need-slice-write-values Inv-loop μ-loop
-slice-write-values c =
+slice-write-next : tie.Need-slice-write-next Inv-loop μ-loop
+slice-write-next c =
     let t = c .before .before in
-    omega (arith, image-here t, inside t, t .before .loop .inv .1 .size, t .before .before .pre .2 .room)
+    omega (arith, image-here t, inside t, t .before .loop .inv .2 .size, t .before .before .pre .2 .room)
 
-slice-write-values-2 : tie.Need-slice-write-values-2 Inv-loop μ-loop
-slice-write-values-2 c =
+slice-write-next-2 : tie.Need-slice-write-next-2 Inv-loop μ-loop
+slice-write-next-2 c =
     let t = c .before .before in
-    simp length-set (omega (arith, image-here t, inside t, t .before .loop .inv .1 .size, t .before .before .pre .2 .room))
+    simp length-set (omega (arith, image-here t, inside t, t .before .loop .inv .2 .size, t .before .before .pre .2 .room))
 
 loop-again : tie.Need-loop-again Inv-loop μ-loop
 loop-again c =
     let t = c .before .before in
     let l = t .before in
-    let s = l .before in
-    (omega arith, moved-more (s .args .row .now) (s .args .before .now) (s .pre .0) (s .pre .2) (l .loop .values) (l .loop .i) (l .loop .inv .1) (inside t))
+    let s = l .before in (
+      omega arith,
+      omega arith,
+      moved-more (s .args .row .now) (s .args .values .now) (s .pre .0) (s .pre .2) _ (l .loop .next) (l .loop .i) (l .loop .inv .2) (l .loop .inv .0) (inside t),
+    )
 
 same-length : tie.Need-same-length Inv-loop μ-loop
-same-length c = let l = c .before in l .loop .inv .1 .size ∙ ap length (sym (l .before .pre .3))
+same-length c = let l = c .before in l .loop .inv .2 .size ∙ ap length (sym (l .before .pre .3))
 
 returns : tie.Need-returns Inv-loop μ-loop
 returns c =
     let l = c .before in
     let s = l .before in
     let last : l .loop .i ≡ s .args .span .end = omega arith in
-    let all = rw last at (l .loop .inv .1) in
-    (moved-table _ _ (s .pre .0) (s .pre .2) (s .pre .1) _ all, moved-bits _ _ (s .pre .0) (s .pre .2) (s .pre .1) _ all)
+    moved-all _ _ (s .pre .0) (s .pre .2) (s .pre .1) _ (rw last at (l .loop .inv .2))
 
 pub move-span-spec : {M : Type 1} → statement M
 move-span-spec =
     tie.close
     (tie.spec Inv-loop μ-loop loop-holds (search needs) (search needs) (search needs) shared-slice-read-image cast-image
-    shared-slice-read-value slice-write-values (search needs) slice-write-values-2 (search needs) (search needs) loop-again same-length
+    shared-slice-read-value slice-write-next (search needs) slice-write-next-2 (search needs) (search needs) loop-again same-length
     returns)

@@ -14,23 +14,21 @@ use Rattle.descent.proofs.settle.Statement.{statement}
 use Rattle.descent.proofs.settle.Tie as tie
 
 abbrev Inv-loop : tie.InvT-loop
-Inv-loop images rows n firsts ends values₀ limit moves₀ values moves =
-    Reached n limit (rowsOf n rows images) (bitsIn n values₀) values moves × (length values ≡ length values₀)
+Inv-loop images rows n spans next₀ values₀ limit moves₀ next values moves =
+    Reached n limit (rowsOf n rows images) (bitsIn n values₀) values moves
+    × (next ≡ values) × (length next ≡ length next₀) × (length values ≡ length values₀)
 
 abbrev μ-loop : tie.MeasureT-loop
-μ-loop images rows n firsts ends values₀ limit moves₀ values moves = limit - moves
+μ-loop images rows n spans next₀ values₀ limit moves₀ next values moves = limit - moves
 
 loop-holds : tie.Need-loop-holds Inv-loop μ-loop
-loop-holds c = let s = c .before .before .before .before in (reached-none _ _ _ _ (s .pre .2), refl)
+loop-holds c = let s = c .before .before .before .before in (reached-none _ _ _ _ (s .pre .2), s .pre .3, refl, refl)
 
 first-lowering-requires : tie.Need-first-lowering-requires Inv-loop μ-loop
 first-lowering-requires c κs =
     let l = c .before in
     let s = l .before .before .before .before .before in
     (s .pre .0, s .pre .1, l .loop .inv .0 .table)
-
-same-length : tie.Need-same-length Inv-loop μ-loop
-same-length c = c .before .before .before .loop .inv .1
 
 returns : tie.Need-returns Inv-loop μ-loop
 returns c =
@@ -41,9 +39,6 @@ returns c =
 -- a row lowers the assignment
 inside : (c : tie.Else1 Inv-loop μ-loop) → c .before .first-lowering .result < c .before .before .before .before .before .before .before .before .args .rows
 inside c = omega (arith, c .before .first-lowering .ensures .0)
-
-same-length-2 : tie.Need-same-length-2 Inv-loop μ-loop
-same-length-2 c = c .before .before .before .before .loop .inv .1
 
 returns-2 : tie.Need-returns-2 Inv-loop μ-loop
 returns-2 c =
@@ -60,8 +55,7 @@ row-requires c κs =
 noted-requires : tie.Need-noted-requires Inv-loop μ-loop
 noted-requires c κs =
     let i = c .before .before in
-    let s = i .before .before .before .before .before .before .before .before in
-    (omega (arith, inside i, s .pre .1 .firsts-room), omega (arith, inside i, s .pre .1 .ends-room))
+    omega (arith, inside i, i .before .before .before .before .before .before .before .before .pre .1 .room)
 
 -- the row that is taken has n images
 size : (c : tie.After-row Inv-loop μ-loop) → length (c .row .result .now) ≡ c .before .before .before .before .before .before .before .before .before .before .args .n
@@ -72,27 +66,28 @@ size c =
 
 move-by-requires : tie.Need-move-by-requires Inv-loop μ-loop
 move-by-requires c κs =
-    let p = c .before .before in
+    let q = c .before .before in
+    let p = q .before in
     let i = p .before .before in
     let l = i .before .before .before in
     let s = l .before .before .before .before .before in
     let r = i .before .first-lowering .result in (
       part-row (s .pre .0) r (inside i) _ (p .row .ensures),
-      rw (p .row .ensures, c .before .noted .ensures .0, c .before .noted .ensures .1) (span-covers (s .pre .1 .spans r (inside i))),
+      rw (p .row .ensures, q .noted .ensures .0, q .noted .ensures .1) (span-covers (s .pre .1 .spans-are r (inside i))),
       rw (size p) (l .loop .inv .0 .table),
-      l .loop .inv .1 ∙ s .pre .3,
+      l .loop .inv .1,
     )
 
 add-moves : tie.Need-add-moves Inv-loop μ-loop
-add-moves c = omega (arith, c .before .before .before .before .before .before .before .before .before .before .loop .inv .0 .most)
+add-moves c = omega (arith, c .before .before .before .before .before .before .before .before .before .before .before .before .before .loop .inv .0 .most)
 
 loop-less : tie.Need-loop-less Inv-loop μ-loop
-loop-less c = omega (arith, c .before .before .before .before .before .before .before .before .before .before .loop .inv .0 .most)
+loop-less c = omega (arith, c .before .before .before .before .before .before .before .before .before .before .before .before .before .loop .inv .0 .most)
 
 loop-again : tie.Need-loop-again Inv-loop μ-loop
 loop-again c =
-    let m = c .before .before in
-    let p = m .before .before .before in
+    let m = c .before .before .before .before in
+    let p = m .before .before .before .before in
     let i = p .before .before in
     let l = i .before .before .before in
     let s = l .before .before .before .before .before in
@@ -100,12 +95,16 @@ loop-again c =
     let r = i .before .first-lowering .result in
     let b = moved (rowAt n r (s .args .images .now)) (bitsIn n (l .loop .values)) in (
       reached-more _ _ _ _ _ _ (l .loop .inv .0) b _ (p .before .if2 .left) (i .before .first-lowering .ensures .1 .1 (inside i))
-          (rw (size p) at (m .move-by .ensures .0)) (rw (size p, p .row .ensures) at (m .move-by .ensures .1)),
-      m .move-by .kept .1 .1 .0 ∙ l .loop .inv .1,
+          (rw (size p) at (m .move-by .ensures .0)) (rw (size p, p .row .ensures) at (m .move-by .ensures .1 .0)),
+      m .move-by .ensures .1 .1,
+      m .move-by .kept .1 .1 .0 ∙ l .loop .inv .2,
+      m .move-by .kept .1 .1 .1 .0 ∙ l .loop .inv .3,
     )
 
 pub settle-spec : {M : Type 1} → statement M
 settle-spec =
     tie.close
-    (tie.spec Inv-loop μ-loop loop-holds first-lowering-requires same-length returns same-length-2 returns-2 row-requires noted-requires
-    move-by-requires add-moves loop-less loop-again)
+    (tie.spec Inv-loop μ-loop loop-holds first-lowering-requires (λ c. c .before .before .before .loop .inv .2)
+    (λ c. c .before .before .before .loop .inv .3) returns (λ c. c .before .before .before .before .loop .inv .2)
+    (λ c. c .before .before .before .before .loop .inv .3) returns-2 row-requires noted-requires move-by-requires add-moves loop-less
+    loop-again)

@@ -50,8 +50,7 @@ slice-aggregate-pair-count c = let t = c .before .before .before .before in sym 
 pair-count-requires-2 : tie.Need-pair-count-requires-2
 pair-count-requires-2 c κs =
     let t = c .before .before .before .before in
-    let s = t .before .before .before in
-    omega (arith, s .pre .0, within t, length-take-le (t .try-row .result .variable - 1) (s .args .row .now) (omega (arith, within t)))
+    omega (arith, t .before .before .before .pre .0, within t, slice-aggregate-pair-count c)
 
 returns-2 : tie.Need-returns-2
 returns-2 c =

@@ -20,7 +20,7 @@ next-moved-requires : tie.Need-next-moved-requires Inv-loop μ-loop
 next-moved-requires c κs = (c .before .pre, omega arith)
 
 loop-holds : tie.Need-loop-holds Inv-loop μ-loop
-loop-holds c = (c .next-moved .ensures .within, omega arith, walk-end _ _ (omega arith))
+loop-holds c = let h = c .next-moved .ensures .within in (omega (arith, h), omega (arith, h), walk-end _ _ (omega arith))
 
 cast-if1 : tie.Need-cast-if1 Inv-loop μ-loop
 cast-if1 c = omega (arith, c .shared-slice-known2 .given (c .before .before .loop .end - 1))

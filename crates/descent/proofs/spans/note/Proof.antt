@@ -57,7 +57,7 @@ slice-write-spans : tie.Need-slice-write-spans Inv-loop μ-loop
 slice-write-spans c = omega (arith, room (c .before .before .before))
 
 cast-spans-2 : tie.Need-cast-spans-2 Inv-loop μ-loop
-cast-spans-2 c = omega (arith, span (c .before .before) .2)
+cast-spans-2 c = let is = span (c .before .before) in omega (arith, is .1, is .2)
 
 slice-write-spans-2 : tie.Need-slice-write-spans-2 Inv-loop μ-loop
 slice-write-spans-2 c = simp length-set (room (c .before .before .before .before))

@@ -52,7 +52,7 @@ pub fn descend(images: &[u16], rows: usize, n: usize, a: &mut [u64], limit: u64)
     ended
 }
 
-// Descends from the assignment of a table, of which a second one is lent to write moves into.
+// Descends from the assignment of a table. A second one, the same before and after, is lent to write moves into.
 fn settle(
     images: &[u16],
     rows: usize,
@@ -69,6 +69,7 @@ fn settle(
     ensures table { λ _. ⌜ Table n (now (values .exit)) ⌝ }
     ensures reached { λ _. let held = rowsOf n rows (now (images .entry)) in
         ⌜ bitsIn n (now (values .exit)) ≡ reachedBy (descend limit held (bitsIn n (now (values .entry)))) ⌝ }
+    ensures same { λ _. ⌜ now (next .exit) ≡ now (values .exit) ⌝ }
 {
     let mut moves: u64 = 0;
     loop {
@@ -113,7 +114,7 @@ fn first_lowering(images: &[u16], rows: usize, n: usize, spans: &[u16], values: 
     r
 }
 
-// Moves the assignment of a table by a row, of which no variable outside of a span is moved. The second table is the same before and after.
+// Moves the assignment of two tables that are the same by a row, of which no variable outside of a span is moved.
 fn move_by(row: &[u16], span: Span, next: &mut [bool], values: &mut [bool])
     requires { let n = length (now row) in
         ⌜ (isRow n (now row) ≡ true) × Covers (now row) (span .first) (span .end) × Table n (now values) × (now next ≡ now values) ⌝ }

@@ -23,7 +23,7 @@ module _ (n : ℕ) (values : List Bool) where
   unfolding bitsIn
   length-in = length-table n (λ i. getD values (2 * i + 2) false)
 
-  pub bit-in : (i : ℕ) → i < n → getD (bitsIn n values) i false ≡ getD values (2 * i + 2) false
+  bit-in : (i : ℕ) → i < n → getD (bitsIn n values) i false ≡ getD values (2 * i + 2) false
   unfolding bitsIn
   bit-in i h = getD-table n (λ i. getD values (2 * i + 2) false) i false h
 

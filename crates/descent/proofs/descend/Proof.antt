@@ -58,7 +58,7 @@ returns c =
     let w = c .before .before in
     let e = w .before .before .before .before .before in
     let t = e .before .before .before .before .before .before .before .before in
-    (rw (t .tabulate .ensures .1) at (e .settle .ensures .0), w .write-back .ensures ∙ ap wordsOf (rw (t .tabulate .ensures .1) at (e .settle .ensures .1 .1)))
+    (rw (t .tabulate .ensures .1) at (e .settle .ensures .0), w .write-back .ensures ∙ ap wordsOf (rw (t .tabulate .ensures .1) at (e .settle .ensures .1 .1 .0)))
 
 pub descend-spec : {M : Type 1} → statement M
 descend-spec =

@@ -34,7 +34,8 @@ returns : tie.Need-returns Inv-loop μ-loop
 returns c =
     let f = c .before in
     let l = f .before .before in
-    ends-settled _ _ _ _ _ _ (l .loop .inv .0) (f .first-lowering .ensures .1 .0 (omega arith))
+    let ends = ends-settled _ _ _ _ _ _ (l .loop .inv .0) (f .first-lowering .ensures .1 .0 (omega arith)) in
+    (ends .0, (ends .1 .0, (ends .1 .1, l .loop .inv .1)))
 
 -- a row lowers the assignment
 inside : (c : tie.Else1 Inv-loop μ-loop) → c .before .first-lowering .result < c .before .before .before .before .before .before .before .before .args .rows
@@ -44,7 +45,8 @@ returns-2 : tie.Need-returns-2 Inv-loop μ-loop
 returns-2 c =
     let i = c .before in
     let l = i .before .before .before in
-    ends-spent _ _ _ _ _ _ (l .loop .inv .0) _ (omega arith) (i .before .first-lowering .ensures .1 .1 (inside i))
+    let ends = ends-spent _ _ _ _ _ _ (l .loop .inv .0) _ (omega arith) (i .before .first-lowering .ensures .1 .1 (inside i)) in
+    (ends .0, (ends .1 .0, (ends .1 .1, l .loop .inv .1)))
 
 row-requires : tie.Need-row-requires Inv-loop μ-loop
 row-requires c κs =

@@ -14,6 +14,7 @@ fn main() {
     opened(b"minus zero: ", b"p cnf 1 1\n-0 0\n");
     rows();
     comments();
+    no_comments();
     batch();
 }
 
@@ -92,7 +93,7 @@ fn show(name: &[u8], refusal: u32, place: usize) {
     io::write_all(1, b"\n");
 }
 
-// Comment lines after the problem line are skipped, wherever they stand; what is no comment is refused at its place, comments before it counted.
+// Comment lines after the problem line are skipped, wherever they stand.
 fn comments() {
     opened(b"inside a clause: ", b"p cnf 2 1\n1\nc 0\n2 0\n");
     opened(b"between clauses: ", b"p cnf 2 2\n1 0\nc x\n2 0\n");
@@ -100,6 +101,10 @@ fn comments() {
     opened(b"as the last line: ", b"p cnf 1 1\n1 0\nc x\n");
     opened(b"without a line feed: ", b"p cnf 1 1\n1 0\nc");
     opened(b"after no clauses: ", b"p cnf 0 0\ncnf 3 2\n");
+}
+
+// What is no comment is refused at its place, comments before it counted.
+fn no_comments() {
     opened(b"a blank first: ", b"p cnf 1 1\n c x\n1 0\n");
     opened(b"a blank first, last: ", b"p cnf 1 1\n1 0\n c x\n");
     opened(b"inside a line: ", b"p cnf 1 1\n1 c\n0\n");

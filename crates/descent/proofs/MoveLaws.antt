@@ -93,16 +93,16 @@ module _ (row : List ℕ) (values : List Bool) (good : isRow (length row) row �
     abbrev b : Bool
     b = getD values (getD row i 0) false
 
-    abbrev then : List Bool
-    then = set (set next (2 * (i + 1)) b) (2 * (i + 1) + 1) (not b)
+    abbrev written : List Bool
+    written = set (set next (2 * (i + 1)) b) (2 * (i + 1) + 1) (not b)
 
     -- another variable's literal
-    other : (code : ℕ) → (code / 2 ≡ i + 1 → ⊥) → getD then code false ≡ getD next code false
+    other : (code : ℕ) → (code / 2 ≡ i + 1 → ⊥) → getD written code false ≡ getD next code false
     other code k =
         getD-set-other (set next (2 * (i + 1)) b) (2 * (i + 1) + 1) code (not b) false (λ e. k (omega arith))
         ∙ getD-set-other next (2 * (i + 1)) code b false (λ e. k (omega arith))
 
-    pub moved-more : MovedTo row first values then (i + 1)
+    pub moved-more : MovedTo row first values written (i + 1)
     moved-more =
         let place : i ≡ i + 1 - 1 = omega arith in
         record {

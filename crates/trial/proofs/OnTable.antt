@@ -20,7 +20,8 @@ use Rattle.lexleader.proofs.Moved.{pairs-within}
 use Rattle.valuation.specs.Tables.{bitsIn, Table}
 use Rattle.valuation.proofs.TableLaws.{length-in}
 use Rattle.trial.specs.Answer.{Answers}
-use Rattle.trial.specs.Spans.{byCode, Places}
+use Rattle.trial.specs.Spans.{byCode, placed}
+use Rattle.trial.proofs.PairLaws.{placed-all}
 use Rattle.trial.proofs.Theorem.{trial-answers}
 
 module _ (n : ℕ) (row : List ℕ) (values : List Bool) (good : isRow n row ≡ true) (table : Table n values) where
@@ -34,8 +35,8 @@ module _ (n : ℕ) (row : List ℕ) (values : List Bool) (good : isRow n row ≡
   place : (code : ℕ) → isLiteral n code ≡ true → code < length values
   place code l = omega (arith, literal-high n code l, table .room)
 
-  pub table-places : Places (pairsOf row) values
-  table-places q m = (place (q .x) (literals q m .0), place (q .y) (literals q m .1))
+  pub table-places : placed values (pairsOf row) ≡ true
+  table-places = placed-all values (pairsOf row) (λ q m. (place (q .x) (literals q m .0), place (q .y) (literals q m .1)))
 
   is : (code : ℕ) → isLiteral n code ≡ true → byCode values code ≡ literalValue (valueOf (bitsIn n values)) code
   is code l = table .value code (literal-low n code l) (literal-high n code l)

@@ -1,18 +1,19 @@
 -- A walk along a row's moved variables: what one step finds, which pairs there are, and where nothing is moved. Assumes nothing.
 use mathlib.Core.Path.{_≡_, refl, sym, ap, _∙_}
-use mathlib.Core.Bool.{Bool, true, false, not, Bool·beq}
-use mathlib.Core.List.{List, [], List·Memᴰ, List·Memᴰ·head, List·Memᴰ·tail}
-use mathlib.Core.Logic.{_⊎_, inl, inr, ⊎-elim}
-use Prim.Native.Nat.{ℕ, zero, suc, _+_, _*_, _/_, _≤_, _<_}
-use native.Mathlib.Numerals.{add-one}
+use mathlib.Core.Bool.{Bool, true, false, not, _&&_, _||_, Bool·beq, or-true}
+use mathlib.Core.List.{List, [], _∷_, List·Memᴰ, List·Memᴰ·head, List·Memᴰ·tail}
+use mathlib.Core.Logic.{_⊎_, ⊎-elim}
+use Prim.Native.Nat.{ℕ, _+_, _*_, _/_, _≤_, _<_}
 use native.Mathlib.Omega.{arith}
+use borrow.Author.Tests.{ltb-true, lt-ltb}
+use lib.Dec.{ltb}
 use lib.ListN.{length, getD}
-use Rattle.lists.proofs.Cases.{lt-or-le, eq-or-ne}
-use Rattle.lexleader.specs.Rows.{Pair, pairsOf}
+use Rattle.lists.proofs.Cases.{and-l, and-r, and-both, eq-or-ne}
+use Rattle.lexleader.specs.Rows.{Pair}
 use Rattle.lexleader.specs.Clause.{pairAt, pairsAt}
 use Rattle.lexleader.proofs.Walk.{pairs-start, walk-past, walk-moved, walk-end, later-pairs}
 use Rattle.lexleader.specs.Deciding.{decides, deciding, lowersAlong}
-use Rattle.trial.specs.Spans.{Covers, IsSpan}
+use Rattle.trial.specs.Spans.{byCode, placed, Covers, IsSpan}
 
 -- ---- a step
 
@@ -49,25 +50,48 @@ module _ (value : ℕ → Bool) where
   unfolding lowersAlong deciding
   found-none = (refl, refl)
 
+-- ---- the values that a trial reads
+
+pub placed-all : (values : List Bool) (pairs : List Pair) → ((q : Pair) → List·Memᴰ q pairs → (q .x < length values) × (q .y < length values))
+    → placed values pairs ≡ true
+unfolding placed
+placed-all values [] all = refl
+placed-all values (q ∷ pairs) all =
+    let here = all q (List·Memᴰ·head refl) in
+    and-both (and-both (lt-ltb (q .x) (length values) (here .0)) (lt-ltb (q .y) (length values) (here .1)))
+    (rw (placed-all values pairs (λ p m. all p (List·Memᴰ·tail m))) (or-true (decides (byCode values) q)))
+
+module _ (values : List Bool) (row : List ℕ) (i : ℕ) (h : i < length row) (p : placed values (pairsAt i row) ≡ true) where
+  pub placed-past : getD row i 0 ≡ 2 * (i + 1) → placed values (pairsAt (i + 1) row) ≡ true
+  placed-past e = rw (walk-past row i h e) at p
+
+  module _ (m : getD row i 0 ≡ 2 * (i + 1) → ⊥) where
+    -- the places of the pair at i
+    abbrev inside : Bool
+    inside = ltb (2 * (i + 1)) (length values) && ltb (getD row i 0) (length values)
+
+    -- what comes after it is asked for
+    abbrev after : Bool
+    after = decides (byCode values) (pairAt row i) || placed values (pairsAt (i + 1) row)
+
+    front : (inside && after) ≡ true
+    unfolding placed
+    front = rw (walk-moved row i h m) at p
+
+    pub placed-here : (2 * (i + 1) < length values) × (getD row i 0 < length values)
+    placed-here =
+        let both = and-l inside after front in (
+          ltb-true (2 * (i + 1)) (length values) (and-l (ltb (2 * (i + 1)) (length values)) (ltb (getD row i 0) (length values)) both),
+          ltb-true (getD row i 0) (length values) (and-r (ltb (2 * (i + 1)) (length values)) (ltb (getD row i 0) (length values)) both),
+        )
+
+    pub placed-alike : not (Bool·beq (byCode values (2 * (i + 1))) (byCode values (getD row i 0))) ≡ false → placed values (pairsAt (i + 1) row) ≡ true
+    unfolding decides
+    placed-alike e = rw e at (and-r inside after front)
+
 -- ---- the pairs of a row
 
 module _ (row : List ℕ) where
-  earlier : (q : Pair) (i : ℕ) → List·Memᴰ q (pairsAt (i + 1) row) → List·Memᴰ q (pairsAt i row)
-  earlier q i m = by (lt-or-le i (length row)) (eq-or-ne (getD row i 0) (2 * (i + 1)))
-    where
-      by : (i < length row) ⊎ (length row ≤ i) → (getD row i 0 ≡ 2 * (i + 1)) ⊎ (getD row i 0 ≡ 2 * (i + 1) → ⊥) → List·Memᴰ q (pairsAt i row)
-      by (inl h) (inl e) = rw (walk-past row i h e) m
-      by (inl h) (inr e) = rw (walk-moved row i h e) (List·Memᴰ·tail m)
-      by (inr h) e = rw (walk-end row i h) (rw (walk-end row (i + 1) (omega arith)) at m)
-
-  from-start : (q : Pair) (i : ℕ) → List·Memᴰ q (pairsAt i row) → List·Memᴰ q (pairsAt 0 row)
-  from-start q zero m = m
-  from-start q (suc i) m = from-start q i (earlier q i (rw (add-one i) m))
-
-  -- a moved variable and its image are a pair of the row
-  pub pair-among : (i : ℕ) → i < length row → (getD row i 0 ≡ 2 * (i + 1) → ⊥) → List·Memᴰ (pairAt row i) (pairsOf row)
-  pair-among i h m = rw (pairs-start row) (from-start (pairAt row i) i (rw (walk-moved row i h m) (List·Memᴰ·head refl)))
-
   -- where the pairs do not become fewer, nothing is moved
   none-between : (j k : ℕ) → length (pairsAt j row) ≡ length (pairsAt k row) → (i : ℕ) → j ≤ i → i < k → i < length row → getD row i 0 ≡ 2 * (i + 1)
   none-between j k e i low high h =

@@ -1,19 +1,22 @@
 -- What a trial walks and what it reads. Assumes nothing.
 use mathlib.Core.Path.{_≡_}
 use Prim.Native.Nat.{ℕ, _-_, _*_, _≤_, _<_}
-use mathlib.Core.Bool.{Bool, false}
-use mathlib.Core.List.{List, [], List·Memᴰ}
+use mathlib.Core.Bool.{Bool, true, false, _&&_, _||_}
+use mathlib.Core.List.{List, [], _∷_}
 use lib.ListN.{length, getD}
+use lib.Dec.{ltb}
 use Rattle.lexleader.specs.Rows.{Pair, pairsOf}
+use Rattle.lexleader.specs.Deciding.{decides}
 use Rattle.lexleader.specs.Clause.{pairsAt, NextMoved}
 
 -- values lent by code
 abbrev pub byCode : List Bool → ℕ → Bool
 byCode values code = getD values code false
 
--- there is a value for each moved variable and its image; of others there may be any, or none
-abbrev pub Places : List Pair → List Bool → Type 0
-Places pairs values = (q : Pair) → List·Memᴰ q pairs → (q .x < length values) × (q .y < length values)
+-- there is a value for each moved variable and for its image, as far as the first that decides; of others there may be any, or none
+unfoldable pub placed : List Bool → List Pair → Bool
+placed values [] = true
+placed values (q ∷ pairs) = (ltb (q .x) (length values) && ltb (q .y) (length values)) && (decides (byCode values) q || placed values pairs)
 
 -- all moved variables have an index from `first` up to `end`
 pub record Covers (row : List ℕ) (first end : ℕ) : Type 0 where

@@ -5,18 +5,20 @@
 // first x that has another value than its y, and there A's own value is the answer: A moved is smaller where that is true.
 //
 // The values come by code, as a table has them (`valuation`), but of that table only the places of moved variables and their images are
-// asked for: others may hold anything, or not be there. So no contract here speaks of a whole assignment. What a trial says of one is a
-// theorem for every assignment that has the values lent at these places (`trial-answers`, proofs/Theorem.antt).
+// asked for, as far as the first that decides: others may hold anything, or not be there. So no contract here speaks of a whole
+// assignment. What a trial says of one is a theorem for every assignment that has the values lent at these places (`trial-answers`,
+// proofs/Theorem.antt).
 //
 // A row may be tried many times and moves the same variables each time. Whoever does so notes its span first, from the first moved
 // variable to the last, and a trial then walks that alone.
 ghost use mathlib.Core.Path.{_≡_};
+ghost use mathlib.Core.Bool.{true};
 ghost use Prim.Native.Nat.{_≤_};
 ghost use lib.ListN.{length};
 ghost use Rattle.store.specs.Stores.{maxVariables};
 ghost use Rattle.lexleader.specs.Rows.{pairsOf};
 ghost use Rattle.lexleader.specs.Deciding.{deciding, lowersAlong};
-ghost use Rattle.trial.specs.Spans.{byCode, Places, Covers, IsSpan};
+ghost use Rattle.trial.specs.Spans.{byCode, placed, Covers, IsSpan};
 
 // Whether the row makes the assignment smaller, and the variable that decided, 0 where none does.
 pub struct Trial {
@@ -32,7 +34,7 @@ pub struct Span {
 
 // Tries a row on the values of literals by code, where no variable outside of a span is moved.
 pub fn try_row(row: &[u16], span: Span, values: &[bool]) -> Trial
-    requires { ⌜ Covers (now row) (span .first) (span .end) × Places (pairsOf (now row)) (now values) ⌝ }
+    requires { ⌜ Covers (now row) (span .first) (span .end) × (placed (now values) (pairsOf (now row)) ≡ true) ⌝ }
     ensures variable { λ r. ⌜ r .variable ≡ deciding (byCode (now (values .entry))) (pairsOf (now (row .entry))) ⌝ }
     ensures lowers { λ r. ⌜ r .lowers ≡ lowersAlong (byCode (now (values .entry))) (pairsOf (now (row .entry))) ⌝ }
 {

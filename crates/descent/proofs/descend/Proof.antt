@@ -7,16 +7,10 @@ use Rattle.descent.specs.Words.{descended}
 use Rattle.descent.proofs.descend.Statement.{statement}
 use Rattle.descent.proofs.descend.Tie as tie
 
-slice-aggregate-tabulate : tie.Need-slice-aggregate-tabulate
-slice-aggregate-tabulate c = refl
-
 tabulate-requires : tie.Need-tabulate-requires
 tabulate-requires c κs =
     let s = c .before .before .before .before in
     (form-room (s .args .n) (s .args .a .now) (s .pre .1), omega (arith, s .pre .0 .small))
-
-slice-aggregate-note : tie.Need-slice-aggregate-note
-slice-aggregate-note c = refl
 
 note-requires : tie.Need-note-requires
 note-requires c κs =
@@ -63,5 +57,5 @@ returns c =
 pub descend-spec : {M : Type 1} → statement M
 descend-spec =
     tie.close
-    (tie.spec slice-aggregate-tabulate tabulate-requires slice-aggregate-note note-requires slice-aggregate-settle slice-aggregate-settle-2
+    (tie.spec (λ c. refl) tabulate-requires (λ c. refl) note-requires slice-aggregate-settle slice-aggregate-settle-2
     slice-aggregate-settle-3 settle-requires slice-aggregate-write-back write-back-requires same-length returns)

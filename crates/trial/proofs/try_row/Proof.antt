@@ -1,5 +1,6 @@
 -- `trial::try_row` meets its contract. The invariant: the pairs at index i and after it decide as all pairs do. Assumes nothing.
 use mathlib.Core.Path.{_≡_, sym, _∙_}
+use mathlib.Core.Bool.{true}
 use mathlib.Core.List.{[]}
 use mathlib.Core.Logic.{⊎-elim}
 use Prim.Native.Nat.{_+_, _-_, _*_, _≤_, _<_}
@@ -7,20 +8,21 @@ use native.Mathlib.Omega.{arith}
 use lib.ListN.{length, getD}
 use Rattle.lexleader.specs.Rows.{pairsOf}
 use Rattle.lexleader.specs.Clause.{pairsAt}
-use Rattle.trial.specs.Spans.{byCode}
-use Rattle.trial.proofs.PairLaws.{SameFound, found-start, found-on, found-past, found-alike, found-here, found-none, pair-among}
+use Rattle.trial.specs.Spans.{byCode, placed}
+use Rattle.trial.proofs.PairLaws.{SameFound, found-start, found-on, found-past, found-alike, found-here, found-none, placed-past, placed-here, placed-alike}
 use borrow.Author.Needs.{needs}
 use Rattle.trial.proofs.try_row.Statement.{statement}
 use Rattle.trial.proofs.try_row.Tie as tie
 
 abbrev Inv-loop : tie.InvT-loop
-Inv-loop row values first end i₀ i = (i ≤ end) × SameFound (byCode values) (pairsOf row) (pairsAt i row)
+Inv-loop row values first end i₀ i =
+    (i ≤ end) × SameFound (byCode values) (pairsOf row) (pairsAt i row) × (placed values (pairsAt i row) ≡ true)
 
 abbrev μ-loop : tie.MeasureT-loop
 μ-loop row values first end i₀ i = end - i
 
 loop-holds : tie.Need-loop-holds Inv-loop μ-loop
-loop-holds c = (omega (arith, c .pre .0 .order), found-start _ (c .pre .0 .none-before))
+loop-holds c = (omega (arith, c .pre .0 .order), found-start _ (c .pre .0 .none-before), rw (c .pre .0 .none-before) at (c .pre .1))
 
 -- the index is one of the row's
 inside : (c : tie.In-loop Inv-loop μ-loop) → c .before .loop .i < length (c .before .before .args .row .now)
@@ -38,7 +40,7 @@ places : (c : tie.Then1 Inv-loop μ-loop) → let l = c .before .before .before 
     (2 * (l .loop .i + 1) < length (a .values .now)) × (getD (a .row .now) (l .loop .i) 0 < length (a .values .now))
 places c =
     let l = c .before .before .before in
-    l .before .pre .1 _ (pair-among (l .before .args .row .now) (l .loop .i) (inside (c .before .before)) (c .if1 .taken))
+    placed-here (l .before .args .values .now) (l .before .args .row .now) (l .loop .i) (inside (c .before .before)) (l .loop .inv .2) (c .if1 .taken)
 
 shared-slice-read-value : tie.Need-shared-slice-read-value Inv-loop μ-loop
 shared-slice-read-value c = places (c .before) .0
@@ -60,9 +62,13 @@ loop-again c =
     let i = l .loop .i in
     let value = byCode (l .before .args .values .now) in
     let row = l .before .args .row .now in
-    let on : SameFound value (pairsAt i row) (pairsAt (i + 1) row) =
-    ⊎-elim (λ f. found-alike value row i (inside t) (f .0 .taken) (f .3 .left)) (λ f. found-past value row i (inside t) (f .left)) (c .if1 .came) in
-    (omega arith, found-on value (l .loop .inv .1) on)
+    let values = l .before .args .values .now in
+    let p = l .loop .inv .2 in
+    let on : SameFound value (pairsAt i row) (pairsAt (i + 1) row) × (placed values (pairsAt (i + 1) row) ≡ true) =
+    ⊎-elim
+    (λ f. (found-alike value row i (inside t) (f .0 .taken) (f .3 .left), placed-alike values row i (inside t) p (f .0 .taken) (f .3 .left)))
+    (λ f. (found-past value row i (inside t) (f .left), placed-past values row i (inside t) p (f .left))) (c .if1 .came) in
+    (omega arith, found-on value (l .loop .inv .1) (on .0), on .1)
 
 returns-2 : tie.Need-returns-2 Inv-loop μ-loop
 returns-2 c =

@@ -1,11 +1,11 @@
--- Opening and offers: one law for each way out of the calls, for what is said and for what the store then is. Assumes nothing.
+-- Opening, offers and withdrawals: one law for each way out of the calls, for what is said and for what the store then is. Assumes nothing.
 use mathlib.Core.Path.{_≡_, refl, sym, ap, _∙_}
 use mathlib.Core.List.{List}
 use Prim.Native.Nat.{ℕ, _+_}
 use borrow.Author.Tests.{eq-eqb, ne-eqb}
 use lib.ListN.{length}
 use Rattle.store.specs.Refusals.{Said, refused, saidRefused, said, bufferLeft}
-use Rattle.store.specs.Stores.{Store, lent, standingOf, maxRows}
+use Rattle.store.specs.Stores.{Store, lent, withoutRow, standingOf, maxRows}
 use Rattle.store.specs.declared.answer.Answer.{Answer}
 use Rattle.store.specs.declared.form.Standing.{Standing}
 use Rattle.store.specs.declared.record.Record.{Record}
@@ -16,7 +16,9 @@ use Rattle.opening.specs.declared.Opened.{Opened}
 use Rattle.offering.specs.Offering.{rowFor, offeredBy, imagesAfter}
 use Rattle.offering.specs.declared.Offered.{Offered}
 use Rattle.calls.specs.Calls.{Accepted, onStore, countsOpened, saidOpened, openSays, openStore, saidOffered, offerSays, offerStore}
+use Rattle.calls.specs.Calls.{saidWithdrawn, withdrawSays, withdrawStore}
 use Rattle.calls.specs.declared.Offering.{Offering}
+use Rattle.calls.specs.declared.Withdrawn.{Withdrawn}
 
 -- ---- open
 
@@ -64,6 +66,26 @@ module _ (s : Store) (names values : List ℕ) where
         → Leaves a (record { variables = s .counts .variables; clauses = s .counts .clauses; rows = s .counts .rows + 1; is_open = s .counts .is_open }) images
     unfolding offerStore
     accepts e = rw (images-are, said, ← is, e) (refl, refl)
+
+-- ---- withdraw
+
+module _ (s : Store) where
+  -- what a withdrawal must answer, and what it must leave
+  abbrev pub Withdraws : Withdrawn → Store → Type 0
+  Withdraws answer left = (saidWithdrawn answer ≡ withdrawSays s) × (left ≡ withdrawStore s)
+
+  pub unready-withdraw : (refusal : Refusal) → standingOf s ≡ Standing.Refused refusal → Withdraws (Withdrawn.Refused refusal) s
+  unfolding withdrawSays withdrawStore
+  unready-withdraw refusal e = rw e (refl, refl)
+
+  module _ (ready : standingOf s ≡ Standing.Ready) where
+    pub none-held : s .counts .rows ≡ 0 → Withdraws (Withdrawn.Refused Refusal.NoRow) s
+    unfolding withdrawSays withdrawStore
+    none-held e = rw (ready, eq-eqb (s .counts .rows) 0 e) (refl, refl)
+
+    pub takes-back : (s .counts .rows ≡ 0 → ⊥) → Withdraws Withdrawn.TakenBack (withoutRow s)
+    unfolding withdrawSays withdrawStore
+    takes-back n = rw (ready, ne-eqb (s .counts .rows) 0 n) (refl, refl)
 
 -- ---- header and clause
 

@@ -1,4 +1,4 @@
--- What each public call says, in document 01's numbers, and what the lent store holds afterwards. For each answer enum of the code a definition gives
+-- What each public call says, in the documents' numbers, and what the lent store holds afterwards. For each answer enum of the code a definition gives
 -- the numbers and the values of its cases. Assumes nothing.
 use Prim.Native.Nat.{ℕ}
 use mathlib.Core.Bool.{true, cond, _&&_}
@@ -8,8 +8,8 @@ use lib.Dec.{eqb, leb}
 use Rattle.packed.specs.Words.{maxWords, bitsOf, wordCount, isAssignment}
 use Rattle.packed.specs.Order.{allBits, firstDifference}
 use Rattle.quality.specs.Efficiency.{hasEfficiency, efficiencyOf}
-use Rattle.store.specs.Refusals.{Said, done, refused, saidRefused, bufferLeft}
-use Rattle.store.specs.Stores.{Store, lent, withRow, heldRows, standingOf, maxRows}
+use Rattle.store.specs.Refusals.{Said, done, refused, saidRefused, unlessRefused, bufferLeft}
+use Rattle.store.specs.Stores.{Store, lent, withRow, withoutRow, heldRows, standingOf, maxRows}
 use Rattle.store.specs.declared.form.Standing.{Standing}
 use Rattle.store.specs.declared.record.Record.{Record}
 use Rattle.opening.specs.Clauses.{literalsIn, endsFrom}
@@ -25,6 +25,7 @@ use Rattle.checking.specs.Checking.{Verdict, verdictOf, firstFalse}
 use Rattle.descent.specs.Words.{Outcome, answerOf, outcomeOf, descended}
 use Rattle.calls.specs.declared.Descent.{Descent}
 use Rattle.calls.specs.declared.Finding.{Finding}
+use Rattle.calls.specs.declared.Withdrawn.{Withdrawn}
 
 -- a call that answers without a value
 pub data Accepted : Type 0 where
@@ -67,13 +68,26 @@ saidOffered (Offered.Refused r) = saidRefused r
 unfoldable pub offerSays : Store → List ℕ → List ℕ → Said Accepted
 offerSays s names values = onStore (standingOf s) (cond (eqb (s .counts .rows) maxRows) (refused 22 0) (saidOffered (offeredBy s names values)))
 
--- the store with one row more, or as it was where the offer is refused
-abbrev pub storeOffered : Said Accepted → Store → List ℕ → Store
-storeOffered (done a) s row = withRow s row
-storeOffered (refused number place) s row = s
-
+-- the store with one row more
 unfoldable pub offerStore : Store → List ℕ → List ℕ → Store
-offerStore s names values = storeOffered (offerSays s names values) s (rowFor s names values)
+offerStore s names values = unlessRefused (offerSays s names values) (withRow s (rowFor s names values)) s
+
+-- ---- withdraw (document 02, CR 3): 20, 21, then 30 where no row is held
+
+-- the newest row is taken back
+pub data TakenBack : Type 0 where
+  takenBack : TakenBack
+
+abbrev pub saidWithdrawn : Withdrawn → Said TakenBack
+saidWithdrawn Withdrawn.TakenBack = done takenBack
+saidWithdrawn (Withdrawn.Refused r) = saidRefused r
+
+unfoldable pub withdrawSays : Store → Said TakenBack
+withdrawSays s = onStore (standingOf s) (cond (eqb (s .counts .rows) 0) (refused 30 0) (done takenBack))
+
+-- only the count of rows falls: the row's entries are then past those in use, and stay
+unfoldable pub withdrawStore : Store → Store
+withdrawStore s = unlessRefused (withdrawSays s) (withoutRow s) s
 
 -- ---- header and clause q: "each returning its byte length; bytes past it stay". 20, 21, then 13 for a clause, then 23
 
@@ -125,12 +139,8 @@ descendSays s a limit =
     let n = s .counts .variables in
     onStore (standingOf s) (cond (isAssignment n a) (done (answerOf (descend limit (heldRows s) (bitsOf n a)))) (refused 12 0))
 
-abbrev pub wordsLeft : Said Outcome → List ℕ → List ℕ → List ℕ
-wordsLeft (done outcome) reached a = reached
-wordsLeft (refused number place) reached a = a
-
 unfoldable pub descendLeaves : Store → List ℕ → ℕ → List ℕ
-descendLeaves s a limit = wordsLeft (descendSays s a limit) (descended (s .counts .variables) limit (heldRows s) a) a
+descendLeaves s a limit = unlessRefused (descendSays s a limit) (descended (s .counts .variables) limit (heldRows s) a) a
 
 -- ---- efficiency: 14, place 0
 

@@ -15,6 +15,7 @@ ghost use Rattle.store.specs.Refusals.{said};
 ghost use Rattle.store.specs.Stores.{lent, stored, closedRecord};
 ghost use Rattle.packed.specs.Order.{part, lesserOf};
 ghost use Rattle.calls.specs.Calls.{saidOpened, openSays, openStore, saidOffered, offerSays, offerStore};
+ghost use Rattle.calls.specs.Calls.{saidWithdrawn, withdrawSays, withdrawStore};
 ghost use Rattle.calls.specs.Calls.{headerSays, headerLeaves, clauseSays, clauseLeaves, fillSays, fillLeaves};
 ghost use Rattle.calls.specs.Calls.{saidFinding, checkSays};
 ghost use Rattle.calls.specs.Calls.{saidDescent, descendSays, descendLeaves, compareSays, efficiencySays};
@@ -28,6 +29,17 @@ pub struct Opening {
 // What an offer answers, with the record beside it.
 pub struct Offering {
     pub answer: Offered,
+    pub counts: Record,
+}
+
+// What a withdrawal answers, and the same with the record beside it.
+pub enum Withdrawn {
+    TakenBack,
+    Refused(Refusal),
+}
+
+pub struct Withdrawal {
+    pub answer: Withdrawn,
     pub counts: Record,
 }
 
@@ -121,6 +133,36 @@ fn turned_back(refusal: Refusal, counts: Record) -> Offering
     Offering {
         answer: Offered::Refused(refusal),
         counts: counts,
+    }
+}
+
+// Takes the newest row back: one row fewer is counted, and no slice is written.
+pub fn withdraw(counts: Record, literals: &[u16], ends: &[u16], images: &[u16]) -> Withdrawal
+    ensures says { λ r. let s = stored counts (literals .entry) (ends .entry) (images .entry) in
+        ⌜ saidWithdrawn (r .answer) ≡ withdrawSays s ⌝ }
+    ensures leaves { λ r. let s = stored counts (literals .entry) (ends .entry) (images .entry) in
+        ⌜ stored (r .counts) (literals .entry) (ends .entry) (images .entry) ≡ withdrawStore s ⌝ }
+{
+    if let Standing::Refused(refusal) = store::form::admit(counts, literals, ends, images) {
+        return Withdrawal {
+            answer: Withdrawn::Refused(refusal),
+            counts: counts,
+        };
+    }
+    if counts.rows == 0 {
+        return Withdrawal {
+            answer: Withdrawn::Refused(Refusal::NoRow),
+            counts: counts,
+        };
+    }
+    Withdrawal {
+        answer: Withdrawn::TakenBack,
+        counts: Record {
+            variables: counts.variables,
+            clauses: counts.clauses,
+            rows: counts.rows - 1,
+            is_open: counts.is_open,
+        },
     }
 }
 

@@ -17,7 +17,7 @@ use Rattle.store.specs.declared.refusal.Refusal.{Refusal}
 use Rattle.store.proofs.Demands.{rest-of}
 use Rattle.store.proofs.Formed.{formed, row-of}
 use Rattle.store.proofs.StandingLaws.{ready-of, ready}
-use Rattle.store.proofs.Append.{with-row-held, with-row-formed}
+use Rattle.store.proofs.RowChanges.{with-row-held, with-row-formed}
 use Rattle.permutation.specs.Stated.{statedBy}
 use Rattle.permutation.specs.declared.Stated.{Stated}
 use Rattle.permutation.proofs.RowLaws.{row-length}

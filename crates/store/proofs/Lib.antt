@@ -5,6 +5,6 @@ pub mod Demands
 pub mod Formed
 pub mod Cuts
 pub mod Within
-pub mod Append
+pub mod RowChanges
 pub mod StandingLaws
 pub mod Examples

@@ -86,6 +86,19 @@ rows-take n k images h =
     sym (rows-append n k (take (k * n) images) (drop (k * n) images) (length-take-le (k * n) images h))
     ∙ ap (rowsOf n k) (take-append-drop (k * n) images)
 
+-- ---- how many there are, and the first of them
+
+pub rows-count : (n k : ℕ) (images : List ℕ) → length (rowsOf n k images) ≡ k
+unfolding rowsOf
+rows-count n zero images = refl
+rows-count n (suc k) images = ap suc (rows-count n k (drop n images))
+
+pub rows-fewer : (n j k : ℕ) (images : List ℕ) → j ≤ k → rowsOf n j images ≡ take j (rowsOf n k images)
+unfolding rowsOf
+rows-fewer n zero k images h = refl
+rows-fewer n (suc j) zero images h = absurd (omega arith)
+rows-fewer n (suc j) (suc k) images h = ap (λ (rows : List (List ℕ)). take n images ∷ rows) (rows-fewer n j k (drop n images) (omega arith))
+
 -- ---- a row more
 
 rows-snoc : (n k : ℕ) (a row : List ℕ) → length a ≡ k * n → length row ≡ n → rowsOf n (suc k) (a ++ row) ≡ rowsOf n k a ++ (row ∷ [])

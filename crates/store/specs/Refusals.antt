@@ -1,4 +1,4 @@
--- Refusals by document 01's numbers and places ("Turned back by what was lent", "Turned back by the store"). Assumes nothing.
+-- Refusals by their numbers and places (document 01, "Turned back by what was lent", "Turned back by the store"; 30 by document 02, CR 3). Assumes nothing.
 use Prim.Native.Nat.{ℕ}
 use mathlib.Core.List.{List, _++_}
 use lib.ListN.{length, drop}
@@ -30,6 +30,7 @@ numberOf Refusal.NotOpen = 20
 numberOf Refusal.BadlyFormed = 21
 numberOf Refusal.RowsFull = 22
 numberOf (Refusal.TooShort needed) = 23
+numberOf Refusal.NoRow = 30
 
 -- "Places are byte offsets from 0, unless stated"
 abbrev pub placeOf : Refusal → ℕ
@@ -52,6 +53,7 @@ placeOf Refusal.NotOpen = 0
 placeOf Refusal.BadlyFormed = 0
 placeOf Refusal.RowsFull = 0
 placeOf (Refusal.TooShort needed) = needed
+placeOf Refusal.NoRow = 0
 
 -- what a refusal says
 abbrev pub saidRefused : {Values : Type 0} → Refusal → Said Values
@@ -62,7 +64,11 @@ abbrev pub said : Answer → Said ℕ
 said (Answer.Value value) = done value
 said (Answer.Refused r) = saidRefused r
 
--- a lent buffer after a call that writes: what it wrote in front of what was past that, or all as it was where it refuses
+-- what a call leaves: this where it answers, and all the same where it refuses
+abbrev pub unlessRefused : {Values Left : Type 0} → Said Values → Left → Left → Left
+unlessRefused (done values) changed same = changed
+unlessRefused (refused number place) changed same = same
+
+-- a lent buffer after a call that writes: what it wrote in front of what was past that
 abbrev pub bufferLeft : Said ℕ → List ℕ → List ℕ → List ℕ
-bufferLeft (done value) front out = front ++ drop (length front) out
-bufferLeft (refused number place) front out = out
+bufferLeft answer front out = unlessRefused answer (front ++ drop (length front) out) out

@@ -99,11 +99,17 @@ isImage n code = isLiteral n code && not (isNegative code)
 unfoldable pub isRow : ℕ → List ℕ → Bool
 isRow n row = eqb (length row) n && allOf (isImage n) row && distinct (map variableOf row)
 
--- the store with a row more
+-- the store with k rows, in these images
+abbrev pub withRows : Store → ℕ → List ℕ → Store
+withRows s k images =
+    lent (record { variables = s .counts .variables; clauses = s .counts .clauses; rows = k; is_open = s .counts .is_open }) (s .literals) (s .ends) images
+
+-- with a row more, behind those held; and without its newest row, whose entries stay
 abbrev pub withRow : Store → List ℕ → Store
-withRow s row =
-    lent (record { variables = s .counts .variables; clauses = s .counts .clauses; rows = s .counts .rows + 1; is_open = s .counts .is_open })
-    (s .literals) (s .ends) (appended (s .counts .variables) (s .counts .rows) row (s .images))
+withRow s row = withRows s (s .counts .rows + 1) (appended (s .counts .variables) (s .counts .rows) row (s .images))
+
+abbrev pub withoutRow : Store → Store
+withoutRow s = withRows s (s .counts .rows - 1) (s .images)
 
 -- the opposite of 21: "a slice too short for the counts, ends that fall or pass the literals, a literal 0 or beyond n, a row that isn't a
 -- permutation, a count over its limit"

@@ -1,4 +1,4 @@
-// What is turned back, each case with document 01's number beside it and, where it is not always 0, its place.
+// What is turned back, each case with its number in documents 01 and 02 beside it and, where it is not always 0, its place.
 ghost use mathlib.Core.Path.{_≡_};
 ghost use Rattle.store.specs.Refusals.{numberOf, placeOf};
 
@@ -22,6 +22,7 @@ pub enum Refusal {
     BadlyFormed, // 21
     RowsFull, // 22
     TooShort(usize), // 23
+    NoRow, // 30
 }
 
 impl Refusal {
@@ -48,6 +49,7 @@ impl Refusal {
             Refusal::BadlyFormed => 21,
             Refusal::RowsFull => 22,
             Refusal::TooShort(_) => 23,
+            Refusal::NoRow => 30,
         }
     }
 
@@ -74,6 +76,7 @@ impl Refusal {
             Refusal::BadlyFormed => 0,
             Refusal::RowsFull => 0,
             Refusal::TooShort(needed) => needed,
+            Refusal::NoRow => 0,
         }
     }
 }

@@ -1,6 +1,7 @@
 // The calls for C (include/symbreak.h): numbers and slices in, structs of numbers out. A slice passes as a pointer and a length.
 use calls::Descent;
 use calls::Finding;
+use calls::Withdrawn;
 use checking::Checked;
 use descent::Descended;
 use offering::Offered;
@@ -16,8 +17,8 @@ ghost use Rattle.store.specs.Refusals.{done, said};
 ghost use Rattle.store.specs.Stores.{lent, stored, closedRecord};
 ghost use Rattle.checking.specs.Checking.{verdictOf};
 ghost use Rattle.descent.specs.Words.{outcomeOf};
-ghost use Rattle.calls.specs.Calls.{openSays, openStore, offerSays, offerStore, headerSays, headerLeaves};
-ghost use Rattle.calls.specs.Calls.{clauseSays, clauseLeaves};
+ghost use Rattle.calls.specs.Calls.{openSays, openStore, offerSays, offerStore, withdrawSays, withdrawStore};
+ghost use Rattle.calls.specs.Calls.{headerSays, headerLeaves, clauseSays, clauseLeaves};
 ghost use Rattle.calls.specs.Calls.{fillSays, fillLeaves, checkSays, descendSays, descendLeaves, compareSays, efficiencySays};
 ghost use Rattle.symbreak.specs.Exports.{recordOf, cRecord, cAnswer, cChecked, cDescent, cStored, cStoredAt};
 
@@ -113,6 +114,29 @@ pub extern "C" fn symbreak_offer(
     match answer {
         Offered::Accepted => stored_at(0, 0, after),
         Offered::Refused(refusal) => stored_at(refusal.number(), refusal.place() as u64, after),
+    }
+}
+
+#[no_mangle]
+pub extern "C" fn symbreak_withdraw(
+    variables: u64,
+    clauses: u64,
+    rows: u64,
+    flag: u64,
+    literals: &[u16],
+    ends: &[u16],
+    images: &[u16],
+) -> CStored
+    ensures { λ r. let s = stored (recordOf variables clauses rows flag) (literals .entry) (ends .entry) (images .entry) in
+        ⌜ r ≡ cStored (withdrawSays s) (withdrawStore s .counts) ⌝ }
+{
+    let counts = record_of(variables, clauses, rows, flag);
+    let r = calls::withdraw(counts, literals, ends, images);
+    let answer = r.answer;
+    let after = r.counts;
+    match answer {
+        Withdrawn::TakenBack => stored_at(0, 0, after),
+        Withdrawn::Refused(refusal) => stored_at(refusal.number(), refusal.place() as u64, after),
     }
 }
 

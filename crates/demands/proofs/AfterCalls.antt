@@ -1,71 +1,79 @@
--- Lists of calls: after any list from a fresh opening, refused offers included, the rows are exactly the permutations that the accepted offers state, in
--- order, repeats included, each a symmetry, and the plain formula is the text's. What carries it: a store and what is held stay sound through every call.
--- Assumes nothing.
-use mathlib.Core.Path.{_≡_, refl, ap, _∙_}
+-- Lists of calls: after any list from a fresh opening, refused calls included, the rows are exactly the permutations that the accepted offers not taken back
+-- state, in order, repeats included, each a symmetry, and the plain formula is the text's. What carries it: a store and what is held stay sound through every
+-- call. Assumes nothing.
+use mathlib.Core.Path.{_≡_, refl, ap, _∙_, subst}
 use mathlib.Core.Bool.{true}
-use mathlib.Core.List.{List, [], _∷_, _++_, List·Memᴰ, List·Memᴰ·not-nil, List·Memᴰ·append-cases, List·Memᴰ·eq-of-singleton}
+use mathlib.Core.List.{List, [], _∷_, _++_, List·Memᴰ, Memᴰ·append-left, List·Memᴰ·not-nil, List·Memᴰ·append-cases, List·Memᴰ·eq-of-singleton}
 use mathlib.Core.Logic.{⊎-elim}
-use Prim.Native.Nat.{ℕ, _*_}
+use Prim.Native.Nat.{ℕ, _-_, _*_}
 use native.Mathlib.Omega.{arith}
-use lib.ListN.{length, take, length-append}
+use lib.ListN.{length, take, drop, length-append, take-append-drop}
 use lib.Seq.{length-take-le}
-use Rattle.store.specs.Refusals.{Said, done, refused}
-use Rattle.store.specs.Stores.{Store, wellFormed, plainOf, rowsOf, heldRows}
+use Rattle.store.specs.Refusals.{Said, done, refused, unlessRefused}
+use Rattle.store.specs.Stores.{Store, withRows, wellFormed, plainOf, rowsOf, heldRows}
 use Rattle.store.proofs.RowLaws.{rows-append, rows-take}
-use Rattle.store.proofs.Demands.{rest-of, rows-of, rows-decide}
+use Rattle.store.proofs.Demands.{rest-of, rows-of}
+use Rattle.store.proofs.RowChanges.{with-rows-formed, without-row-formed}
 use Rattle.symmetry.specs.Symmetry.{IsSymmetry}
 use Rattle.opening.specs.Opening.{openedBy, formulaOf}
 use Rattle.opening.specs.declared.Opened.{Opened}
 use Rattle.opening.proofs.Theorem.{opened-formed, opened-plain}
 use Rattle.offering.specs.Offering.{rowFor}
-use Rattle.calls.specs.Calls.{Accepted, accepted as yes, Dimensions, saidOpened, openSays, openStore, offerSays, offerStore}
-use Rattle.demands.specs.Lists.{Call, offer, lend, lentAnew, afterCall, after, heldBy, heldAfter, acceptedFrom, accepted}
+use Rattle.calls.specs.Calls.{accepted as yes, Dimensions, saidOpened, openSays, openStore, offerSays, offerStore, takenBack, withdrawSays, withdrawStore}
+use Rattle.demands.specs.Lists.{Call, offer, withdraw, lend, lentAnew, afterCall, after, butLast, heldAfter, heldFrom, accepted}
 use Rattle.demands.proofs.Acceptance.{store-refused, store-accepted, accepted-symmetry, accepted-held, accepted-formed}
+use Rattle.demands.proofs.Withdrawal.{withdrawn-refused, withdrawn-row, withdrawn-held}
 
 -- ---- what every call keeps
 
+-- all but the rows: their count and the images
 pub record Keeps (s t : Store) : Type 0 where
-  pub plain : plainOf t ≡ plainOf s
-  pub variables : t .counts .variables ≡ s .counts .variables
-  pub opened : t .counts .is_open ≡ s .counts .is_open
+  pub but-rows : t ≡ withRows s (t .counts .rows) (t .images)
 
-keeps-self : (s : Store) → Keeps s s
-keeps-self s = record { plain = refl; variables = refl; opened = refl }
+module _ {s t : Store} (k : Keeps s t) where
+  pub same-plain : plainOf t ≡ plainOf s
+  unfolding plainOf
+  same-plain = ap plainOf (k .but-rows)
 
-keeps-trans : {s t u : Store} → Keeps s t → Keeps t u → Keeps s u
-keeps-trans k l = record { plain = l .plain ∙ k .plain; variables = l .variables ∙ k .variables; opened = l .opened ∙ k .opened }
+  pub same-variables : t .counts .variables ≡ s .counts .variables
+  same-variables = ap (λ (u : Store). u .counts .variables) (k .but-rows)
 
--- an offer is accepted or refused
-data Offer (s : Store) (names values : List ℕ) : Type 0 where
-  taken : offerSays s names values ≡ done yes → Offer s names values
-  turned : (number place : ℕ) → offerSays s names values ≡ refused number place → Offer s names values
+  pub same-open : t .counts .is_open ≡ s .counts .is_open
+  same-open = ap (λ (u : Store). u .counts .is_open) (k .but-rows)
 
-offer-cases : (s : Store) (names values : List ℕ) → Offer s names values
-offer-cases s names values = by (offerSays s names values) refl
-  where
-    by : (said : Said Accepted) → offerSays s names values ≡ said → Offer s names values
-    by (done yes) e = taken e
-    by (refused number place) e = turned number place e
+  pub keeps-trans : {r : Store} → Keeps r s → Keeps r t
+  keeps-trans {r = r} l = record { but-rows = k .but-rows ∙ ap (λ (u : Store). withRows u (t .counts .rows) (t .images)) (l .but-rows) }
+
+pub keeps-self : (s : Store) → Keeps s s
+keeps-self s = record { but-rows = refl }
+
+-- a call answers or is refused
+data Ending {Values : Type 0} (said : Said Values) : Type 0 where
+  answered : (v : Values) → said ≡ done v → Ending said
+  turned : (number place : ℕ) → said ≡ refused number place → Ending said
+
+ending : {Values : Type 0} (said : Said Values) → Ending said
+ending (done v) = answered v refl
+ending (refused number place) = turned number place refl
 
 keeps-call : (s : Store) (call : Call) → Keeps s (afterCall s call)
-unfolding plainOf lentAnew
-keeps-call s (lend past) = record { plain = refl; variables = refl; opened = refl }
-keeps-call s (offer names values) = by (offer-cases s names values)
+unfolding lentAnew
+keeps-call s (lend past) = record { but-rows = refl }
+keeps-call s withdraw = by (ending (withdrawSays s))
   where
-    by : Offer s names values → Keeps s (offerStore s names values)
+    by : Ending (withdrawSays s) → Keeps s (withdrawStore s)
+    by (turned number place e) = rw (withdrawn-refused s number place e) (keeps-self s)
+    by (answered takenBack e) = rw (withdrawn-row s e) (record { but-rows = refl })
+keeps-call s (offer names values) = by (ending (offerSays s names values))
+  where
+    by : Ending (offerSays s names values) → Keeps s (offerStore s names values)
     by (turned number place e) = rw (store-refused s names values number place e) (keeps-self s)
-    by (taken e) =
-        let stored = store-accepted s names values e in
-        record {
-          plain = ap plainOf stored;
-          variables = ap (λ (t : Store). t .counts .variables) stored;
-          opened = ap (λ (t : Store). t .counts .is_open) stored;
-        }
+    by (answered yes e) = rw (store-accepted s names values e) (record { but-rows = refl })
 
 pub keeps-calls : (s : Store) (calls : List Call) → Keeps s (after s calls)
 unfolding after
 keeps-calls s [] = keeps-self s
-keeps-calls s (call ∷ calls) = keeps-trans (keeps-call s call) (keeps-calls (afterCall s call) calls)
+keeps-calls s (call ∷ calls) = keeps-trans (keeps-calls (afterCall s call) calls) (keeps-call s call)
 
 -- ---- another images slice
 
@@ -83,21 +91,11 @@ module _ (s : Store) (past : List ℕ) (e : wellFormed s ≡ true) where
       ∙ rows-take (s .counts .variables) (s .counts .rows) (s .images) (rest-of s e .images-long)
 
   anew-formed : wellFormed (lentAnew s past) ≡ true
-  unfolding lentAnew
+  unfolding lentAnew heldRows
   anew-formed =
       let r = rest-of s e in
-      rows-decide (lentAnew s past) (record {
-        variables-fit = r .variables-fit;
-        clauses-fit = r .clauses-fit;
-        rows-fit = r .rows-fit;
-        ends-long = r .ends-long;
-        ends-rise = r .ends-rise;
-        literals-fit = r .literals-fit;
-        literals-long = r .literals-long;
-        literals-good = r .literals-good;
-        images-long = omega (arith, length-append (take entries (s .images)) past, in-use);
-      })
-      ∙ rw anew-held (rows-of s e)
+      with-rows-formed s (s .counts .rows) (take entries (s .images) ++ past) e (r .rows-fit) (omega (arith, length-append (take entries (s .images)) past, in-use))
+      (rw anew-held (rows-of s e))
 
 -- ---- a store and what is held
 
@@ -107,32 +105,47 @@ pub record Sound (s : Store) (held : List (List ℕ)) : Type 0 where
   pub rows : heldRows s ≡ held
   pub symmetries : (row : List ℕ) → List·Memᴰ row held → IsSymmetry row (plainOf s)
 
-sound-call : (s : Store) (held : List (List ℕ)) (call : Call) → Sound s held → Sound (afterCall s call) (heldAfter held s call)
+in-but-last : {A : Type 0} {x : A} (l : List A) → List·Memᴰ x (butLast l) → List·Memᴰ x l
+in-but-last {A = A} {x = x} l m =
+    subst (λ (k : List A). List·Memᴰ x k) (take-append-drop (length l - 1) l) (Memᴰ·append-left (drop (length l - 1) l) m)
+
+sound-call : (s : Store) (held : List (List ℕ)) (call : Call) → Sound s held → Sound (afterCall s call) (heldAfter rowFor held s call)
 sound-call s held (lend past) sound = record {
   formed = anew-formed s past (sound .formed);
   rows = anew-held s past (sound .formed) ∙ sound .rows;
-  symmetries = λ row m. rw (keeps-call s (lend past) .plain) (sound .symmetries row m);
+  symmetries = λ row m. rw (same-plain (keeps-call s (lend past))) (sound .symmetries row m);
 }
-sound-call s held (offer names values) sound = by (offer-cases s names values)
+sound-call s held withdraw sound = by (ending (withdrawSays s))
   where
-    by : Offer s names values → Sound (offerStore s names values) (heldBy (offerSays s names values) held (rowFor s names values))
+    by : Ending (withdrawSays s) → Sound (withdrawStore s) (unlessRefused (withdrawSays s) (butLast held) held)
+    by (turned number place e) = rw (withdrawn-refused s number place e, e) sound
+    by (answered takenBack e) =
+        rw e
+        (record {
+          formed = ap wellFormed (withdrawn-row s e) ∙ without-row-formed s (sound .formed);
+          rows = withdrawn-held s e ∙ ap butLast (sound .rows);
+          symmetries = λ row m. rw (same-plain (keeps-call s withdraw)) (sound .symmetries row (in-but-last held m));
+        })
+sound-call s held (offer names values) sound = by (ending (offerSays s names values))
+  where
+    by : Ending (offerSays s names values) → Sound (offerStore s names values) (unlessRefused (offerSays s names values) (held ++ (rowFor s names values ∷ [])) held)
     by (turned number place e) = rw (store-refused s names values number place e, e) sound
-    by (taken e) =
+    by (answered yes e) =
         rw e
         (record {
           formed = accepted-formed s names values e;
           rows = accepted-held s names values e ∙ ap (λ (rows : List (List ℕ)). rows ++ (rowFor s names values ∷ [])) (sound .rows);
-          symmetries = λ row m. rw (keeps-call s (offer names values) .plain)
+          symmetries = λ row m. rw (same-plain (keeps-call s (offer names values)))
               (⊎-elim
               (λ (q : List·Memᴰ row held). sound .symmetries row q)
               (λ (q : List·Memᴰ row (rowFor s names values ∷ [])). rw (List·Memᴰ·eq-of-singleton q) (accepted-symmetry s names values e))
               (List·Memᴰ·append-cases held m));
         })
 
-pub sound-calls : (s : Store) (held : List (List ℕ)) (calls : List Call) → Sound s held → Sound (after s calls) (acceptedFrom held s calls)
-unfolding after acceptedFrom
+pub sound-calls : (s : Store) (held : List (List ℕ)) (calls : List Call) → Sound s held → Sound (after s calls) (heldFrom rowFor held s calls)
+unfolding after heldFrom
 sound-calls s held [] sound = sound
-sound-calls s held (call ∷ calls) sound = sound-calls (afterCall s call) (heldAfter held s call) calls (sound-call s held call sound)
+sound-calls s held (call ∷ calls) sound = sound-calls (afterCall s call) (heldAfter rowFor held s call) calls (sound-call s held call sound)
 
 -- ---- from a fresh opening
 
@@ -172,10 +185,10 @@ after-opening s text sizes calls said =
     let f = fresh s text sizes said in
     let k = keeps-calls (openStore s text) calls in
     let sound = sound-calls (openStore s text) [] calls (f .sound) in
-    let plain : plainOf (after (openStore s text) calls) ≡ formulaOf text = k .plain ∙ f .plain in
+    let plain : plainOf (after (openStore s text) calls) ≡ formulaOf text = same-plain k ∙ f .plain in
     record {
       formed = sound .formed;
-      opened = k .opened ∙ f .opened;
+      opened = same-open k ∙ f .opened;
       plain = plain;
       rows = sound .rows;
       symmetries = λ row m. rw plain at (sound .symmetries row m);

@@ -17,18 +17,29 @@ use Rattle.lexleader.specs.Store.{variablesOf, clausesOf}
 use Rattle.emit.specs.Emit.{headerOf, lineOf, writtenIf, headerBy, clauseBy}
 use Rattle.opening.specs.Opening.{openedBy}
 use Rattle.opening.specs.declared.Opened.{Opened}
-use Rattle.calls.specs.Calls.{saidOpened, openSays, openStore, headerSays, headerLeaves, clauseSays, clauseLeaves, compareSays, fillSays, fillLeaves, checkSays, descendSays, descendLeaves, efficiencySays}
-use Rattle.demands.specs.Reasons.{Reason, badAssignment, noSuchClause, tooShort, headerReasons, clauseReasons, fillReasons, checkReasons, descendReasons, compareReasons, efficiencyReasons}
+use Rattle.calls.specs.Calls.{takenBack, saidOpened, openSays, openStore, withdrawSays, headerSays, headerLeaves, clauseSays, clauseLeaves, compareSays, fillSays, fillLeaves, checkSays, descendSays, descendLeaves, efficiencySays}
+use Rattle.demands.specs.Reasons.{Reason, badAssignment, noSuchClause, tooShort, withdrawReasons, headerReasons, clauseReasons, fillReasons, checkReasons, descendReasons, compareReasons, efficiencyReasons}
 use Rattle.demands.specs.Demand1.{Unchanged, Demand1}
 use Rattle.demands.proofs.Acceptance.{store-refused}
+use Rattle.demands.proofs.Withdrawal.{withdrawn-refused}
 use Rattle.demands.proofs.OpenRefusals.{open-exact}
 use Rattle.demands.proofs.OfferRefusals.{offer-exact}
-use Rattle.demands.proofs.Refusing.{Exact, same-said, answers, held, missed, where-false, too-short, on-store}
+use Rattle.demands.proofs.Refusing.{Exact, same-said, answers, held, missed, where-true, where-false, too-short, on-store}
 
 -- 12, and what comes after it
 wrong-form : {Values : Type 0} {said : Said Values} {reasons : List Reason} (n : ℕ) (a : List ℕ) → Exact reasons said
     → Exact (badAssignment n a ∷ reasons) (cond (isAssignment n a) said (refused 12 0))
 wrong-form n a rest = where-false (isAssignment n a) (λ bad. (bad, rw bad)) (λ good. (λ bad. never (sym bad ∙ good), same-said (rw good) rest))
+
+-- ---- withdraw
+
+withdraw-exact : (s : Store) → Exact (withdrawReasons s) (withdrawSays s)
+unfolding withdrawSays
+withdraw-exact s =
+    on-store s
+    (where-true (eqb (s .counts .rows) 0)
+    (λ none. (eqb-true (s .counts .rows) 0 none, rw none))
+    (λ some. (eqb-false (s .counts .rows) 0 some, answers {v = takenBack} (rw some))))
 
 -- ---- header and clause
 
@@ -116,6 +127,8 @@ demand-1 = record {
   open-leaves = open-leaves;
   offer-refuses = λ s names values. offer-exact s names values .iff;
   offer-leaves = store-refused;
+  withdraw-refuses = λ s. withdraw-exact s .iff;
+  withdraw-leaves = withdrawn-refused;
   header-refuses = λ s room. header-exact s room .iff;
   header-leaves = λ s out number place e. rw e;
   clause-refuses = λ s q room. clause-exact s q room .iff;

@@ -1,4 +1,5 @@
 pub mod Acceptance
+pub mod Withdrawal
 pub mod AfterCalls
 pub mod Checks
 pub mod Demand2

@@ -9,9 +9,9 @@ use Prim.Native.Nat.{ℕ}
 use lib.ListN.{length}
 use Rattle.store.specs.Refusals.{Said, refused}
 use Rattle.store.specs.Stores.{Store}
-use Rattle.calls.specs.Calls.{openSays, openStore, offerSays, offerStore, headerSays, headerLeaves, clauseSays, clauseLeaves}
+use Rattle.calls.specs.Calls.{openSays, openStore, offerSays, offerStore, withdrawSays, withdrawStore, headerSays, headerLeaves, clauseSays, clauseLeaves}
 use Rattle.calls.specs.Calls.{compareSays, fillSays, fillLeaves, checkSays, descendSays, descendLeaves, efficiencySays}
-use Rattle.demands.specs.Reasons.{Reason, comesFirst, openReasons, offerReasons, headerReasons, clauseReasons}
+use Rattle.demands.specs.Reasons.{Reason, comesFirst, openReasons, offerReasons, withdrawReasons, headerReasons, clauseReasons}
 use Rattle.demands.specs.Reasons.{fillReasons, checkReasons, descendReasons, compareReasons, efficiencyReasons}
 
 -- "one numbered refusal exactly where its documented reason holds and comes first"
@@ -27,7 +27,9 @@ pub record Demand1 : Type 0 where
   pub open-leaves : (s : Store) (text : List ℕ) → Unchanged (openSays s text) s (openStore s text)
   pub offer-refuses : (s : Store) (names values : List ℕ) → RefusesBy (offerReasons s names values) (offerSays s names values)
   pub offer-leaves : (s : Store) (names values : List ℕ) → Unchanged (offerSays s names values) s (offerStore s names values)
-  -- no other call writes the store; a buffer is lent to these
+  pub withdraw-refuses : (s : Store) → RefusesBy (withdrawReasons s) (withdrawSays s)
+  pub withdraw-leaves : (s : Store) → Unchanged (withdrawSays s) s (withdrawStore s)
+  -- no other call changes the store; a buffer is lent to these
   pub header-refuses : (s : Store) (room : ℕ) → RefusesBy (headerReasons s room) (headerSays s room)
   pub header-leaves : (s : Store) (out : List ℕ) → Unchanged (headerSays s (length out)) out (headerLeaves s out)
   pub clause-refuses : (s : Store) (q room : ℕ) → RefusesBy (clauseReasons s q room) (clauseSays s q room)

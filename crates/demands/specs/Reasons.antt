@@ -1,4 +1,4 @@
--- Document 01's reasons to refuse ("Turned back by what was lent", "Turned back by the store"): first each sentence by its number, with the place that it names, then
+-- The documented reasons to refuse (document 01, "Turned back by what was lent", "Turned back by the store"; document 02): first each sentence by its number, with the place that it names, then
 -- for each call the list of its reasons in the order in which they count. They have the names of `Refusal`'s cases. `demand-1` (proofs/Demand1.antt) says that a call
 -- refuses exactly where a reason of its list holds and comes first. Assumes nothing.
 use mathlib.Core.Path.{_≡_}
@@ -180,7 +180,7 @@ abbrev pub noFigure : ℕ → ℕ → ℕ → Reason
 noFigure labelled unlabelled allowed =
     reason 14 (((unlabelled ≤ allowed) × (allowed ≤ labelled) → ⊥) ⊎ ((labelled ≡ unlabelled) ⊎ (maxLabelled < labelled))) 0
 
--- ---- what the store is: 20 to 23
+-- ---- what the store is: 20 to 23, 30
 
 -- "20. Not open."
 abbrev pub notOpen : Store → Reason
@@ -197,6 +197,10 @@ rowsFull s = reason 22 (s .counts .rows ≡ maxRows) 0
 -- "23. An output slice too short (place: the length needed)"
 abbrev pub tooShort : ℕ → ℕ → Reason
 tooShort needed room = reason 23 (room < needed) needed
+
+-- "Withdrawing from a store that holds no row is refused with 30, place 0, after 21." (document 02, CR 3)
+abbrev pub noRow : Store → Reason
+noRow s = reason 30 (s .counts .rows ≡ 0) 0
 
 -- ---- open: "the first fault from the left counts, and at one word the lower number, but 6 goes before 3, 4 and 5"; 23 "tried last; opening tries literals before ends"
 
@@ -236,6 +240,9 @@ offerReasons s names values =
     ∷ noSymmetry (rowFor s names values) (plainOf s)
     ∷ tooShort (imagesNeeded s) (length (s .images))
     ∷ [])
+
+abbrev pub withdrawReasons : Store → List Reason
+withdrawReasons s = onStoreReasons s (noRow s ∷ [])
 
 abbrev pub headerReasons : Store → ℕ → List Reason
 headerReasons s room = onStoreReasons s (tooShort (length (headerOf s)) room ∷ [])

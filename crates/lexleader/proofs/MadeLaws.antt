@@ -1,7 +1,7 @@
--- The clauses of the made formula by number, from 0: the first m are the plain ones, cut by the ends, and the others those that the rows add. Assumes nothing.
+-- The clauses of the made formula by number, from 0: the first m are the plain ones, cut by the ends, and the others those that the rows add; and what one row more adds. Assumes nothing.
 use mathlib.Core.Path.{_≡_, sym, ap, _∙_}
 use mathlib.Core.Bool.{true}
-use mathlib.Core.List.{List, [], _++_}
+use mathlib.Core.List.{List, [], _∷_, _++_, append-nil, append-assoc}
 use Prim.Native.Nat.{ℕ, _+_, _-_, _≤_, _<_}
 use native.Mathlib.Omega.{arith}
 use lib.ListN.{length, getD, take, length-append, List·getD-append}
@@ -9,7 +9,7 @@ use lib.Seq.{length-take-le, getD-append-add}
 use Rattle.store.specs.Stores.{Store, clauseAt, plainOf, heldRows, wellFormed}
 use Rattle.store.proofs.Cuts.{length-cut, clause-is}
 use Rattle.store.proofs.Demands.{rest-of}
-use Rattle.lexleader.specs.Made.{rowsClauses, made}
+use Rattle.lexleader.specs.Made.{rowClauses, auxiliaries, rowsClauses, allAuxiliaries, made, madeVariables}
 use Rattle.lexleader.specs.Store.{madeOf, variablesOf, clausesOf}
 use Rattle.lexleader.specs.Counted.{Counted}
 use Rattle.lexleader.specs.declared.counting.Totals.{Totals}
@@ -57,3 +57,30 @@ counted-variables s c = c .variables
 pub counted-clauses : (s : Store) → wellFormed s ≡ true → {r : Totals} → Counted (s .counts) (s .images) r → r .clauses ≡ clausesOf s
 unfolding heldRows
 counted-clauses s formed c = c .clauses ∙ sym (clauses-are s formed)
+
+-- ---- a row more behind the others
+
+clauses-newest : (e : ℕ) (rows : List (List ℕ)) (row : List ℕ) → rowsClauses e (rows ++ (row ∷ [])) ≡ rowsClauses e rows ++ rowClauses (e + allAuxiliaries rows) row
+unfolding rowsClauses allAuxiliaries
+clauses-newest e [] row = let same : e ≡ e + 0 = omega arith in append-nil (rowClauses e row) ∙ ap (λ (k : ℕ). rowClauses k row) same
+clauses-newest e (r ∷ rows) row =
+    let on : e + auxiliaries r + allAuxiliaries rows ≡ e + (auxiliaries r + allAuxiliaries rows) = omega arith in
+    ap (λ (l : List (List ℕ)). rowClauses e r ++ l) (clauses-newest (e + auxiliaries r) rows row ∙ ap (λ (k : ℕ). rowsClauses (e + auxiliaries r) rows ++ rowClauses k row) on)
+    ∙ sym (append-assoc (rowClauses e r) (rowsClauses (e + auxiliaries r) rows) (rowClauses (e + (auxiliaries r + allAuxiliaries rows)) row))
+
+auxiliaries-newest : (rows : List (List ℕ)) (row : List ℕ) → allAuxiliaries (rows ++ (row ∷ [])) ≡ allAuxiliaries rows + auxiliaries row
+unfolding allAuxiliaries
+auxiliaries-newest [] row = omega arith
+auxiliaries-newest (r ∷ rows) row = omega (arith, auxiliaries-newest rows row)
+
+module _ (n : ℕ) where
+  pub made-newest : (formula rows : List (List ℕ)) (row : List ℕ) → made n formula (rows ++ (row ∷ [])) ≡ made n formula rows ++ rowClauses (madeVariables n rows + 1) row
+  unfolding made madeVariables
+  made-newest formula rows row =
+      let on : n + 1 + allAuxiliaries rows ≡ n + allAuxiliaries rows + 1 = omega arith in
+      ap (λ (l : List (List ℕ)). formula ++ l) (clauses-newest (n + 1) rows row ∙ ap (λ (k : ℕ). rowsClauses (n + 1) rows ++ rowClauses k row) on)
+      ∙ sym (append-assoc formula (rowsClauses (n + 1) rows) (rowClauses (n + allAuxiliaries rows + 1) row))
+
+  pub variables-newest : (rows : List (List ℕ)) (row : List ℕ) → madeVariables n (rows ++ (row ∷ [])) ≡ madeVariables n rows + auxiliaries row
+  unfolding madeVariables
+  variables-newest rows row = omega (arith, auxiliaries-newest rows row)

@@ -1,0 +1,58 @@
+-- Document 02, CR 3, sentence by sentence: what a withdrawal drops, and what is held after a list with withdrawals. `drops` and `takes-back`
+-- (proofs/TakingBack.antt) say that both hold. Assumes nothing.
+use mathlib.Core.Path.{_≡_}
+use mathlib.Core.Bool.{Bool, true, false}
+use mathlib.Core.List.{List, [], _∷_, _++_}
+use Prim.Native.Nat.{ℕ, _+_, _*_, _≤_}
+use lib.ListN.{length}
+use Rattle.lists.specs.Tests.{allOf}
+use Rattle.store.specs.Refusals.{done}
+use Rattle.store.specs.Stores.{Store, heldRows, withoutRow}
+use Rattle.lexleader.specs.Made.{rowClauses, auxiliaries}
+use Rattle.lexleader.specs.Store.{madeOf, variablesOf}
+use Rattle.calls.specs.Calls.{accepted, takenBack, openStore, offerSays, withdrawSays, withdrawStore}
+use Rattle.demands.specs.Lists.{Call, offer, withdraw, lend, lentAnew, afterCall, after, offersLeft}
+
+-- "Add a call that drops the newest row, with its clauses and auxiliaries."
+pub record Drops (s : Store) : Type 0 where
+  pub newest : List ℕ
+  pub rows : heldRows s ≡ heldRows (withdrawStore s) ++ (newest ∷ [])
+  pub clauses : madeOf s ≡ madeOf (withdrawStore s) ++ rowClauses (variablesOf (withdrawStore s) + 1) newest
+  pub numbers : variablesOf s ≡ variablesOf (withdrawStore s) + auxiliaries newest
+  -- only the count falls: it "leaves entries past those then in use unchanged", and all others
+  pub leaves : withdrawStore s ≡ withoutRow s
+
+-- no call of a list is refused
+abbrev pub Answers : Store → Call → Type 0
+Answers s (offer names values) = offerSays s names values ≡ done accepted
+Answers s withdraw = withdrawSays s ≡ done takenBack
+Answers s (lend past) = Unit {0}
+
+unfoldable pub NoneRefused : Store → List Call → Type 0
+NoneRefused s [] = Unit {0}
+NoneRefused s (call ∷ calls) = Answers s call × NoneRefused (afterCall s call) calls
+
+-- an offer or a withdrawal: no other images slice is lent
+abbrev pub lendsNone : Call → Bool
+lendsNone (offer names values) = true
+lendsNone withdraw = true
+lendsNone (lend past) = false
+
+module _ (s : Store) (text : List ℕ) (calls : List Call) where
+  abbrev pub opened : Store
+  opened = openStore s text
+
+  abbrev pub left : Store
+  left = after opened calls
+
+  -- a store that gets "only the accepted offers not taken back": it accepts each, and its "record and rows in use are those" after the list
+  pub record GetsOnly (t : Store) : Type 0 where
+    pub none-refused : NoneRefused t (offersLeft opened calls)
+    pub counts : after t (offersLeft opened calls) .counts ≡ left .counts
+    pub rows : heldRows (after t (offersLeft opened calls)) ≡ heldRows left
+
+  pub record TakesBack : Type 0 where
+    -- "After every list of offers and withdrawals from a fresh opening": the store as it was opened
+    pub itself : allOf lendsNone calls ≡ true → GetsOnly opened
+    -- after every list, another images slice in between included: the same with any images slice that has room for the rows left
+    pub anew : (images : List ℕ) → left .counts .rows * left .counts .variables ≤ length images → GetsOnly (lentAnew opened images)

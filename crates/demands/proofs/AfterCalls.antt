@@ -48,15 +48,15 @@ pub keeps-self : (s : Store) → Keeps s s
 keeps-self s = record { but-rows = refl }
 
 -- a call answers or is refused
-data Ending {Values : Type 0} (said : Said Values) : Type 0 where
+pub data Ending {Values : Type 0} (said : Said Values) : Type 0 where
   answered : (v : Values) → said ≡ done v → Ending said
   turned : (number place : ℕ) → said ≡ refused number place → Ending said
 
-ending : {Values : Type 0} (said : Said Values) → Ending said
+pub ending : {Values : Type 0} (said : Said Values) → Ending said
 ending (done v) = answered v refl
 ending (refused number place) = turned number place refl
 
-keeps-call : (s : Store) (call : Call) → Keeps s (afterCall s call)
+pub keeps-call : (s : Store) (call : Call) → Keeps s (afterCall s call)
 unfolding lentAnew
 keeps-call s (lend past) = record { but-rows = refl }
 keeps-call s withdraw = by (ending (withdrawSays s))
@@ -109,7 +109,7 @@ in-but-last : {A : Type 0} {x : A} (l : List A) → List·Memᴰ x (butLast l) �
 in-but-last {A = A} {x = x} l m =
     subst (λ (k : List A). List·Memᴰ x k) (take-append-drop (length l - 1) l) (Memᴰ·append-left (drop (length l - 1) l) m)
 
-sound-call : (s : Store) (held : List (List ℕ)) (call : Call) → Sound s held → Sound (afterCall s call) (heldAfter rowFor held s call)
+pub sound-call : (s : Store) (held : List (List ℕ)) (call : Call) → Sound s held → Sound (afterCall s call) (heldAfter rowFor held s call)
 sound-call s held (lend past) sound = record {
   formed = anew-formed s past (sound .formed);
   rows = anew-held s past (sound .formed) ∙ sound .rows;
@@ -150,12 +150,12 @@ sound-calls s held (call ∷ calls) sound = sound-calls (afterCall s call) (held
 -- ---- from a fresh opening
 
 -- what an opening that answers leaves: a well-formed open store of the text's formula, without rows
-record Fresh (s : Store) (text : List ℕ) : Type 0 where
-  sound : Sound (openStore s text) []
-  opened : openStore s text .counts .is_open ≡ true
-  plain : plainOf (openStore s text) ≡ formulaOf text
+pub record Fresh (s : Store) (text : List ℕ) : Type 0 where
+  pub sound : Sound (openStore s text) []
+  pub opened : openStore s text .counts .is_open ≡ true
+  pub plain : plainOf (openStore s text) ≡ formulaOf text
 
-fresh : (s : Store) (text : List ℕ) (sizes : Dimensions) → openSays s text ≡ done sizes → Fresh s text
+pub fresh : (s : Store) (text : List ℕ) (sizes : Dimensions) → openSays s text ≡ done sizes → Fresh s text
 unfolding openSays openStore heldRows rowsOf
 fresh s text sizes said = by (openedBy text (length (s .literals)) (length (s .ends))) refl said
   where

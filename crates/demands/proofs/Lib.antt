@@ -1,6 +1,7 @@
 pub mod Acceptance
 pub mod Withdrawal
 pub mod AfterCalls
+pub mod TakingBack
 pub mod Checks
 pub mod Demand2
 pub mod Demand3

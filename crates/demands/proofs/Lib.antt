@@ -12,3 +12,4 @@ pub mod OfferRefusals
 pub mod OpenRefusals
 pub mod Demand1
 pub mod Starred
+pub mod Examples

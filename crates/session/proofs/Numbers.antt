@@ -9,8 +9,7 @@ use native.Mathlib.Nat.{mul-le-mul-right}
 use native.Mathlib.Omega.{arith}
 use borrow.Author.Tests.{eqb-false, leb-false}
 use lib.Arith.{lt-of-le-ne}
-use lib.ListN.{length, take, length-append, length-drop}
-use lib.Seq.{length-take-le}
+use lib.ListN.{length, take}
 use lib.Dec.{eqb, leb, ltb}
 use Rattle.lists.proofs.Cases.{lt-or-le}
 use Rattle.dimacs.specs.Words.{Piece, wordsAt}
@@ -19,10 +18,11 @@ use Rattle.dimacs.specs.Numbers.{numeralOf}
 use Rattle.store.specs.Literals.{variableOf}
 use Rattle.store.specs.Numerals.{isNumeral, codeIn}
 use Rattle.store.specs.Refusals.{Said, done, refused, numberOf}
-use Rattle.store.specs.Stores.{Store, wellFormed, standingOf, plainOf, maxVariables, maxClauses, maxLiterals, maxRows, withRow}
+use Rattle.store.specs.Stores.{Store, wellFormed, standingOf, plainOf, maxVariables, maxClauses, maxLiterals, maxRows}
 use Rattle.store.specs.declared.form.Standing.{Standing}
 use Rattle.store.specs.declared.refusal.Refusal.{Refusal}
 use Rattle.store.proofs.Demands.{rest-of}
+use Rattle.store.proofs.RowChanges.{with-row-images}
 use Rattle.store.proofs.StandingLaws.{ready-of}
 use Rattle.comments.specs.Comments.{afterComments}
 use Rattle.opening.specs.Problem.{withinLimits, problemIn, problemOf, sizesOf}
@@ -273,11 +273,6 @@ record StoreStands (s : Store) : Type 0 where
   formed : wellFormed s ≡ true
   long : maxRows * maxVariables ≤ length (s .images)
 
-images-kept : (s : Store) (row : List ℕ) → length row ≡ s .counts .variables → imagesNeeded s ≤ length (s .images)
-    → length (withRow s row .images) ≡ length (s .images)
-images-kept s row size room =
-    simp (length-append, length-drop) (omega (arith, length-take-le (s .counts .rows * s .counts .variables) (s .images) (omega (arith, room))))
-
 offer-stands : (s : Store) (names values : List ℕ) → StoreStands s → offerSays s names values ≡ done accepted → StoreStands (offerStore s names values)
 offer-stands s names values h said =
     let is = store-accepted s names values said in
@@ -285,7 +280,7 @@ offer-stands s names values h said =
     record {
       opened = ap (λ (t : Store). t .counts .is_open) is ∙ h .opened;
       formed = accepted-formed s names values said;
-      long = rw (is, images-kept s row (row-length (s .counts .variables) names values) (accepts-of s names values said .room)) (h .long);
+      long = rw (is, with-row-images s row (row-length (s .counts .variables) names values) (accepts-of s names values said .room)) (h .long);
     }
 
 open-stands : (s : Store) → Ample s → (text : List ℕ) (sizes : Dimensions) → openSays s text ≡ done sizes → StoreStands (openStore s text)

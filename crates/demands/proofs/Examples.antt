@@ -1,0 +1,88 @@
+-- A wrong mark taken back, by computation on what the calls say and leave: the auxiliary numbers of the row withdrawn are used again. Assumes nothing.
+use mathlib.Core.Path.{_≡_, refl}
+use mathlib.Core.List.{List, [], _∷_}
+use Prim.Native.Nat.{ℕ}
+use lib.ListN.{replicate}
+use Rattle.lists.specs.Tests.{anyOf, allOf, distinct}
+use Rattle.lists.specs.Tables.{table}
+use Rattle.dimacs.specs.Words.{isBlank, run, wordsFrom}
+use Rattle.dimacs.specs.Lines.{linesFrom}
+use Rattle.dimacs.specs.Numbers.{isDigit, decimalFrom, digitsOf, sizeOf, numeralOf}
+use Rattle.store.specs.Literals.{isLiteral}
+use Rattle.store.specs.Numerals.{codeIn}
+use Rattle.store.specs.Refusals.{Said, done, refused}
+use Rattle.store.specs.Stores.{Store, lent, closedRecord, rising, literalCount, rowsOf, cut, plainOf, heldRows, isImage, isRow, demands, wellFormed, standingOf}
+use Rattle.comments.specs.Comments.{afterComments, wordsIn}
+use Rattle.opening.specs.Problem.{sameBytes, fourWords, sizesOf, problemIn, problemOf}
+use Rattle.opening.specs.Clauses.{scanFrom, literalsIn, endsFrom}
+use Rattle.opening.specs.Opening.{bodyOf, openedBy}
+use Rattle.permutation.specs.Lines.{notNumber, badNameAfter, badName, badValueAfter, namesOn, valuesOn}
+use Rattle.permutation.specs.Stated.{statedBy, imageAmong, rowStated}
+use Rattle.symmetry.specs.Sets.{within, sameSet}
+use Rattle.symmetry.specs.Symmetry.{imageOf, clauseImage, hasImage, missingFrom}
+use Rattle.offering.specs.Offering.{ifRoom, ifSymmetry, offeredBy}
+use Rattle.lexleader.specs.Rows.{pairsFrom, pairsOf}
+use Rattle.lexleader.specs.Made.{laterClauses, pairClauses, rowClauses, rowsClauses, made, auxiliaries, allAuxiliaries, madeVariables}
+use Rattle.lexleader.specs.Store.{madeOf, variablesOf}
+use Rattle.calls.specs.Calls.{TakenBack, takenBack, openStore, offerSays, offerStore, withdrawSays, withdrawStore}
+use Rattle.demands.specs.Lists.{Call, offer, withdraw, after}
+
+-- the formula `1 2 3 0`, opened
+abbrev opened : Store
+opened =
+    openStore (lent closedRecord (replicate 3 0) (replicate 1 0) (replicate 4 0))
+    (112 ∷ 32 ∷ 99 ∷ 110 ∷ 102 ∷ 32 ∷ 51 ∷ 32 ∷ 49 ∷ 10 ∷ 49 ∷ 32 ∷ 50 ∷ 32 ∷ 51 ∷ 32 ∷ 48 ∷ 10 ∷ [])
+
+-- `1 2 3`/`2 3 1`, which has the auxiliaries 4 and 5 where it is the first row, and `1 3`/`3 1`, which then has 4
+abbrev turning : Call
+turning = offer (49 ∷ 32 ∷ 50 ∷ 32 ∷ 51 ∷ []) (50 ∷ 32 ∷ 51 ∷ 32 ∷ 49 ∷ [])
+
+abbrev exchange : Call
+exchange = offer (49 ∷ 32 ∷ 51 ∷ []) (51 ∷ 32 ∷ 49 ∷ [])
+
+-- what a case comes to: what a withdrawal says, the rows held with the images lent and N, or the made formula
+data Case : Type 0 where
+  withdrawing : Said TakenBack → Case
+  holding : List (List ℕ) → List ℕ → ℕ → Case
+  making : List (List ℕ) → Case
+
+abbrev saying : Store → Case
+saying s = withdrawing (withdrawSays s)
+
+abbrev held : Store → Case
+held s = holding (heldRows s) (s .images) (variablesOf s)
+
+-- With no row a withdrawal is 30. The turning row is held, and N is 5; taken back, its entries stay and N is 3; a second withdrawal is refused and changes
+-- nothing. The exchange, offered then, has the auxiliary 4 of the row taken back: its clauses are those of the table with 8 for it and 9 for its negation.
+corrected :
+    saying opened
+    ∷ held (after opened (turning ∷ []))
+    ∷ saying (after opened (turning ∷ []))
+    ∷ held (after opened (turning ∷ withdraw ∷ []))
+    ∷ saying (after opened (turning ∷ withdraw ∷ []))
+    ∷ held (after opened (turning ∷ withdraw ∷ withdraw ∷ exchange ∷ []))
+    ∷ making (madeOf (after opened (turning ∷ withdraw ∷ withdraw ∷ exchange ∷ [])))
+    ∷ []
+    ≡ withdrawing (refused 30 0)
+    ∷ holding ((4 ∷ 6 ∷ 2 ∷ []) ∷ []) (4 ∷ 6 ∷ 2 ∷ 0 ∷ []) 5
+    ∷ withdrawing (done takenBack)
+    ∷ holding [] (4 ∷ 6 ∷ 2 ∷ 0 ∷ []) 3
+    ∷ withdrawing (refused 30 0)
+    ∷ holding ((6 ∷ 4 ∷ 2 ∷ []) ∷ []) (6 ∷ 4 ∷ 2 ∷ 0 ∷ []) 4
+    ∷ making
+    ((2 ∷ 4 ∷ 6 ∷ [])
+    ∷ (3 ∷ 6 ∷ [])
+    ∷ (9 ∷ 3 ∷ 6 ∷ [])
+    ∷ (9 ∷ 2 ∷ 7 ∷ [])
+    ∷ (8 ∷ 2 ∷ 6 ∷ [])
+    ∷ (8 ∷ 3 ∷ 7 ∷ [])
+    ∷ (9 ∷ 7 ∷ 2 ∷ [])
+    ∷ [])
+    ∷ []
+unfolding
+    openStore offerSays offerStore withdrawSays withdrawStore after anyOf allOf distinct table isBlank run wordsFrom linesFrom isDigit decimalFrom digitsOf sizeOf numeralOf
+    isLiteral codeIn rising literalCount rowsOf cut plainOf heldRows isImage isRow demands wellFormed standingOf afterComments wordsIn sameBytes fourWords sizesOf problemIn
+    problemOf scanFrom literalsIn endsFrom bodyOf openedBy notNumber badNameAfter badName badValueAfter namesOn valuesOn statedBy imageAmong rowStated within sameSet
+    imageOf clauseImage hasImage missingFrom ifRoom ifSymmetry offeredBy pairsFrom pairsOf laterClauses pairClauses rowClauses rowsClauses made auxiliaries allAuxiliaries
+    madeVariables madeOf variablesOf
+corrected = refl

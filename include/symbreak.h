@@ -31,7 +31,7 @@ extern "C" {
 #define SYMBREAK_MAX_STACK 20480
 
 /* Refusals, each with its place. Those of a text or a line have the offset in bytes, from 0, of the word that offends, unless the comment says which
- * other place; 11 and 23 have a number, as said there; the place of 12, 13, 14, 20, 21 and 22 is always 0. */
+ * other place; 11 and 23 have a number, as said there; the place of 12, 13, 14, 20, 21, 22 and 30 is always 0. */
 enum symbreak_refusal {
     SYMBREAK_NO_REFUSAL = 0,
     SYMBREAK_NO_PROBLEM_LINE = 1,   /* text: no problem line `p cnf n m` (place: the first line that is no comment, or the text's length) */
@@ -51,7 +51,8 @@ enum symbreak_refusal {
     SYMBREAK_NOT_OPEN = 20,         /* the store is not open */
     SYMBREAK_BADLY_FORMED = 21,     /* the store is badly formed */
     SYMBREAK_ROWS_FULL = 22,        /* an offer with 64 rows held */
-    SYMBREAK_TOO_SHORT = 23         /* a slice that is to be written is too short (place: the length needed, in elements) */
+    SYMBREAK_TOO_SHORT = 23,        /* a slice that is to be written is too short (place: the length needed, in elements) */
+    SYMBREAK_NO_ROW = 30            /* a withdrawal where no row is held */
 };
 
 /* The record of a store: is_open is 0 for closed, and anything else for open. */
@@ -112,6 +113,12 @@ symbreak_stored symbreak_open(uint64_t variables, uint64_t clauses, uint64_t row
 symbreak_stored symbreak_offer(uint64_t variables, uint64_t clauses, uint64_t rows, uint64_t is_open, const uint16_t *literals, size_t literals_len,
                                const uint16_t *ends, size_t ends_len, uint16_t *images, size_t images_len, const uint8_t *names, size_t names_len,
                                const uint8_t *values, size_t values_len);
+
+/* Takes back the newest row: that of the offer accepted last, of those not taken back before. Its clauses and auxiliaries are gone with it, and the next row
+ * gets its auxiliaries' numbers. Only the count of rows in the record falls: no slice is written, and the row's entries are then past those in use.
+ * Refusals 20, 21, 30, in this order. */
+symbreak_stored symbreak_withdraw(uint64_t variables, uint64_t clauses, uint64_t rows, uint64_t is_open, const uint16_t *literals, size_t literals_len,
+                                  const uint16_t *ends, size_t ends_len, const uint16_t *images, size_t images_len);
 
 /* The made formula: the plain clauses, then those of each row. Header and clauses are written one line at a time, each with its line feed; the value is
  * the line's length in bytes, and bytes past it stay. N and M are the two numbers of the header. A line of L literals has at most 7 * L + 2 bytes, and a

@@ -27,6 +27,13 @@ class Agree(unittest.TestCase):
         self.assertEqual((answer, *host.parts()), (expected, told(record), before[1], before[2], images), (before, names, values))
         return answer
 
+    def withdraw(self, host):
+        before = host.parts()
+        expected, record = reference.withdraw(*before)
+        answer = host.withdraw()
+        self.assertEqual((answer, *host.parts()), (expected, told(record), *before[1:]), before)
+        return answer
+
     def header(self, host, out):
         before = host.parts()
         answer, written = host.header(out)

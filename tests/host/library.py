@@ -35,6 +35,7 @@ EXPORTS = {
     "symbreak_new_record": (Record, []),
     "symbreak_open": (Stored, NUMBER * 4 + SLICE * 3),
     "symbreak_offer": (Stored, NUMBER * 4 + SLICE * 5),
+    "symbreak_withdraw": (Stored, NUMBER * 4 + SLICE * 3),
     "symbreak_header": (Answer, NUMBER * 4 + SLICE * 4),
     "symbreak_clause": (Answer, NUMBER * 4 + SLICE * 3 + NUMBER + SLICE),
     "symbreak_fill_in": (Answer, NUMBER * 4 + SLICE * 5),
@@ -205,6 +206,9 @@ class Host:
         answer = call(self.library.symbreak_offer, *self._store(self.images), *map(whole, lent), written=[self.images])
         assert [bytes(line) for line in lent] == [names, values]
         return self._told(answer, lambda record: ("done",))
+
+    def withdraw(self):
+        return self._told(call(self.library.symbreak_withdraw, *self._store()), lambda record: ("done",))
 
     def _written(self, function, out, *before_out):
         lent = memory.lend(ctypes.c_uint8, out)

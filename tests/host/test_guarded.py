@@ -68,6 +68,7 @@ SIZES = [0, 1, 2, 2, 3, 3, 4, 4, 5, 5, 6, 9, 20, 63, 64, 65]
 WANTED = [
     *(("open", refusal) for refusal in (None, 1, 2, 3, 4, 6, 23)),
     *(("offer", refusal) for refusal in (None, 7, 8, 9, 10, 11, 20, 21, 22, 23)),
+    *(("withdraw", refusal) for refusal in (None, 20, 21, 30)),
     *(("header", refusal) for refusal in (None, 20, 21, 23)),
     *(("clause", refusal) for refusal in (None, 13, 20, 21, 23)),
     *(("fill in", refusal) for refusal in (None, 12, 20, 21, 23)),
@@ -118,9 +119,10 @@ class Random(Agree):
         yield "descend", self.descend(host, test_models.at_times_misfit(chance, n, a), limit)[0]
 
     def changes(self, chance, host, n, clauses, rows):
-        """An offer, then an opening; the answers."""
+        """An offer, a withdrawal, then an opening; the answers."""
         lines = generate.offers(chance, n, [chance.choice(rows + [generate.permutation(chance, n)])])
         yield "offer", self.offer(host, *(generate.damaged(chance, line) if chance.random() < 0.15 else line for line in lines))
+        yield "withdraw", self.withdraw(host)
         text = generate.text(chance, n, clauses)
         record = host.record._replace(variables=chance.choice(generate.EDGES), open=chance.choice([0, 1, TOP]))
         host.put(record, entries(chance, about(chance, sum(map(len, clauses)))), entries(chance, about(chance, len(clauses))), [])
@@ -156,6 +158,10 @@ class Stores(test_host.Stores):
     test_random = None
 
 
+class Withdrawals(test_host.Withdrawals):
+    test_lists = test_damaged = None
+
+
 class Compare(test_host.Compare):
     test_random = None
 
@@ -164,7 +170,7 @@ def load_tests(loader, *_):
     """The guards, then all cases at the end of a page and again at the start of one."""
     suite = loader.loadTestsFromTestCase(Guards)
     for name, memory in [("AtEnd", END), ("AtStart", START)]:
-        for case in [Random, Stores, Compare, test_models.Worked, test_models.Refusals]:
+        for case in [Random, Stores, Withdrawals, Compare, test_models.Worked, test_models.Refusals]:
             placed = type(case.__name__ + name, (case,), {"setUp": lambda self, memory=memory: setattr(library, "memory", memory)})
             suite.addTests(loader.loadTestsFromTestCase(placed))
     return suite

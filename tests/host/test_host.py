@@ -1,6 +1,8 @@
 """The exports against the reference: fixed seeds, ordinary and damaged input. Run by tests/run."""
+import itertools
 import random
 import unittest
+from collections import Counter
 
 import generate
 import library
@@ -103,6 +105,107 @@ class Stores(Agree):
     def count(self, answers, answer):
         number = answer[1] if answer[0] == "refused" else None
         answers[number] = answers.get(number, 0) + 1
+
+
+class Withdrawals(Agree):
+    """CR 3: the newest row taken back."""
+
+    def test_cases(self):
+        """20, then 21, then 30. The row's entries stay, and the next row is written over them with the same auxiliary."""
+        host = fresh(images=4)
+        self.assertEqual(self.withdraw(host), ("refused", 20, 0))
+        self.open(host, b"p cnf 3 1\n1 2 3 0\n")
+        self.assertEqual(self.withdraw(host), ("refused", 30, 0))
+        self.assertEqual(self.offer(host, b"1 2 3", b"2 3 1"), ("done",))
+        self.assertEqual(host.header(bytes(12))[1], b"p cnf 5 13\n\0")
+        self.assertEqual(self.offer(host, b"1 3", b"3 1"), ("refused", 23, 6))
+        self.assertEqual(self.withdraw(host), ("done",))
+        self.assertEqual((host.record.rows, host.images[:]), (0, [4, 6, 2, 7]))
+        self.assertEqual(self.withdraw(host), ("refused", 30, 0))
+        self.assertEqual(self.offer(host, b"1 3", b"3 1"), ("done",))
+        self.assertEqual((host.record.rows, host.images[:]), (1, [6, 4, 2, 7]))
+        self.assertEqual((host.header(bytes(12))[1], host.clause(7, bytes(12))[1]), (b"p cnf 4 7\n\0\0", b"-4 -3 1 0\n\0\0"))
+
+    def test_order(self):
+        """20 before 21 before 30, with every choice of reasons."""
+        for closed, damaged, empty in itertools.product([False, True], repeat=3):
+            record = reference.Record(3, 2, 0 if empty else 1, not closed)
+            host = library.Host(LIBRARY, record, [2, 4, 4, 8 if damaged else 6], [2, 4], [6, 4, 2])
+            expected = 20 if closed else 21 if damaged else 30 if empty else None
+            self.assertEqual(self.withdraw(host), ("refused", expected, 0) if expected else ("done",))
+
+    def test_full(self):
+        """After 64 rows, a withdrawal makes room for one; a damaged newest row is 21, and so it stays."""
+        host = fresh(images=2 * 64)
+        self.open(host, b"p cnf 2 1\n1 2 0\n")
+        for _ in range(64):
+            self.offer(host, b"1 2", b"2 1")
+        self.assertEqual(self.offer(host, b"1 2", b"1 2"), ("refused", 22, 0))
+        self.assertEqual(self.withdraw(host), ("done",))
+        self.assertEqual(self.offer(host, b"1 2", b"1 2"), ("done",))
+        self.assertEqual(host.images[126:], [2, 4])
+        host.images[127] = 2
+        self.assertEqual(self.withdraw(host), ("refused", 21, 0))
+        host.images[127] = 4
+        for left in reversed(range(64)):
+            self.assertEqual((self.withdraw(host), host.record.rows), (("done",), left))
+        self.assertEqual(self.withdraw(host), ("refused", 30, 0))
+
+    def listed(self, chance, host, n, rows, seen):
+        """A list of offers and withdrawals, each compared with the reference; the offers accepted and not taken back."""
+        left = []
+        for _ in range(chance.randint(1, 12)):
+            if chance.random() < 0.4:
+                answer = self.withdraw(host)
+                if answer == ("done",):
+                    left.pop()
+            else:
+                lines = generate.offers(chance, n, [chance.choice(rows)])
+                lines = [generate.damaged(chance, line) if chance.random() < 0.1 else line for line in lines]
+                answer = self.offer(host, *lines)
+                if answer == ("done",):
+                    left.append(lines)
+            seen[answer[1] if answer[0] == "refused" else "done"] += 1
+        return left
+
+    def test_lists(self):
+        """After a list of offers and withdrawals, record, rows in use and text are those of a store that got only the offers accepted and not taken back."""
+        chance = random.Random(6)
+        seen = Counter()
+        for _ in range(600):
+            n = chance.choice([0, 1, 2, 3, 4, 6])
+            clauses, rows = generate.cycles(chance, n, 12)
+            text = generate.text(chance, n, clauses)
+            host = fresh(images=chance.choice([n * 20, n * 20, chance.randrange(n * 4 + 1)]))
+            if self.open(host, text)[0] == "refused":
+                continue
+            left = self.listed(chance, host, n, rows + [generate.permutation(chance, n)], seen)
+            other = fresh(images=len(host.images), entry=8)
+            other.open(text)
+            for lines in left:
+                self.assertEqual(other.offer(*lines), ("done",))
+            used = host.record.rows * n
+            self.assertEqual((other.record, other.images[:used]), (host.record, host.images[:used]))
+            self.assertEqual(reference.made_text(*other.parts()), reference.made_text(*host.parts()))
+            seen["left", min(len(left), 2)] += 1
+        for sort in ["done", 11, 23, 30, ("left", 0), ("left", 1), ("left", 2)]:
+            self.assertGreater(seen[sort], 20, sort)
+
+    def test_damaged(self):
+        """Lists on stores that are damaged between two calls."""
+        chance = random.Random(7)
+        seen = Counter()
+        for _ in range(600):
+            n = chance.choice([1, 2, 3, 4, 6])
+            clauses, rows = generate.cycles(chance, n, 12)
+            host = fresh(images=n * 20)
+            self.open(host, generate.text(chance, n, clauses))
+            self.listed(chance, host, n, rows, Counter())
+            host.put(*generate.damaged_store(chance, *host.parts()))
+            for answer in [self.withdraw(host), self.offer(host, *generate.offers(chance, n, [chance.choice(rows)])), self.withdraw(host)]:
+                seen[answer[1] if answer[0] == "refused" else "done"] += 1
+        for sort in ["done", 20, 21, 30]:
+            self.assertGreater(seen[sort], 20, sort)
 
 
 COMMENTS = [

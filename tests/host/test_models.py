@@ -309,7 +309,7 @@ def numbered(number, n):
 
 
 class Demand3(unittest.TestCase):
-    """Demand 3 over all assignments, by the library's calls alone, after lists of offers with refused ones among them."""
+    """Demand 3 over all assignments, by the library's calls alone, after lists of offers and withdrawals with refused ones among them."""
 
     def descents(self, host, rows, digits, seen):
         """A descent at every limit goes as moving by hand does; where it settles."""
@@ -365,20 +365,27 @@ class Demand3(unittest.TestCase):
     def test_lists(self):
         chance = random.Random(11)
         seen = Counter()
-        for _ in range(300):
+        for _ in range(400):
             n = chance.choice([0, 1, 2, 3, 3, 4, 4, 5, 5, 6, 7])
             clauses, rows = generate.family(chance, n, (generate.cycles, generate.powers, generate.columns))
             host = opened(b"p cnf %d %d\n" % (n, len(clauses)) + b"".join(map(reference.clause_line, clauses)), 400, 120, 80)
             offers = chance.choices(rows, k=chance.randint(1, 4)) + [generate.permutation(chance, n)]
             chance.shuffle(offers)
             accepted, refused = offer_all(chance, host, n, offers, 10)
+            taken_back = chance.choice([0, 0, 1, 2, 3])
+            for _ in range(taken_back):
+                self.assertEqual(host.withdraw(), ("done",) if accepted else ("refused", 30, 0))
+                seen["taken back", accepted != []] += 1
+                accepted = accepted[:-1]
+            if taken_back and last_number(host) <= 10:
+                accepted += offer_all(chance, host, n, [chance.choice(rows)])[0]
             before = host.parts()
             self.whole(host, n, clauses, accepted, seen)
             self.assertEqual(host.parts(), before)
             seen["rows", min(len(accepted), 2), refused > 0] += 1
         for sort, least in [(("satisfiable", True), 200), (("satisfiable", False), 20), ("kept", 2000), ("dropped", 1000), ("spent", 2000),
                             ("false added", 2000), (("moves", 0), 1000), (("moves", 1), 1000), (("moves", 2), 300), (("moves", 3), 100),
-                            (("rows", 1, True), 20), (("rows", 2, True), 80)]:
+                            (("rows", 1, True), 20), (("rows", 2, True), 80), (("taken back", True), 100), (("taken back", False), 20)]:
             self.assertGreater(seen[sort], least, sort)
 
 

@@ -265,6 +265,15 @@ def offer(record, literals, ends, images, names: bytes, values: bytes):
     return ("done",), record._replace(rows=held + 1), overwritten(images, codes, held * n)
 
 
+@call("record")
+def withdraw(record, literals, ends, images):
+    """CR 3: "a call that drops the newest row"; "from a store that holds no row is refused with 30, place 0, after 21"."""
+    require_store(record, literals, ends, images)
+    if record.rows == 0:
+        raise Refusal(30, 0)
+    return ("done",), record._replace(rows=record.rows - 1)
+
+
 def moved_variables(row: Row) -> List[int]:
     """"An accepted row has moved variables x1 < .. < xk"."""
     return [i for i in sorted(row) if row[i] != i]

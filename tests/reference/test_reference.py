@@ -1,4 +1,4 @@
-"""Tests of the reference: the worked cases of 01, the examples of the readings A-H, demand 3 by brute force."""
+"""Tests of the reference: the worked cases of 01, the examples of the readings A-I, demand 3 by brute force."""
 import copy
 import itertools
 import random
@@ -24,6 +24,10 @@ class Host:
 
     def offer(self, names, values):
         answer, self.record, self.images = call(ref.offer, *self.store, names, values, written=(0, 3))
+        return answer
+
+    def withdraw(self):
+        answer, self.record = call(ref.withdraw, *self.store, written=(0,))
         return answer
 
     def with_rows(self, *rows):
@@ -121,6 +125,26 @@ class WorkedCases(unittest.TestCase):
         made = (b"p cnf 4 8\n1 2 0\n2 3 0\n-1 3 0\n-4 -1 3 0\n-4 1 -3 0\n4 1 3 0\n4 -1 -3 0\n-4 -3 1 0\n")
         self.assertEqual(ref.program(LISTING + b"%\n1 3\n3 1\n"), made)
         self.assertEqual(ref.program(LISTING + b"%\n1 3\n3 1"), made)
+
+
+class Withdrawing(unittest.TestCase):
+    """CR 3 and readings I1 to I4."""
+
+    def test_withdraw(self):
+        host = Host(b"p cnf 3 1\n1 2 3 0\n")
+        self.assertEqual(host.withdraw(), ("refused", 30, 0))
+        self.assertEqual((host.offer(b"1 2 3", b"2 3 1"), host.offer(b"1 3", b"3 1")), (("done",), ("done",)))
+        images = list(host.images)
+        self.assertEqual(ref.made_counts(host.record, host.images), (6, 1 + 6 * 3))
+        self.assertEqual((host.withdraw(), host.record.rows, host.images), (("done",), 1, images))
+        self.assertEqual(ref.made_counts(host.record, host.images), (5, 1 + 6 * 2))
+        self.assertEqual((host.withdraw(), host.withdraw(), host.images), (("done",), ("refused", 30, 0), images))
+        self.assertEqual(host.offer(b"1 3", b"3 1"), ("done",))
+        self.assertEqual(ref.made_text(host.record, host.literals, host.ends, host.images).splitlines()[-1], b"-4 -3 1 0")
+        host.record = host.record._replace(rows=0, variables=2)
+        self.assertEqual(host.withdraw(), ("refused", 21, 0))
+        host.record = host.record._replace(open=False)
+        self.assertEqual(host.withdraw(), ("refused", 20, 0))
 
 
 class OpeningReadings(unittest.TestCase):

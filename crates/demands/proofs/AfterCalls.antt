@@ -9,7 +9,7 @@ use Prim.Native.Nat.{ℕ, _-_, _*_}
 use native.Mathlib.Omega.{arith}
 use lib.ListN.{length, take, drop, length-append, take-append-drop}
 use lib.Seq.{length-take-le}
-use Rattle.store.specs.Refusals.{Said, done, refused, unlessRefused}
+use Rattle.store.specs.Refusals.{Said, done, refused}
 use Rattle.store.specs.Stores.{Store, withRows, wellFormed, plainOf, rowsOf, heldRows}
 use Rattle.store.proofs.RowLaws.{rows-append, rows-take}
 use Rattle.store.proofs.Demands.{rest-of, rows-of}
@@ -117,7 +117,7 @@ sound-call s held (lend past) sound = record {
 }
 sound-call s held withdraw sound = by (ending (withdrawSays s))
   where
-    by : Ending (withdrawSays s) → Sound (withdrawStore s) (unlessRefused (withdrawSays s) (butLast held) held)
+    by : Ending (withdrawSays s) → Sound (withdrawStore s) (heldAfter rowFor held s withdraw)
     by (turned number place e) = rw (withdrawn-refused s number place e, e) sound
     by (answered takenBack e) =
         rw e
@@ -128,7 +128,7 @@ sound-call s held withdraw sound = by (ending (withdrawSays s))
         })
 sound-call s held (offer names values) sound = by (ending (offerSays s names values))
   where
-    by : Ending (offerSays s names values) → Sound (offerStore s names values) (unlessRefused (offerSays s names values) (held ++ (rowFor s names values ∷ [])) held)
+    by : Ending (offerSays s names values) → Sound (offerStore s names values) (heldAfter rowFor held s (offer names values))
     by (turned number place e) = rw (store-refused s names values number place e, e) sound
     by (answered yes e) =
         rw e

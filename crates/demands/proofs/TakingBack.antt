@@ -9,7 +9,7 @@ use lib.ListN.{length, take, length-append}
 use lib.Seq.{take-append-seam}
 use Rattle.lists.specs.Tests.{allOf}
 use Rattle.lists.proofs.Cases.{never, and-l, and-r}
-use Rattle.store.specs.Refusals.{done, unlessRefused}
+use Rattle.store.specs.Refusals.{done}
 use Rattle.store.specs.Stores.{Store, plainOf, heldRows, wellFormed, maxRows, withRows}
 use Rattle.store.proofs.Demands.{rest-of}
 use Rattle.store.proofs.RowChanges.{held-count, with-row-images}
@@ -65,13 +65,12 @@ held-call : (o s : Store) (rows : List (List ℕ)) (offers : List Call) → Keep
 held-call o s rows offers k h (lend past) = h
 held-call o s rows offers k h withdraw = by (ending (withdrawSays s))
   where
-    by : Ending (withdrawSays s) → Held o (unlessRefused (withdrawSays s) (butLast rows) rows) (unlessRefused (withdrawSays s) (butLast offers) offers)
+    by : Ending (withdrawSays s) → Held o (heldAfter rowFor rows s withdraw) (heldAfter asOffer offers s withdraw)
     by (turned number place e) = rw e h
     by (answered v e) = rw e (held-but-last o rows offers h)
 held-call o s rows offers k h (offer names values) = by (ending (offerSays s names values))
   where
-    by : Ending (offerSays s names values)
-        → Held o (unlessRefused (offerSays s names values) (rows ++ (rowFor s names values ∷ [])) rows) (unlessRefused (offerSays s names values) (offers ++ (offer names values ∷ [])) offers)
+    by : Ending (offerSays s names values) → Held o (heldAfter rowFor rows s (offer names values)) (heldAfter asOffer offers s (offer names values))
     by (turned number place e) = rw e h
     by (answered yes e) =
         let a = accepts-of s names values e in

@@ -17,6 +17,7 @@ enum { MAX_N = SYMBREAK_MAX_VARIABLES, MAX_L = SYMBREAK_MAX_LITERALS, MAX_ROWS =
 typedef struct {
     __typeof__(symbreak_open) *open;
     __typeof__(symbreak_offer) *offer;
+    __typeof__(symbreak_withdraw) *withdraw;
     __typeof__(symbreak_header) *header;
     __typeof__(symbreak_clause) *clause;
     __typeof__(symbreak_fill_in) *fill_in;
@@ -27,7 +28,8 @@ typedef struct {
 
 #define CALLS(prefix, noting) \
     { \
-        prefix##_open, prefix##_offer, prefix##_header, prefix##_clause, prefix##_fill_in, prefix##_check, prefix##_descend, noting, prefix##_compare \
+        prefix##_open, prefix##_offer, prefix##_withdraw, prefix##_header, prefix##_clause, prefix##_fill_in, prefix##_check, prefix##_descend, noting, \
+            prefix##_compare \
     }
 static const calls library = CALLS(symbreak, symbreak_descend), plain = CALLS(plain, plain_descend_noting);
 
@@ -60,6 +62,8 @@ static void say_descent(symbreak_descent x) { say((uint64_t[6]){x.refusal, x.pla
 
 static void open(const calls *c) { say_stored(c->open(0, 0, 0, 0, text, text_len, SLICE(w.literals), SLICE(w.ends))); }
 static void offer(const calls *c) { say_stored(c->offer(STORE, names, names_len, values, values_len)); }
+
+static void withdraw(const calls *c) { say_stored(c->withdraw(STORE)); }
 
 /* One line behind the other. */
 static void write(const calls *c)
@@ -276,6 +280,7 @@ static const job jobs[] = {
     {"offer accepted, the same formula, row 64", to_offer, offer, 512, 4096, 64, 0, 64},
     {"offer refused at clause 4,096", to_refuse_last, offer, 512, 4096, 64, SYMBREAK_NO_SYMMETRY, 4096},
     {"offer refused at clause 1", to_refuse_first, offer, 512, 4096, 64, SYMBREAK_NO_SYMMETRY, 1},
+    {"withdraw, the same formula, 64 full rows", to_write, withdraw, 512, 4096, 64, 0, 63},
     {"header and every 500th clause of 200,320, 64 full rows", to_write, write, 512, 4096, 64, 0, 25},
     {"header and 3,066 clauses, 1 full row, no plain clauses", to_write, write, 512, 0, 1, 0, 15},
     {"one clause of 12,288 literals, no rows", to_write_long, clause, 512, 1, 0, 0, 52701},

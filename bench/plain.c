@@ -1,5 +1,5 @@
-/* The calls of include/symbreak.h in plain C, as a C programmer would write them: document 01 says what they do, and nothing here is proved. Like the library
-   they keep nothing between calls and allocate nothing; what they need beside the lent slices is on the stack, at most 64 KB. */
+/* The calls of include/symbreak.h in plain C, as a C programmer would write them: documents 01 and 02 say what they do, and nothing here is proved. Like the
+   library they keep nothing between calls and allocate nothing; what they need beside the lent slices is on the stack, at most 64 KB. */
 #include "plain.h"
 
 #include <string.h>
@@ -261,6 +261,15 @@ symbreak_stored plain_offer(RECORD, FORMULA, uint16_t *images, size_t images_len
     uint32_t refusal = fault(LENT, moved);
     if (refusal) REFUSE(refusal, 0);
     return plain_offer_untested(LENT, names, names_len, values, values_len);
+}
+
+symbreak_stored plain_withdraw(RECORD, FORMULA, IMAGES)
+{
+    uint16_t moved[MAX_ROWS];
+    uint32_t refusal = fault(LENT, moved);
+    if (refusal) REFUSE(refusal, 0);
+    if (rows == 0) REFUSE(SYMBREAK_NO_ROW, 0);
+    return (symbreak_stored){0, 0, n, m, rows - 1, 1};
 }
 
 /* Writing. A line is made in an array of the call's own and copied once its length is known. */

@@ -6,6 +6,7 @@
 
 __typeof__(symbreak_open) plain_open;
 __typeof__(symbreak_offer) plain_offer;
+__typeof__(symbreak_withdraw) plain_withdraw;
 __typeof__(symbreak_header) plain_header;
 __typeof__(symbreak_clause) plain_clause;
 __typeof__(symbreak_fill_in) plain_fill_in;

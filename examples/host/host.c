@@ -1,5 +1,6 @@
 /* host FORMULA PERMUTATIONS [OUT]: a formula's whole life in libsymbreak, from its text to the layout that is built.
- * FORMULA is DIMACS CNF; PERMUTATIONS is a line of names, then a line of values for each permutation. The made formula goes to OUT, or to a temporary file. */
+ * FORMULA is DIMACS CNF; PERMUTATIONS is a line of names, then a line of values for each permutation, or `-` to take the newest one held back. The made formula
+ * goes to OUT, or to a temporary file. */
 #include <stdlib.h>
 
 #include "refusals.h"
@@ -33,20 +34,27 @@ static void open_formula(text formula)
     printf("formula: %" PRIu64 " variables, %" PRIu64 " clauses\n", record.variables, record.clauses);
 }
 
-/* A refused offer costs only itself: whichever rows are held, the made formula has a model exactly when the plain one has. */
-static void offer_lines(text rest)
+/* A refused call costs only itself: whichever rows are held, the made formula has a model exactly when the plain one has. */
+static void take_marks(text rest)
 {
     text names, values;
-    uint64_t offered = 0;
-    char call[40];
+    uint64_t offered = 0, withdrawn = 0;
+    char call[60];
     if (cut_line(&rest, &names))
         while (cut_line(&rest, &values)) {
-            symbreak_stored stored = symbreak_offer(STORE, names.bytes, names.length, values.bytes, values.length);
-            snprintf(call, sizeof call, "permutation %" PRIu64, ++offered);
+            symbreak_stored stored;
+            if (values.length == 1 && values.bytes[0] == '-') { /* a wrong mark */
+                stored = symbreak_withdraw(STORE);
+                withdrawn += stored.refusal == SYMBREAK_NO_REFUSAL;
+                snprintf(call, sizeof call, "withdrawal after permutation %" PRIu64, offered);
+            } else {
+                stored = symbreak_offer(STORE, names.bytes, names.length, values.bytes, values.length);
+                snprintf(call, sizeof call, "permutation %" PRIu64, ++offered);
+            }
             refused(call, stored.refusal, stored.place);
             record = record_of(stored);
         }
-    printf("permutations: %" PRIu64 " offered, %" PRIu64 " held\n", offered, record.rows);
+    printf("permutations: %" PRIu64 " offered, %" PRIu64 " withdrawn, %" PRIu64 " held\n", offered, withdrawn, record.rows);
 }
 
 /* Writes the made formula and gives N, the count of its variables. */
@@ -97,7 +105,7 @@ int main(int argc, char **argv)
     if (argc != 3 && argc != 4)
         fail("usage:", "host FORMULA PERMUTATIONS [OUT]");
     open_formula(read_file(argv[1]));
-    offer_lines(read_file(argv[2]));
+    take_marks(read_file(argv[2]));
     const char *made = argc == 4 ? argv[3] : temporary();
     uint64_t variables = write_made(made);
     if (!solve(made, a, variables)) {

@@ -28,6 +28,7 @@ static const struct {
     [SYMBREAK_BADLY_FORMED] = {"the store is badly formed", NULL},
     [SYMBREAK_ROWS_FULL] = {"the store holds as many permutations as it can", NULL},
     [SYMBREAK_TOO_SHORT] = {"a lent slice is too short", "length needed"},
+    [SYMBREAK_NO_ROW] = {"the store holds no permutation to take back", NULL},
 };
 
 /* Whether a call was refused, and if so says why in words. */

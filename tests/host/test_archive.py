@@ -1,5 +1,6 @@
 """What the archive asks of a host beside its slices: a C or C++ compiler for its header, stack, at most SYMBREAK_MAX_STACK bytes, and memcpy and memset. The
-stack is added up from the frames in the machine code, and measured with each export at the limits (stack.c). Run by tests/run; -v prints the figures."""
+stack is added up from the frames in the machine code, and measured with each export at the limits (stack.c). And the example of a host. Run by tests/run;
+-v prints the figures."""
 import os
 import re
 import subprocess
@@ -60,6 +61,25 @@ class Header(unittest.TestCase):
                 warnings = ["-Wall", "-Wextra", "-Werror"] + (["-pedantic"] if suffix == "c" else [])
                 subprocess.run([compiler, "-std=" + standard, *warnings, "-I" + INCLUDE, "-o", program, source, library.archive()], check=True)
                 subprocess.run([program], check=True)
+
+
+class Example(unittest.TestCase):
+    """examples/host, built as its Makefile does and without a solver in reach."""
+
+    def test_taken_back(self):
+        """Its README's wrong mark: the lines printed are those shown there."""
+        folder = os.path.join(library.ROOT, "examples", "host")
+        with open(os.path.join(folder, "README.md")) as readme:
+            lines, shown = (re.sub("^    ", "", block, flags=re.M) for block in re.search(r"the lines are\n\n(.*?)\n\n.*?\n\n(.*?)\n\n", readme.read(), re.S).groups())
+        with tempfile.TemporaryDirectory() as made:
+            host, formula, marks, out = (os.path.join(made, name) for name in ("host", "formula", "marks", "out"))
+            sources = [os.path.join(folder, name) for name in ("host.c", "system.c")]
+            subprocess.run(["gcc", "-std=c11", "-O2", "-Wall", "-Wextra", "-Werror", "-I" + INCLUDE, "-o", host, *sources, library.archive()], check=True)
+            for path, content in (formula, "p cnf 3 1\n1 2 3 0\n"), (marks, lines + "\n"):
+                with open(path, "w") as file:
+                    file.write(content)
+            ran = subprocess.run([host, formula, marks, out], env={"PATH": "/nonexistent"}, capture_output=True, text=True)
+            self.assertEqual(ran.stdout.splitlines()[:3], shown.splitlines(), ran)
 
 
 class Stack(unittest.TestCase):

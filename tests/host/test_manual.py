@@ -90,6 +90,7 @@ class Manual(unittest.TestCase):
             "`symbreak_open` with literals_len = 3": lambda: store(LISTING, literals=3)[1],
             "`symbreak_offer` with images_len = 2, no row held": lambda: store(LISTING, images=2)[0].offer(b"1 3", b"3 1"),
             "names `1 3`, values `3 1`, the 65th time": lambda: [host.offer(b"1 3", b"3 1") for _ in range(64)][-1],
+            "`symbreak_withdraw`, the second time": lambda: [host.withdraw() for _ in range(2)][-1],
         }
         if example in special:
             return special[example]()[1:]
@@ -117,7 +118,7 @@ class Manual(unittest.TestCase):
                 with self.subTest(each):
                     self.assertEqual(self.refusal(example), (int(number), int(place)))
                 tried.add(int(number))
-        self.assertEqual(tried, set(range(1, 16)) | set(range(20, 24)))
+        self.assertEqual(tried, set(range(1, 16)) | set(range(20, 24)) | {30})
 
     def test_moving(self):
         table = rows(section("Moving an assignment"))

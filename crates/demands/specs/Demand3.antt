@@ -19,7 +19,7 @@ use Rattle.descent.specs.Words.{settledAfter}
 use Rattle.calls.specs.Calls.{openStore, fillSays, fillLeaves, checkSays, descendSays, descendLeaves}
 use Rattle.demands.specs.Lists.{Call, after, accepted}
 
--- n, F and ps: the variables and the clauses of the text, and the permutations that the offers not refused state on their lines; and the store after the list
+-- n, F and ps: the variables and the clauses of the text, and the accepted permutations of the list, those left at its end; and the store after the list
 module _ (s : Store) (text : List ℕ) (calls : List Call) where
   abbrev pub variables : ℕ
   variables = openStore s text .counts .variables

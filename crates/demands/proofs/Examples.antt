@@ -22,7 +22,7 @@ use Rattle.symmetry.specs.Sets.{within, sameSet}
 use Rattle.symmetry.specs.Symmetry.{imageOf, clauseImage, hasImage, missingFrom}
 use Rattle.offering.specs.Offering.{ifRoom, ifSymmetry, offeredBy}
 use Rattle.lexleader.specs.Rows.{pairsFrom, pairsOf}
-use Rattle.lexleader.specs.Made.{laterClauses, pairClauses, rowClauses, rowsClauses, made, auxiliaries, allAuxiliaries, madeVariables}
+use Rattle.lexleader.specs.Made.{firstSix, laterClauses, pairClauses, rowClauses, rowsClauses, made, auxiliaries, allAuxiliaries, madeVariables}
 use Rattle.lexleader.specs.Store.{madeOf, variablesOf}
 use Rattle.calls.specs.Calls.{TakenBack, takenBack, openStore, offerSays, offerStore, withdrawSays, withdrawStore}
 use Rattle.demands.specs.Lists.{Call, offer, withdraw, after}
@@ -53,7 +53,7 @@ abbrev held : Store → Case
 held s = holding (heldRows s) (s .images) (variablesOf s)
 
 -- With no row a withdrawal is 30. The turning row is held, and N is 5; taken back, its entries stay and N is 3; a second withdrawal is refused and changes
--- nothing. The exchange, offered then, has the auxiliary 4 of the row taken back: its clauses are those of the table with 8 for it and 9 for its negation.
+-- nothing. The exchange, offered then, has the auxiliary 4 of the row taken back: its clauses are the table's first six, for 4 and the pairs 1, 3 and 3, 1.
 corrected :
     saying opened
     ∷ held (after opened (turning ∷ []))
@@ -69,15 +69,7 @@ corrected :
     ∷ holding [] (4 ∷ 6 ∷ 2 ∷ 0 ∷ []) 3
     ∷ withdrawing (refused 30 0)
     ∷ holding ((6 ∷ 4 ∷ 2 ∷ []) ∷ []) (6 ∷ 4 ∷ 2 ∷ 0 ∷ []) 4
-    ∷ making
-    ((2 ∷ 4 ∷ 6 ∷ [])
-    ∷ (3 ∷ 6 ∷ [])
-    ∷ (9 ∷ 3 ∷ 6 ∷ [])
-    ∷ (9 ∷ 2 ∷ 7 ∷ [])
-    ∷ (8 ∷ 2 ∷ 6 ∷ [])
-    ∷ (8 ∷ 3 ∷ 7 ∷ [])
-    ∷ (9 ∷ 7 ∷ 2 ∷ [])
-    ∷ [])
+    ∷ making ((2 ∷ 4 ∷ 6 ∷ []) ∷ firstSix 4 (record { x = 2; y = 6 }) (record { x = 6; y = 2 }))
     ∷ []
 unfolding
     openStore offerSays offerStore withdrawSays withdrawStore after anyOf allOf distinct table isBlank run wordsFrom linesFrom isDigit decimalFrom digitsOf sizeOf numeralOf

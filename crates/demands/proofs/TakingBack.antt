@@ -21,10 +21,10 @@ use Rattle.offering.specs.Offering.{rowFor}
 use Rattle.calls.specs.Calls.{accepted as yes, Dimensions, openSays, openStore, offerSays, offerStore, takenBack, withdrawSays, withdrawStore}
 use Rattle.demands.specs.Lists.{Call, offer, withdraw, lend, lentAnew, afterCall, after, butLast, heldAfter, heldFrom, offersLeft}
 use Rattle.demands.specs.TakingBack.{Answers, NoneRefused, lendsNone, GetsOnly, TakesBack}
-use Rattle.demands.proofs.Acceptance.{Accepts, accepts-of, accepts-said, store-refused, store-accepted, accepted-held, accepted-formed}
+use Rattle.demands.proofs.Acceptance.{accepts-of, accepts-said, store-refused, store-accepted, accepted-held, accepted-formed}
 use Rattle.demands.proofs.Withdrawal.{withdrawn-refused, withdrawn-row}
 use Rattle.demands.proofs.AfterCalls.{Keeps, same-plain, same-variables, same-open, keeps-self, keeps-trans, keeps-call, keeps-calls}
-use Rattle.demands.proofs.AfterCalls.{Ending, ending, answered, turned, Sound, sound-call, sound-calls, Fresh, fresh}
+use Rattle.demands.proofs.AfterCalls.{Ending, ending, answered, turned, Sound, sound-call, sound-calls, fresh}
 
 -- ---- what an offer's acceptance takes from the lines and the formula alone
 

@@ -1,6 +1,6 @@
--- The documented reasons to refuse (document 01, "Turned back by what was lent", "Turned back by the store"; document 02): first each sentence by its number, with the place that it names, then
--- for each call the list of its reasons in the order in which they count. They have the names of `Refusal`'s cases. `demand-1` (proofs/Demand1.antt) says that a call
--- refuses exactly where a reason of its list holds and comes first. Assumes nothing.
+-- The documented reasons to refuse (document 01, "Turned back by what was lent", "Turned back by the store"; document 02): first each sentence by its number, with the
+-- place that it names, then for each call the list of its reasons in the order in which they count. They have the names of `Refusal`'s cases. `demand-1`
+-- (proofs/Demand1.antt) says that a call refuses exactly where a reason of its list holds and comes first. Assumes nothing.
 use mathlib.Core.Path.{_≡_}
 use mathlib.Core.Bool.{Bool, true, false, cond, not}
 use mathlib.Core.List.{List, [], _∷_, _++_, List·Memᴰ}

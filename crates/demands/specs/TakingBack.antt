@@ -1,5 +1,6 @@
--- Document 02, CR 3, sentence by sentence: what a withdrawal drops, and what is held after a list with withdrawals. `drops` and `takes-back`
--- (proofs/TakingBack.antt) say that both hold. Assumes nothing.
+-- Document 02, CR 3, sentence by sentence: what a withdrawal drops, and what is held after a list with withdrawals. `drops` (proofs/Withdrawal.antt) says that
+-- `Drops` holds of every store from which a withdrawal is not refused, and `takes-back` (proofs/TakingBack.antt) that `TakesBack` holds of every lent store and
+-- text for which opening answers, and every list of calls. Assumes nothing.
 use mathlib.Core.Path.{_≡_}
 use mathlib.Core.Bool.{Bool, true, false}
 use mathlib.Core.List.{List, [], _∷_, _++_}

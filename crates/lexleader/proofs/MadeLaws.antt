@@ -1,4 +1,5 @@
--- The clauses of the made formula by number, from 0: the first m are the plain ones, cut by the ends, and the others those that the rows add; and what one row more adds. Assumes nothing.
+-- The clauses of the made formula by number, from 0: the first m are the plain ones, cut by the ends, and the others those that the rows add; and what one row more
+-- adds. Assumes nothing.
 use mathlib.Core.Path.{_≡_, sym, ap, _∙_}
 use mathlib.Core.Bool.{true}
 use mathlib.Core.List.{List, [], _∷_, _++_, append-nil, append-assoc}

@@ -1,6 +1,5 @@
 -- What the exports of calls that change the store owe to the calls: the parts of the store, and what C is told. Assumes nothing.
 use mathlib.Core.Path.{_≡_, ap}
-use Prim.Native.Nat.{ℕ}
 use Rattle.store.specs.Refusals.{Said, done, numberOf, placeOf, saidRefused}
 use Rattle.store.specs.Stores.{Store}
 use Rattle.store.specs.declared.record.Record.{Record}
@@ -25,6 +24,6 @@ images-of e = ap (λ (s : Store). s .images) e
 pub told-done : {Values : Type 0} (said : Said Values) (v : Values) (r counts : Record) (c : CStored) → c ≡ cStoredAt 0 0 r → done v ≡ said → r ≡ counts → c ≡ cStored said counts
 told-done said v r counts c e q k = rw (← q, ← k) e
 
-pub told-refused : {Values : Type 0} (said : Said Values) (refusal : Refusal) (number place : ℕ) (r counts : Record) (c : CStored)
-    → c ≡ cStoredAt number place r → number ≡ numberOf refusal → place ≡ placeOf refusal → saidRefused refusal ≡ said → r ≡ counts → c ≡ cStored said counts
-told-refused said refusal number place r counts c e n p q k = rw (← q, ← k, ← n, ← p) e
+pub told-refused : {Values : Type 0} (said : Said Values) (refusal : Refusal) (r counts : Record) (c : CStored)
+    → c ≡ cStoredAt (numberOf refusal) (placeOf refusal) r → saidRefused refusal ≡ said → r ≡ counts → c ≡ cStored said counts
+told-refused said refusal r counts c e q k = rw (← q, ← k) e

@@ -13,7 +13,7 @@ ghost use mathlib.Core.Path.{_≡_};
 ghost use mathlib.Core.Bool.{cond};
 ghost use mathlib.Core.List.{[]};
 ghost use lib.ListN.{length};
-ghost use Rattle.store.specs.Refusals.{done, said};
+ghost use Rattle.store.specs.Refusals.{done, numberOf, placeOf, said};
 ghost use Rattle.store.specs.Stores.{lent, stored, closedRecord};
 ghost use Rattle.checking.specs.Checking.{verdictOf};
 ghost use Rattle.descent.specs.Words.{outcomeOf};
@@ -85,7 +85,7 @@ pub extern "C" fn symbreak_open(
     let after = r.counts;
     match answer {
         Opened::Open(_, _) => stored_at(0, 0, after),
-        Opened::Refused(refusal) => stored_at(refusal.number(), refusal.place() as u64, after),
+        Opened::Refused(refusal) => stored_refused(refusal, after),
     }
 }
 
@@ -113,7 +113,7 @@ pub extern "C" fn symbreak_offer(
     let after = r.counts;
     match answer {
         Offered::Accepted => stored_at(0, 0, after),
-        Offered::Refused(refusal) => stored_at(refusal.number(), refusal.place() as u64, after),
+        Offered::Refused(refusal) => stored_refused(refusal, after),
     }
 }
 
@@ -136,7 +136,7 @@ pub extern "C" fn symbreak_withdraw(
     let after = r.counts;
     match answer {
         Withdrawn::TakenBack => stored_at(0, 0, after),
-        Withdrawn::Refused(refusal) => stored_at(refusal.number(), refusal.place() as u64, after),
+        Withdrawn::Refused(refusal) => stored_refused(refusal, after),
     }
 }
 
@@ -345,6 +345,12 @@ fn stored_at(refusal: u32, place: u64, r: Record) -> CStored
         rows: r.rows as u64,
         is_open: flag(r.is_open),
     }
+}
+
+fn stored_refused(refusal: Refusal, r: Record) -> CStored
+    ensures { λ c. ⌜ c ≡ cStoredAt (numberOf refusal) (placeOf refusal) r ⌝ }
+{
+    stored_at(refusal.number(), refusal.place() as u64, r)
 }
 
 fn flag(b: bool) -> u64

@@ -14,15 +14,12 @@ returns c =
 
 returns-2 : tie.Need-returns-2
 returns-2 c =
-    let p = c .before in
-    let n = p .before in
-    let r = n .before .before .answer .given in
-    let o = n .before .before .before .before .before in
+    let r = c .before .before .answer .given in
+    let o = c .before .before .before .before .before in
     let both = rw (o .before .record-of .ensures) at (o .withdraw .ensures) in
-    told-refused _ (r .0 .0) _ _ _ _ _ (c .stored-at2 .ensures) (n .number .ensures) (p .place .ensures) (sym (ap saidWithdrawn (r .1)) ∙ both .0) (counts-of (both .1))
+    told-refused _ (r .0 .0) _ _ _ (c .stored-refused .ensures) (sym (ap saidWithdrawn (r .1)) ∙ both .0) (counts-of (both .1))
 
 pub symbreak-withdraw-spec : {M : Type 1} → statement M
 symbreak-withdraw-spec =
     tie.close
-    (tie.spec (search needs) (search needs) (search needs) (search needs) (search needs) (search needs) (search needs) (search needs)
-    returns returns-2)
+    (tie.spec (search needs) (search needs) (search needs) (search needs) (search needs) (search needs) returns returns-2)

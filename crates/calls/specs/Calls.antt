@@ -27,10 +27,6 @@ use Rattle.calls.specs.declared.Descent.{Descent}
 use Rattle.calls.specs.declared.Finding.{Finding}
 use Rattle.calls.specs.declared.Withdrawn.{Withdrawn}
 
--- a call that answers without a value
-pub data Accepted : Type 0 where
-  accepted : Accepted
-
 -- what a call that needs an open store says: 20 and 21 come first
 abbrev pub onStore : {Values : Type 0} → Standing → Said Values → Said Values
 onStore Standing.Ready said = said
@@ -61,6 +57,10 @@ openStore s text =
 
 -- ---- offer: 20, 21, 22, then 7, 8, 9, 10, 11, 23
 
+-- what an offer that isn't refused says
+pub data Accepted : Type 0 where
+  accepted : Accepted
+
 abbrev pub saidOffered : Offered → Said Accepted
 saidOffered Offered.Accepted = done accepted
 saidOffered (Offered.Refused r) = saidRefused r
@@ -74,7 +74,7 @@ offerStore s names values = unlessRefused (offerSays s names values) (withRow s 
 
 -- ---- withdraw (document 02, CR 3): 20, 21, then 30 where no row is held
 
--- the newest row is taken back
+-- what a withdrawal that isn't refused says
 pub data TakenBack : Type 0 where
   takenBack : TakenBack
 

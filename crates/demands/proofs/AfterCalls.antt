@@ -1,13 +1,13 @@
 -- Lists of calls: after any list from a fresh opening, refused calls included, the rows are exactly the permutations that the accepted offers not taken back
 -- state, in order, repeats included, each a symmetry, and the plain formula is the text's. What carries it: a store and what is held stay sound through every
 -- call. Assumes nothing.
-use mathlib.Core.Path.{_≡_, refl, ap, _∙_, subst}
+use mathlib.Core.Path.{_≡_, refl, ap, _∙_}
 use mathlib.Core.Bool.{true}
-use mathlib.Core.List.{List, [], _∷_, _++_, List·Memᴰ, Memᴰ·append-left, List·Memᴰ·not-nil, List·Memᴰ·append-cases, List·Memᴰ·eq-of-singleton}
+use mathlib.Core.List.{List, [], _∷_, _++_, List·Memᴰ, List·Memᴰ·not-nil, List·Memᴰ·append-cases, List·Memᴰ·eq-of-singleton}
 use mathlib.Core.Logic.{⊎-elim}
-use Prim.Native.Nat.{ℕ, _-_, _*_}
+use Prim.Native.Nat.{ℕ, _*_}
 use native.Mathlib.Omega.{arith}
-use lib.ListN.{length, take, drop, length-append, take-append-drop}
+use lib.ListN.{length, take, length-append}
 use lib.Seq.{length-take-le}
 use Rattle.store.specs.Refusals.{Said, done, refused}
 use Rattle.store.specs.Stores.{Store, withRows, wellFormed, plainOf, rowsOf, heldRows}
@@ -21,6 +21,7 @@ use Rattle.opening.proofs.Theorem.{opened-formed, opened-plain}
 use Rattle.offering.specs.Offering.{rowFor}
 use Rattle.calls.specs.Calls.{accepted as yes, Dimensions, saidOpened, openSays, openStore, offerSays, offerStore, takenBack, withdrawSays, withdrawStore}
 use Rattle.demands.specs.Lists.{Call, offer, withdraw, lend, lentAnew, afterCall, after, butLast, heldAfter, heldFrom, accepted}
+use Rattle.demands.proofs.ButLast.{in-but-last}
 use Rattle.demands.proofs.Acceptance.{store-refused, store-accepted, accepted-symmetry, accepted-held, accepted-formed}
 use Rattle.demands.proofs.Withdrawal.{withdrawn-refused, withdrawn-row, withdrawn-held}
 
@@ -104,10 +105,6 @@ pub record Sound (s : Store) (held : List (List ℕ)) : Type 0 where
   pub formed : wellFormed s ≡ true
   pub rows : heldRows s ≡ held
   pub symmetries : (row : List ℕ) → List·Memᴰ row held → IsSymmetry row (plainOf s)
-
-in-but-last : {A : Type 0} {x : A} (l : List A) → List·Memᴰ x (butLast l) → List·Memᴰ x l
-in-but-last {A = A} {x = x} l m =
-    subst (λ (k : List A). List·Memᴰ x k) (take-append-drop (length l - 1) l) (Memᴰ·append-left (drop (length l - 1) l) m)
 
 pub sound-call : (s : Store) (held : List (List ℕ)) (call : Call) → Sound s held → Sound (afterCall s call) (heldAfter rowFor held s call)
 sound-call s held (lend past) sound = record {

@@ -1,3 +1,4 @@
+pub mod ButLast
 pub mod Acceptance
 pub mod Withdrawal
 pub mod AfterCalls

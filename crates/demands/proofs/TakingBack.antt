@@ -6,7 +6,6 @@ use mathlib.Core.List.{List, [], _∷_, _++_}
 use Prim.Native.Nat.{ℕ, _+_, _-_, _*_, _≤_, _<_}
 use native.Mathlib.Omega.{arith}
 use lib.ListN.{length, take, length-append}
-use lib.Seq.{take-append-seam}
 use Rattle.lists.specs.Tests.{allOf}
 use Rattle.lists.proofs.Cases.{never, and-l, and-r}
 use Rattle.store.specs.Refusals.{done}
@@ -21,6 +20,7 @@ use Rattle.offering.specs.Offering.{rowFor}
 use Rattle.calls.specs.Calls.{accepted as yes, Dimensions, openSays, openStore, offerSays, offerStore, takenBack, withdrawSays, withdrawStore}
 use Rattle.demands.specs.Lists.{Call, offer, withdraw, lend, lentAnew, afterCall, after, butLast, heldAfter, heldFrom, offersLeft}
 use Rattle.demands.specs.TakingBack.{Answers, NoneRefused, lendsNone, GetsOnly, TakesBack}
+use Rattle.demands.proofs.ButLast.{but-last-more}
 use Rattle.demands.proofs.Acceptance.{accepts-of, accepts-said, store-refused, store-accepted, accepted-held, accepted-formed}
 use Rattle.demands.proofs.Withdrawal.{withdrawn-refused, withdrawn-row}
 use Rattle.demands.proofs.AfterCalls.{Keeps, same-plain, same-variables, same-open, keeps-self, keeps-trans, keeps-call, keeps-calls}
@@ -43,11 +43,6 @@ acceptable-alike s t names values e f a = record {
 
 abbrev asOffer : Store → List ℕ → List ℕ → Call
 asOffer s = offer
-
-but-last-more : {A : Type 0} (l : List A) (x : A) → butLast (l ++ (x ∷ [])) ≡ l
-but-last-more l x =
-    let size : length (l ++ (x ∷ [])) - 1 ≡ length l = omega (arith, length-append l (x ∷ [])) in
-    rw size (take-append-seam l (x ∷ []))
 
 -- of a store just opened: each offer held states a symmetry of its formula, and these are the rows held
 data Held (o : Store) : List (List ℕ) → List Call → Type 0 where

@@ -1,13 +1,12 @@
 -- A withdrawal that is not refused: a row is held, the newest, and it is dropped with its clauses and auxiliaries. Assumes nothing.
-use mathlib.Core.Path.{_≡_, refl, sym, ap, _∙_}
+use mathlib.Core.Path.{_≡_, refl, ap, _∙_}
 use mathlib.Core.Bool.{Bool, true, false, cond}
 use mathlib.Core.List.{List, [], _∷_, _++_}
-use Prim.Native.Nat.{ℕ, _+_, _-_, _<_}
+use Prim.Native.Nat.{ℕ, _-_}
 use native.Mathlib.Omega.{arith}
 use borrow.Author.Tests.{eqb-false}
-use lib.ListN.{length, getD, take-append-drop, drop-of-length-le}
+use lib.ListN.{length, getD}
 use lib.Dec.{eqb}
-use Rattle.lists.proofs.Steps.{drop-step}
 use Rattle.store.specs.Refusals.{done, refused}
 use Rattle.store.specs.Stores.{Store, standingOf, plainOf, heldRows, withoutRow}
 use Rattle.store.specs.declared.form.Standing.{Standing}
@@ -18,13 +17,7 @@ use Rattle.lexleader.proofs.MadeLaws.{made-newest, variables-newest}
 use Rattle.calls.specs.Calls.{takenBack, onStore, withdrawSays, withdrawStore}
 use Rattle.demands.specs.Lists.{butLast}
 use Rattle.demands.specs.TakingBack.{Drops}
-
--- a list that is not empty is all but its last, and its last
-last-apart : {A : Type 0} (l : List A) (d : A) → 0 < length l → l ≡ butLast l ++ (getD l (length l - 1) d ∷ [])
-last-apart {A = A} l d h =
-    let end : length l - 1 + 1 ≡ length l = omega arith in
-    sym (take-append-drop (length l - 1) l)
-    ∙ ap (λ (k : List A). butLast l ++ k) (drop-step l (length l - 1) d (omega arith) ∙ ap (λ (k : List A). getD l (length l - 1) d ∷ k) (drop-of-length-le l {i = length l - 1 + 1} (omega arith)))
+use Rattle.demands.proofs.ButLast.{last-apart}
 
 module _ (s : Store) where
   pub withdrawn-refused : (number place : ℕ) → withdrawSays s ≡ refused number place → withdrawStore s ≡ s

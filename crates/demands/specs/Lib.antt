@@ -2,5 +2,5 @@ pub mod Reasons
 pub mod Demand1
 pub mod Demand2
 pub mod Lists
-pub mod TakingBack
 pub mod Demand3
+pub mod TakingBack

@@ -13,6 +13,7 @@ use Rattle.lexleader.specs.Made.{rowClauses, auxiliaries}
 use Rattle.lexleader.specs.Store.{madeOf, variablesOf}
 use Rattle.calls.specs.Calls.{accepted, takenBack, openStore, offerSays, withdrawSays, withdrawStore}
 use Rattle.demands.specs.Lists.{Call, offer, withdraw, lend, lentAnew, afterCall, after, offersLeft}
+use Rattle.demands.specs.Demand3.{left}
 
 -- "Add a call that drops the newest row, with its clauses and auxiliaries."
 pub record Drops (s : Store) : Type 0 where
@@ -40,20 +41,18 @@ lendsNone withdraw = true
 lendsNone (lend past) = false
 
 module _ (s : Store) (text : List ℕ) (calls : List Call) where
-  abbrev pub opened : Store
-  opened = openStore s text
+  -- the shorter list: "only the accepted offers not taken back"
+  abbrev pub offers : List Call
+  offers = offersLeft (openStore s text) calls
 
-  abbrev pub left : Store
-  left = after opened calls
-
-  -- a store that gets "only the accepted offers not taken back": it accepts each, and its "record and rows in use are those" after the list
+  -- a store that gets these accepts each, and its "record and rows in use are those" after the longer list
   pub record GetsOnly (t : Store) : Type 0 where
-    pub none-refused : NoneRefused t (offersLeft opened calls)
-    pub counts : after t (offersLeft opened calls) .counts ≡ left .counts
-    pub rows : heldRows (after t (offersLeft opened calls)) ≡ heldRows left
+    pub none-refused : NoneRefused t offers
+    pub counts : after t offers .counts ≡ left s text calls .counts
+    pub rows : heldRows (after t offers) ≡ heldRows (left s text calls)
 
   pub record TakesBack : Type 0 where
     -- "After every list of offers and withdrawals from a fresh opening": the store as it was opened
-    pub itself : allOf lendsNone calls ≡ true → GetsOnly opened
-    -- after every list, another images slice in between included: the same with any images slice that has room for the rows left
-    pub anew : (images : List ℕ) → left .counts .rows * left .counts .variables ≤ length images → GetsOnly (lentAnew opened images)
+    pub itself : allOf lendsNone calls ≡ true → GetsOnly (openStore s text)
+    -- after every list, other images slices in between included: the same with any images slice that has room for the rows left
+    pub anew : (images : List ℕ) → left s text calls .counts .rows * left s text calls .counts .variables ≤ length images → GetsOnly (lentAnew (openStore s text) images)

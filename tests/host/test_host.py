@@ -152,7 +152,8 @@ class Withdrawals(Agree):
         self.assertEqual(self.withdraw(host), ("refused", 30, 0))
 
     def listed(self, chance, host, n, rows, seen):
-        """A list of offers and withdrawals, each compared with the reference; the offers accepted and not taken back."""
+        """A list of offers and withdrawals, each compared with the reference, at times with a longer images slice after a 23; the offers accepted and not taken
+        back."""
         left = []
         for _ in range(chance.randint(1, 12)):
             if chance.random() < 0.4:
@@ -165,11 +166,15 @@ class Withdrawals(Agree):
                 answer = self.offer(host, *lines)
                 if answer == ("done",):
                     left.append(lines)
+                elif answer[1] == 23 and chance.random() < 0.5:
+                    host.put(*host.parts()[:3], host.images[:] + [7] * chance.randint(1, 3 * n))
+                    seen["lent"] += 1
             seen[answer[1] if answer[0] == "refused" else "done"] += 1
         return left
 
     def test_lists(self):
-        """After a list of offers and withdrawals, record, rows in use and text are those of a store that got only the offers accepted and not taken back."""
+        """After a list of offers and withdrawals, record, rows in use and text are those of a store that got only the offers accepted and not taken back, with
+        room for their rows and no more."""
         chance = random.Random(6)
         seen = Counter()
         for _ in range(600):
@@ -180,7 +185,7 @@ class Withdrawals(Agree):
             if self.open(host, text)[0] == "refused":
                 continue
             left = self.listed(chance, host, n, rows + [generate.permutation(chance, n)], seen)
-            other = fresh(images=len(host.images), entry=8)
+            other = fresh(images=len(left) * n, entry=8)
             other.open(text)
             for lines in left:
                 self.assertEqual(other.offer(*lines), ("done",))
@@ -188,7 +193,7 @@ class Withdrawals(Agree):
             self.assertEqual((other.record, other.images[:used]), (host.record, host.images[:used]))
             self.assertEqual(reference.made_text(*other.parts()), reference.made_text(*host.parts()))
             seen["left", min(len(left), 2)] += 1
-        for sort in ["done", 11, 23, 30, ("left", 0), ("left", 1), ("left", 2)]:
+        for sort in ["done", 11, 23, 30, "lent", ("left", 0), ("left", 1), ("left", 2)]:
             self.assertGreater(seen[sort], 20, sort)
 
     def test_damaged(self):

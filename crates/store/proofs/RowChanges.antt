@@ -60,10 +60,11 @@ without-row-held s = rw (held-count s) (rows-fewer (s .counts .variables) (s .co
 pub without-row-formed : (s : Store) → wellFormed s ≡ true → wellFormed (withoutRow s) ≡ true
 unfolding heldRows
 without-row-formed s e =
+    let n : ℕ = s .counts .variables in
     let r = rest-of s e in
     let fewer : s .counts .rows - 1 ≤ s .counts .rows = omega arith in
-    let kept : ℕ = length (heldRows s) - 1 in
-    with-rows-formed s (s .counts .rows - 1) (s .images) e (omega (arith, r .rows-fit)) (omega (arith, mul-le-mul-right (s .counts .variables) fewer, r .images-long))
-    (rw (without-row-held s)
-    (and-l (allOf (isRow (s .counts .variables)) (take kept (heldRows s))) (allOf (isRow (s .counts .variables)) (drop kept (heldRows s)))
-    (sym (all-append (isRow (s .counts .variables)) (take kept (heldRows s)) (drop kept (heldRows s))) ∙ ap (allOf (isRow (s .counts .variables))) (take-append-drop kept (heldRows s)) ∙ rows-of s e)))
+    let kept : List (List ℕ) = take (length (heldRows s) - 1) (heldRows s) in
+    let dropped : List (List ℕ) = drop (length (heldRows s) - 1) (heldRows s) in
+    let all : allOf (isRow n) (kept ++ dropped) ≡ true = ap (allOf (isRow n)) (take-append-drop (length (heldRows s) - 1) (heldRows s)) ∙ rows-of s e in
+    with-rows-formed s (s .counts .rows - 1) (s .images) e (omega (arith, r .rows-fit)) (omega (arith, mul-le-mul-right n fewer, r .images-long))
+    (rw (without-row-held s) (and-l (allOf (isRow n) kept) (allOf (isRow n) dropped) (sym (all-append (isRow n) kept dropped) ∙ all)))

@@ -1,7 +1,6 @@
 -- Lists of calls: after any list from a fresh opening, refused calls included, the rows are exactly the permutations that the accepted offers not taken back
--- state, in order, repeats included, each a symmetry, and the plain formula is the text's. What carries it: a store and what is held stay sound through every
--- call. Assumes nothing.
-use mathlib.Core.Path.{_≡_, refl, ap, _∙_}
+-- state, in order, repeats included, each a symmetry, and the plain formula is the text's. What carries it: `Sound`, which every call keeps. Assumes nothing.
+use mathlib.Core.Path.{_≡_, refl, ap, _∙_, subst₂}
 use mathlib.Core.Bool.{true}
 use mathlib.Core.List.{List, [], _∷_, _++_, List·Memᴰ, List·Memᴰ·not-nil, List·Memᴰ·append-cases, List·Memᴰ·eq-of-singleton}
 use mathlib.Core.Logic.{⊎-elim}
@@ -14,20 +13,21 @@ use Rattle.store.specs.Stores.{Store, withRows, wellFormed, plainOf, rowsOf, he
 use Rattle.store.proofs.RowLaws.{rows-append, rows-take}
 use Rattle.store.proofs.Demands.{rest-of, rows-of}
 use Rattle.store.proofs.RowChanges.{with-rows-formed, without-row-formed}
+use Rattle.permutation.specs.Stated.{statedBy, rowStated}
+use Rattle.permutation.specs.declared.Stated.{Stated}
 use Rattle.symmetry.specs.Symmetry.{IsSymmetry}
 use Rattle.opening.specs.Opening.{openedBy, formulaOf}
 use Rattle.opening.specs.declared.Opened.{Opened}
 use Rattle.opening.proofs.Theorem.{opened-formed, opened-plain}
 use Rattle.offering.specs.Offering.{rowFor}
 use Rattle.calls.specs.Calls.{accepted as yes, Dimensions, saidOpened, openSays, openStore, offerSays, offerStore, takenBack, withdrawSays, withdrawStore}
-use Rattle.demands.specs.Lists.{Call, offer, withdraw, lend, lentAnew, afterCall, after, butLast, heldAfter, heldFrom, accepted}
-use Rattle.demands.proofs.ButLast.{in-but-last}
-use Rattle.demands.proofs.Acceptance.{store-refused, store-accepted, accepted-symmetry, accepted-held, accepted-formed}
+use Rattle.demands.specs.Lists.{Call, offer, withdraw, lend, lentAnew, afterCall, after, butLast, heldAfter, heldFrom, accepted, offersLeft}
+use Rattle.demands.proofs.ButLast.{but-last-more}
+use Rattle.demands.proofs.Acceptance.{accepts-of, store-refused, store-accepted, accepted-symmetry, accepted-held, accepted-formed}
 use Rattle.demands.proofs.Withdrawal.{withdrawn-refused, withdrawn-row, withdrawn-held}
 
--- ---- what every call keeps
+-- ---- what every call keeps: all of the store but its rows
 
--- all but the rows: their count and the images
 pub record Keeps (s t : Store) : Type 0 where
   pub but-rows : t ≡ withRows s (t .counts .rows) (t .images)
 
@@ -43,38 +43,46 @@ module _ {s t : Store} (k : Keeps s t) where
   same-open = ap (λ (u : Store). u .counts .is_open) (k .but-rows)
 
   pub keeps-trans : {r : Store} → Keeps r s → Keeps r t
-  keeps-trans {r = r} l = record { but-rows = k .but-rows ∙ ap (λ (u : Store). withRows u (t .counts .rows) (t .images)) (l .but-rows) }
+  keeps-trans l = record { but-rows = k .but-rows ∙ ap (λ (u : Store). withRows u (t .counts .rows) (t .images)) (l .but-rows) }
 
 pub keeps-self : (s : Store) → Keeps s s
 keeps-self s = record { but-rows = refl }
 
--- a call answers or is refused
-pub data Ending {Values : Type 0} (said : Said Values) : Type 0 where
-  answered : (v : Values) → said ≡ done v → Ending said
-  turned : (number place : ℕ) → said ≡ refused number place → Ending said
+pub accepted-keeps : (s : Store) (names values : List ℕ) → offerSays s names values ≡ done yes → Keeps s (offerStore s names values)
+accepted-keeps s names values e = rw (store-accepted s names values e) (record { but-rows = refl })
 
-pub ending : {Values : Type 0} (said : Said Values) → Ending said
-ending (done v) = answered v refl
-ending (refused number place) = turned number place refl
+-- ---- the offers held and the rows held
 
-pub keeps-call : (s : Store) (call : Call) → Keeps s (afterCall s call)
-unfolding lentAnew
-keeps-call s (lend past) = record { but-rows = refl }
-keeps-call s withdraw = by (ending (withdrawSays s))
-  where
-    by : Ending (withdrawSays s) → Keeps s (withdrawStore s)
-    by (turned number place e) = rw (withdrawn-refused s number place e) (keeps-self s)
-    by (answered takenBack e) = rw (withdrawn-row s e) (record { but-rows = refl })
-keeps-call s (offer names values) = by (ending (offerSays s names values))
-  where
-    by : Ending (offerSays s names values) → Keeps s (offerStore s names values)
-    by (turned number place e) = rw (store-refused s names values number place e) (keeps-self s)
-    by (answered yes e) = rw (store-accepted s names values e) (record { but-rows = refl })
+-- what an offer's acceptance asks of the lines and the formula
+pub record Acceptable (s : Store) (names values : List ℕ) : Type 0 where
+  pub stated : statedBy (s .counts .variables) names values ≡ Stated.Permutation
+  pub symmetry : IsSymmetry (rowFor s names values) (plainOf s)
 
-pub keeps-calls : (s : Store) (calls : List Call) → Keeps s (after s calls)
-unfolding after
-keeps-calls s [] = keeps-self s
-keeps-calls s (call ∷ calls) = keeps-trans (keeps-calls (afterCall s call) calls) (keeps-call s call)
+pub acceptable-alike : (s t : Store) (names values : List ℕ) → s .counts .variables ≡ t .counts .variables → plainOf s ≡ plainOf t
+    → Acceptable s names values → Acceptable t names values
+acceptable-alike s t names values e f a = record {
+  stated = rw e at (a .stated);
+  symmetry = subst₂ (λ (n : ℕ) (formula : List (List ℕ)). IsSymmetry (rowStated n names values) formula) e f (a .symmetry);
+}
+
+-- of a store just opened: each offer held is acceptable, and these state the rows held
+pub data Held (o : Store) : List (List ℕ) → List Call → Type 0 where
+  none : Held o [] []
+  newest : (rows : List (List ℕ)) (offers : List Call) → Held o rows offers → (names values : List ℕ) → Acceptable o names values
+      → (more : List (List ℕ)) → more ≡ rows ++ (rowFor o names values ∷ []) → (longer : List Call) → longer ≡ offers ++ (offer names values ∷ []) → Held o more longer
+
+held-but-last : (o : Store) (rows : List (List ℕ)) (offers : List Call) → Held o rows offers → Held o (butLast rows) (butLast offers)
+held-but-last o _ _ none = none
+held-but-last o _ _ (newest rows offers h names values a more e longer f) =
+    rw (e, f, but-last-more rows (rowFor o names values), but-last-more offers (offer names values)) h
+
+held-symmetries : (o : Store) (rows : List (List ℕ)) (offers : List Call) → Held o rows offers → (row : List ℕ) → List·Memᴰ row rows → IsSymmetry row (plainOf o)
+held-symmetries o _ _ none row m = absurd (List·Memᴰ·not-nil m)
+held-symmetries o _ _ (newest rows offers h names values a more e longer f) row m =
+    ⊎-elim
+    (λ (q : List·Memᴰ row rows). held-symmetries o rows offers h row q)
+    (λ (q : List·Memᴰ row (rowFor o names values ∷ [])). rw (List·Memᴰ·eq-of-singleton q) (a .symmetry))
+    (List·Memᴰ·append-cases rows (rw e at m))
 
 -- ---- another images slice
 
@@ -100,55 +108,76 @@ module _ (s : Store) (past : List ℕ) (e : wellFormed s ≡ true) where
 
 -- ---- a store and what is held
 
--- the store is well formed, its rows are those held, and each is a symmetry of its formula
-pub record Sound (s : Store) (held : List (List ℕ)) : Type 0 where
+-- a store s after some calls from o, and the rows and the offers held: s is o but for its rows, it is well formed, and its rows are those that the offers state
+pub record Sound (o s : Store) (rows : List (List ℕ)) (offers : List Call) : Type 0 where
+  pub keeps : Keeps o s
   pub formed : wellFormed s ≡ true
-  pub rows : heldRows s ≡ held
-  pub symmetries : (row : List ℕ) → List·Memᴰ row held → IsSymmetry row (plainOf s)
+  pub are-rows : heldRows s ≡ rows
+  pub held : Held o rows offers
 
-pub sound-call : (s : Store) (held : List (List ℕ)) (call : Call) → Sound s held → Sound (afterCall s call) (heldAfter rowFor held s call)
-sound-call s held (lend past) sound = record {
+abbrev asOffer : Store → List ℕ → List ℕ → Call
+asOffer s = offer
+
+-- a call answers or is refused
+pub data Ending {Values : Type 0} (said : Said Values) : Type 0 where
+  answered : (v : Values) → said ≡ done v → Ending said
+  turned : (number place : ℕ) → said ≡ refused number place → Ending said
+
+pub ending : {Values : Type 0} (said : Said Values) → Ending said
+ending (done v) = answered v refl
+ending (refused number place) = turned number place refl
+
+pub sound-call : (o s : Store) (rows : List (List ℕ)) (offers : List Call) (call : Call) → Sound o s rows offers
+    → Sound o (afterCall s call) (heldAfter rowFor rows s call) (heldAfter asOffer offers s call)
+unfolding lentAnew
+sound-call o s rows offers (lend past) sound = record {
+  keeps = keeps-trans (record { but-rows = refl }) (sound .keeps);
   formed = anew-formed s past (sound .formed);
-  rows = anew-held s past (sound .formed) ∙ sound .rows;
-  symmetries = λ row m. rw (same-plain (keeps-call s (lend past))) (sound .symmetries row m);
+  are-rows = anew-held s past (sound .formed) ∙ sound .are-rows;
+  held = sound .held;
 }
-sound-call s held withdraw sound = by (ending (withdrawSays s))
+sound-call o s rows offers withdraw sound = by (ending (withdrawSays s))
   where
-    by : Ending (withdrawSays s) → Sound (withdrawStore s) (heldAfter rowFor held s withdraw)
+    by : Ending (withdrawSays s) → Sound o (withdrawStore s) (heldAfter rowFor rows s withdraw) (heldAfter asOffer offers s withdraw)
     by (turned number place e) = rw (withdrawn-refused s number place e, e) sound
     by (answered takenBack e) =
+        let gone = withdrawn-row s e in
         rw e
         (record {
-          formed = ap wellFormed (withdrawn-row s e) ∙ without-row-formed s (sound .formed);
-          rows = withdrawn-held s e ∙ ap butLast (sound .rows);
-          symmetries = λ row m. rw (same-plain (keeps-call s withdraw)) (sound .symmetries row (in-but-last held m));
+          keeps = keeps-trans (rw gone (record { but-rows = refl })) (sound .keeps);
+          formed = ap wellFormed gone ∙ without-row-formed s (sound .formed);
+          are-rows = withdrawn-held s e ∙ ap butLast (sound .are-rows);
+          held = held-but-last o rows offers (sound .held);
         })
-sound-call s held (offer names values) sound = by (ending (offerSays s names values))
+sound-call o s rows offers (offer names values) sound = by (ending (offerSays s names values))
   where
-    by : Ending (offerSays s names values) → Sound (offerStore s names values) (heldAfter rowFor held s (offer names values))
+    by : Ending (offerSays s names values)
+        → Sound o (offerStore s names values) (heldAfter rowFor rows s (offer names values)) (heldAfter asOffer offers s (offer names values))
     by (turned number place e) = rw (store-refused s names values number place e, e) sound
     by (answered yes e) =
+        let k = sound .keeps in
+        let here : Acceptable s names values = record { stated = accepts-of s names values e .stated; symmetry = accepted-symmetry s names values e } in
         rw e
         (record {
+          keeps = keeps-trans (accepted-keeps s names values e) k;
           formed = accepted-formed s names values e;
-          rows = accepted-held s names values e ∙ ap (λ (rows : List (List ℕ)). rows ++ (rowFor s names values ∷ [])) (sound .rows);
-          symmetries = λ row m. rw (same-plain (keeps-call s (offer names values)))
-              (⊎-elim
-              (λ (q : List·Memᴰ row held). sound .symmetries row q)
-              (λ (q : List·Memᴰ row (rowFor s names values ∷ [])). rw (List·Memᴰ·eq-of-singleton q) (accepted-symmetry s names values e))
-              (List·Memᴰ·append-cases held m));
+          are-rows = accepted-held s names values e ∙ ap (λ (l : List (List ℕ)). l ++ (rowFor s names values ∷ [])) (sound .are-rows);
+          held = newest rows offers (sound .held) names values (acceptable-alike s o names values (same-variables k) (same-plain k) here)
+              (rows ++ (rowFor s names values ∷ [])) (ap (λ (n : ℕ). rows ++ (rowStated n names values ∷ [])) (same-variables k)) (offers ++ (offer names values ∷ [])) refl;
         })
 
-pub sound-calls : (s : Store) (held : List (List ℕ)) (calls : List Call) → Sound s held → Sound (after s calls) (heldFrom rowFor held s calls)
+sound-calls : (o s : Store) (rows : List (List ℕ)) (offers : List Call) (calls : List Call) → Sound o s rows offers
+    → Sound o (after s calls) (heldFrom rowFor rows s calls) (heldFrom asOffer offers s calls)
 unfolding after heldFrom
-sound-calls s held [] sound = sound
-sound-calls s held (call ∷ calls) sound = sound-calls (afterCall s call) (heldAfter rowFor held s call) calls (sound-call s held call sound)
+sound-calls o s rows offers [] sound = sound
+sound-calls o s rows offers (call ∷ calls) sound =
+    sound-calls o (afterCall s call) (heldAfter rowFor rows s call) (heldAfter asOffer offers s call) calls (sound-call o s rows offers call sound)
 
 -- ---- from a fresh opening
 
 -- what an opening that answers leaves: a well-formed open store of the text's formula, without rows
 pub record Fresh (s : Store) (text : List ℕ) : Type 0 where
-  pub sound : Sound (openStore s text) []
+  pub sound : Sound (openStore s text) (openStore s text) [] []
   pub opened : openStore s text .counts .is_open ≡ true
   pub plain : plainOf (openStore s text) ≡ formulaOf text
 
@@ -159,9 +188,10 @@ fresh s text sizes said = by (openedBy text (length (s .literals)) (length (s .e
     by : (a : Opened) → openedBy text (length (s .literals)) (length (s .ends)) ≡ a → saidOpened a ≡ done sizes → Fresh s text
     by (Opened.Open n m) e q = record {
       sound = record {
+        keeps = keeps-self (openStore s text);
         formed = rw e (opened-formed text (s .literals) (s .ends) (s .images) n m e);
-        rows = rw e;
-        symmetries = λ row none. absurd (List·Memᴰ·not-nil none);
+        are-rows = rw e;
+        held = none;
       };
       opened = rw e;
       plain = rw e (opened-plain text (s .literals) (s .ends) (s .images) n m e);
@@ -171,22 +201,18 @@ fresh s text sizes said = by (openedBy text (length (s .literals)) (length (s .e
 -- For every text and lent store for which opening answers, and every list of calls from there, refused ones included: the store is open and well formed,
 -- its plain formula is the text's, its rows are exactly the accepted permutations of the list, and each of these is a symmetry of the formula.
 pub record AfterOpening (s : Store) (text : List ℕ) (calls : List Call) : Type 0 where
-  pub formed : wellFormed (after (openStore s text) calls) ≡ true
+  pub sound : Sound (openStore s text) (after (openStore s text) calls) (accepted (openStore s text) calls) (offersLeft (openStore s text) calls)
   pub opened : after (openStore s text) calls .counts .is_open ≡ true
   pub plain : plainOf (after (openStore s text) calls) ≡ formulaOf text
-  pub rows : heldRows (after (openStore s text) calls) ≡ accepted (openStore s text) calls
   pub symmetries : (row : List ℕ) → List·Memᴰ row (accepted (openStore s text) calls) → IsSymmetry row (formulaOf text)
 
 pub after-opening : (s : Store) (text : List ℕ) (sizes : Dimensions) (calls : List Call) → openSays s text ≡ done sizes → AfterOpening s text calls
 after-opening s text sizes calls said =
     let f = fresh s text sizes said in
-    let k = keeps-calls (openStore s text) calls in
-    let sound = sound-calls (openStore s text) [] calls (f .sound) in
-    let plain : plainOf (after (openStore s text) calls) ≡ formulaOf text = same-plain k ∙ f .plain in
+    let sound = sound-calls (openStore s text) (openStore s text) [] [] calls (f .sound) in
     record {
-      formed = sound .formed;
-      opened = same-open k ∙ f .opened;
-      plain = plain;
-      rows = sound .rows;
-      symmetries = λ row m. rw plain at (sound .symmetries row m);
+      sound = sound;
+      opened = same-open (sound .keeps) ∙ f .opened;
+      plain = same-plain (sound .keeps) ∙ f .plain;
+      symmetries = λ row m. rw (f .plain) at (held-symmetries (openStore s text) _ _ (sound .held) row m);
     }

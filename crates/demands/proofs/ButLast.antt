@@ -1,9 +1,9 @@
 -- A list without its last. Assumes nothing.
-use mathlib.Core.Path.{_≡_, sym, ap, _∙_, subst}
-use mathlib.Core.List.{List, [], _∷_, _++_, List·Memᴰ, Memᴰ·append-left}
+use mathlib.Core.Path.{_≡_, sym, ap, _∙_}
+use mathlib.Core.List.{List, [], _∷_, _++_}
 use Prim.Native.Nat.{_+_, _-_, _<_}
 use native.Mathlib.Omega.{arith}
-use lib.ListN.{length, getD, drop, length-append, take-append-drop, drop-of-length-le}
+use lib.ListN.{length, getD, length-append, take-append-drop, drop-of-length-le}
 use lib.Seq.{take-append-seam}
 use Rattle.lists.proofs.Steps.{drop-step}
 use Rattle.demands.specs.Lists.{butLast}
@@ -21,6 +21,3 @@ module _ {A : Type 0} (l : List A) where
       ∙ ap (λ (k : List A). butLast l ++ k)
       (drop-step l (length l - 1) d (omega arith)
       ∙ ap (λ (k : List A). getD l (length l - 1) d ∷ k) (drop-of-length-le l {i = length l - 1 + 1} (omega arith)))
-
-  pub in-but-last : {x : A} → List·Memᴰ x (butLast l) → List·Memᴰ x l
-  in-but-last {x = x} m = subst (λ (k : List A). List·Memᴰ x k) (take-append-drop (length l - 1) l) (Memᴰ·append-left (drop (length l - 1) l) m)

@@ -29,10 +29,10 @@ use Rattle.filling.specs.Written.{filledWords}
 use Rattle.filling.proofs.Runs.{length-filled}
 use Rattle.checking.specs.Checking.{yes}
 use Rattle.descent.specs.Words.{settledAfter, answerOf, descended}
-use Rattle.calls.specs.Calls.{Dimensions, openSays, openStore, onStore, fillSays, fillLeaves, checkSays, descendSays, descendLeaves}
+use Rattle.calls.specs.Calls.{Dimensions, openSays, onStore, fillSays, fillLeaves, checkSays, descendSays, descendLeaves}
 use Rattle.demands.specs.Lists.{Call}
 use Rattle.demands.specs.Demand3.{variables, formula, permutations, left, Demand3}
-use Rattle.demands.proofs.AfterCalls.{same-variables, keeps-calls, after-opening}
+use Rattle.demands.proofs.AfterCalls.{same-variables, after-opening}
 use Rattle.demands.proofs.Checks.{yes-is-model}
 
 -- ---- what a call that answered says of the store and the words
@@ -120,25 +120,25 @@ module _ (s : Store) (text : List ℕ) (sizes : Dimensions) (calls : List Call) 
   t = left s text calls
 
   variables-kept : t .counts .variables ≡ n
-  variables-kept = same-variables (keeps-calls (openStore s text) calls)
+  variables-kept = same-variables (after-opening s text sizes calls opens .sound .keeps)
 
   -- the formula and the permutations are those of the store that the list leaves
   symmetric : Symmetric n F ps
   symmetric =
       let a = after-opening s text sizes calls opens in
       record {
-        literals = same-literals variables-kept (a .plain) (literals-within t (formed t (a .formed)));
-        permutations = same-rows variables-kept (a .rows) (rows-of t (a .formed));
+        literals = same-literals variables-kept (a .plain) (literals-within t (formed t (a .sound .formed)));
+        permutations = same-rows variables-kept (a .sound .are-rows) (rows-of t (a .sound .formed));
         symmetries = a .symmetries;
       }
 
   made-is : madeOf t ≡ made n F ps
   unfolding madeOf
-  made-is = let a = after-opening s text sizes calls opens in same-made variables-kept (a .plain) (a .rows)
+  made-is = let a = after-opening s text sizes calls opens in same-made variables-kept (a .plain) (a .sound .are-rows)
 
   variables-are : variablesOf t ≡ madeVariables n ps
   unfolding variablesOf
-  variables-are = let a = after-opening s text sizes calls opens in same-all variables-kept (a .rows)
+  variables-are = let a = after-opening s text sizes calls opens in same-all variables-kept (a .sound .are-rows)
 
   -- words of a setting that completes an assignment check as a model of the made formula
   checked : (a setting : List Bool) (words : List ℕ) → Completes n F ps a setting → words ≡ wordsOf (a ++ setting) → checkSays t words ≡ done yes
@@ -149,7 +149,7 @@ module _ (s : Store) (text : List ℕ) (sizes : Dimensions) (calls : List Call) 
       let model : Model (variablesOf t) (madeOf t) bits = rw (variables-are, made-is) c in
       let form : isAssignment (variablesOf t) (wordsOf bits) ≡ true = rw (← size) (words-form bits) in
       let same : bitsOf (variablesOf t) (wordsOf bits) ≡ bits = bits-words (variablesOf t) bits size in
-      rw e (yes-is-model t (wordsOf bits) .1 (record { opened = after .opened; formed = after .formed; form = form }, rw same model))
+      rw e (yes-is-model t (wordsOf bits) .1 (record { opened = after .opened; formed = after .sound .formed; form = form }, rw same model))
 
   pub demand-3 : Demand3 s text calls
   unfolding filledIn
@@ -157,7 +157,7 @@ module _ (s : Store) (text : List ℕ) (sizes : Dimensions) (calls : List Call) 
       let a = after-opening s text sizes calls opens in
       let y = symmetric in
       record {
-        rows = a .rows;
+        rows = a .sound .are-rows;
         plain = a .plain;
         makes = made-is;
         numbers = variables-are;
@@ -165,7 +165,7 @@ module _ (s : Store) (text : List ℕ) (sizes : Dimensions) (calls : List Call) 
         carried = λ x m. carried-to-kept y x m;
         settles = λ words limit moves m e.
             let d = descend-settled t words limit moves e in
-            let ends = same-descent variables-kept (a .rows) limit words (d .ends) in
+            let ends = same-descent variables-kept (a .sound .are-rows) limit words (d .ends) in
             let k = settled-kept y limit moves (bitsOf n words) (d .reached) m ends .0 in
             rw (d .leaves, bits-words n (d .reached) (k .plain .size)) k;
         kept = λ x. (
@@ -176,10 +176,10 @@ module _ (s : Store) (text : List ℕ) (sizes : Dimensions) (calls : List Call) 
         fills = λ words out written k e. (
           settings ps (bitsOf n words),
           filled-completes n F ps (y .literals) (y .permutations) (bitsOf n words) k,
-          fill-wrote t words out written e ∙ same-filled variables-kept (a .rows) words,
+          fill-wrote t words out written e ∙ same-filled variables-kept (a .sound .are-rows) words,
         );
         checks = λ words out written k e.
             checked (bitsOf n words) (settings ps (bitsOf n words)) (take written (fillLeaves t words out))
             (filled-completes n F ps (y .literals) (y .permutations) (bitsOf n words) k)
-            (fill-wrote t words out written e ∙ same-filled variables-kept (a .rows) words);
+            (fill-wrote t words out written e ∙ same-filled variables-kept (a .sound .are-rows) words);
       }

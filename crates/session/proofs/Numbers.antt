@@ -287,7 +287,7 @@ open-stands : (s : Store) → Ample s → (text : List ℕ) (sizes : Dimensions)
 unfolding openStore after
 open-stands s ample text sizes said =
     let fresh = after-opening s text sizes [] said in
-    record { opened = fresh .opened; formed = fresh .formed; long = ample .images }
+    record { opened = fresh .opened; formed = fresh .sound .formed; long = ample .images }
 
 from-input : (number : ℕ) → number ≤ 15 → FromInput number
 from-input number h = record { opened = λ e. omega arith; formed = λ e. omega arith; roomy = λ e. omega arith }

@@ -109,4 +109,4 @@ module _ (s : Store) (input : List ℕ) (ready : sessionOf s input .said ≡ don
   ready-formed =
       let listed = ready-is-list in
       let left = after-opening s (listed .text) (listed .sizes) (calls (listed .names) (listed .lines)) (listed .opened) in
-      rw (listed .store) (record { formed = left .formed; opened = left .opened })
+      rw (listed .store) (record { formed = left .sound .formed; opened = left .opened })

@@ -83,9 +83,9 @@ module _ (s : Store) where
     unfolding withdrawSays withdrawStore
     none-held e = rw (ready, eq-eqb (s .counts .rows) 0 e) (refl, refl)
 
-    pub takes-back : (s .counts .rows ≡ 0 → ⊥) → Withdraws Withdrawn.TakenBack (withoutRow s)
+    pub drops-newest : (s .counts .rows ≡ 0 → ⊥) → Withdraws Withdrawn.TakenBack (withoutRow s)
     unfolding withdrawSays withdrawStore
-    takes-back n = rw (ready, ne-eqb (s .counts .rows) 0 n) (refl, refl)
+    drops-newest n = rw (ready, ne-eqb (s .counts .rows) 0 n) (refl, refl)
 
 -- ---- header and clause
 

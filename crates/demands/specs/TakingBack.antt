@@ -24,7 +24,7 @@ pub record Drops (s : Store) : Type 0 where
   -- only the count falls: it "leaves entries past those then in use unchanged", and all others
   pub leaves : withdrawStore s ≡ withoutRow s
 
--- no call of a list is refused
+-- a call is not refused (lending is no call of ours), and none of a list is
 abbrev pub Answers : Store → Call → Type 0
 Answers s (offer names values) = offerSays s names values ≡ done accepted
 Answers s withdraw = withdrawSays s ≡ done takenBack

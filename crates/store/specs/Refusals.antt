@@ -64,7 +64,7 @@ abbrev pub said : Answer → Said ℕ
 said (Answer.Value value) = done value
 said (Answer.Refused r) = saidRefused r
 
--- what a call leaves: this where it answers, and all the same where it refuses
+-- what is left by a call: changed where it answers, the same where it refuses
 abbrev pub unlessRefused : {Values Left : Type 0} → Said Values → Left → Left → Left
 unlessRefused (done values) changed same = changed
 unlessRefused (refused number place) changed same = same

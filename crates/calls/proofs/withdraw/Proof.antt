@@ -2,7 +2,7 @@
 use mathlib.Core.Path.{_≡_, sym, _∙_}
 use Rattle.store.specs.Stores.{Store, lent, standingOf}
 use Rattle.store.specs.declared.form.Standing.{Standing}
-use Rattle.calls.proofs.CallLaws.{unready-withdraw, none-held, takes-back}
+use Rattle.calls.proofs.CallLaws.{unready-withdraw, none-held, drops-newest}
 use borrow.Author.Needs.{needs}
 use Rattle.calls.proofs.withdraw.Statement.{statement}
 use Rattle.calls.proofs.withdraw.Tie as tie
@@ -20,7 +20,7 @@ returns-2 : tie.Need-returns-2
 returns-2 c = let t = c .before .before in none-held (S (t .before .before .before .before .before .before)) (admitted t) (c .if1 .taken)
 
 returns-3 : tie.Need-returns-3
-returns-3 c = let t = c .before .before .before in takes-back (S (t .before .before .before .before .before .before)) (admitted t) (c .before .if1 .left)
+returns-3 c = let t = c .before .before .before in drops-newest (S (t .before .before .before .before .before .before)) (admitted t) (c .before .if1 .left)
 
 pub withdraw-spec : {M : Type 1} → statement M
 withdraw-spec = tie.close (tie.spec (search needs) (search needs) returns (search needs) returns-2 (search needs) returns-3)

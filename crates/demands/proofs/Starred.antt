@@ -10,6 +10,7 @@ use Rattle.dimacs.specs.Lines.{linesFrom}
 use Rattle.dimacs.specs.Numbers.{isDigit, decimalFrom, digitsOf, sizeOf, numeralOf}
 use Rattle.packed.specs.Words.{bitIn, bitAt, bitsOf, binary, wordCount, wordsOf, spareBits, isAssignment}
 use Rattle.packed.specs.Order.{less}
+use Rattle.quality.specs.Rounding.{nearestOf}
 use Rattle.quality.specs.Efficiency.{hasEfficiency, efficiencyOf}
 use Rattle.store.specs.Literals.{isLiteral}
 use Rattle.store.specs.Numerals.{codeIn}
@@ -83,6 +84,8 @@ starred :
     ∷ descent turned (2 * 2 ^ 61) 9
     ∷ figured (efficiencySays 25 6 8)
     ∷ figured (efficiencySays 29281 302 1024)
+    ∷ figured (efficiencySays 20001 1 20000)
+    ∷ figured (efficiencySays 20001 1 19998)
     ∷ []
     ≡ offered (done accepted)
     ∷ offered (refused 11 2)
@@ -98,13 +101,15 @@ starred :
     ∷ came (done (settledAfter 1)) (1 * 2 ^ 61 ∷ [])
     ∷ came (done (settledAfter 0)) (2 * 2 ^ 61 ∷ [])
     ∷ figured (done 8947)
-    ∷ figured (done 9750)
+    ∷ figured (done 9751)
+    ∷ figured (done 0)
+    ∷ figured (done 2)
     ∷ []
 unfolding
     openStore offerSays offerStore anyOf allOf distinct table isBlank run wordsFrom linesFrom isDigit decimalFrom digitsOf sizeOf numeralOf isLiteral codeIn rising literalCount
     rowsOf cut plainOf isImage isRow demands wellFormed standingOf afterComments wordsIn sameBytes fourWords sizesOf problemIn problemOf scanFrom literalsIn endsFrom bodyOf openedBy notNumber
     badNameAfter badName badValueAfter namesOn valuesOn statedBy imageAmong rowStated within sameSet imageOf clauseImage hasImage missingFrom ifRoom ifSymmetry offeredBy
-    efficiencySays hasEfficiency efficiencyOf descendSays descendLeaves descended descendFrom stepBy lowers moved less literalValue heldRows bitsOf wordsOf binary
+    efficiencySays hasEfficiency efficiencyOf nearestOf descendSays descendLeaves descended descendFrom stepBy lowers moved less literalValue heldRows bitsOf wordsOf binary
     wordCount bitAt bitIn spareBits isAssignment fillSays fillLeaves filledWords variablesOf madeVariables allAuxiliaries auxiliaries pairsOf pairsFrom filledIn settings
     rowSettings settingsAfter agrees
 starred = refl

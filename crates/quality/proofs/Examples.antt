@@ -2,10 +2,11 @@
 use mathlib.Core.Path.{_≡_, refl}
 use mathlib.Core.Bool.{true, false}
 use mathlib.Core.List.{[], _∷_}
+use Rattle.quality.specs.Rounding.{nearestOf}
 use Rattle.quality.specs.Efficiency.{hasEfficiency, efficiencyOf}
 
-figures : efficiencyOf 25 6 8 ∷ efficiencyOf 29281 302 1024 ∷ efficiencyOf 1000000000000 0 0 ∷ [] ≡ 8947 ∷ 9750 ∷ 10000 ∷ []
-unfolding efficiencyOf
+figures : efficiencyOf 25 6 8 ∷ efficiencyOf 29281 302 1024 ∷ efficiencyOf 1000000000000 0 0 ∷ [] ≡ 8947 ∷ 9751 ∷ 10000 ∷ []
+unfolding efficiencyOf nearestOf
 figures = refl
 
 edges :

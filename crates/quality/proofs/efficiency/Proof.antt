@@ -1,26 +1,25 @@
 -- `quality::efficiency` meets its contract: the product is at most 10^16. Assumes nothing.
-use mathlib.Core.Path.{refl}
+use native.Mathlib.Omega.{arith}
 use Rattle.quality.specs.Efficiency.{efficiencyOf}
 use Rattle.quality.proofs.Laws.{counts}
-use native.Mathlib.Omega.{arith}
 use Rattle.quality.proofs.efficiency.Statement.{statement}
 use Rattle.quality.proofs.efficiency.Tie as tie
 
-sub-result : tie.Need-sub-result
-sub-result c = omega (arith, counts _ _ _ (c .pre))
+sub-nearest : tie.Need-sub-nearest
+sub-nearest c = omega (arith, counts _ _ _ (c .pre))
 
-mul-result : tie.Need-mul-result
-mul-result c = omega (arith, counts _ _ _ (c .pre))
+mul-nearest : tie.Need-mul-nearest
+mul-nearest c = omega (arith, counts _ _ _ (c .pre))
 
-sub-result-2 : tie.Need-sub-result-2
-sub-result-2 c = omega (arith, counts _ _ _ (c .pre))
+sub-nearest-2 : tie.Need-sub-nearest-2
+sub-nearest-2 c = omega (arith, counts _ _ _ (c .pre))
 
-div-result : tie.Need-div-result
-div-result c = omega (arith, counts _ _ _ (c .pre))
+nearest-requires : tie.Need-nearest-requires
+nearest-requires c κs = let e = counts _ _ _ (c .pre) in (omega (arith, e), omega (arith, e))
 
 returns : tie.Need-returns
 unfolding efficiencyOf
-returns c = refl
+returns c = c .nearest .ensures
 
 pub efficiency-spec : {M : Type 1} → statement M
-efficiency-spec = tie.close (tie.spec sub-result mul-result sub-result-2 div-result returns)
+efficiency-spec = tie.close (tie.spec sub-nearest mul-nearest sub-nearest-2 nearest-requires returns)

@@ -1,11 +1,19 @@
--- Document 01's figures (those with a star), and the edges of 14, by computation on the definitions. Assumes nothing.
+-- Halves and thirds, figures at the limit, and the edges of 14, by computation on the definitions. Assumes nothing.
 use mathlib.Core.Path.{_≡_, refl}
 use mathlib.Core.Bool.{true, false}
 use mathlib.Core.List.{[], _∷_}
 use Rattle.quality.specs.Rounding.{nearestOf}
 use Rattle.quality.specs.Efficiency.{hasEfficiency, efficiencyOf}
 
-figures : efficiencyOf 25 6 8 ∷ efficiencyOf 29281 302 1024 ∷ efficiencyOf 1000000000000 0 0 ∷ [] ≡ 8947 ∷ 9751 ∷ 10000 ∷ []
+quotients : nearestOf 1 2 ∷ nearestOf 3 2 ∷ nearestOf 5 2 ∷ nearestOf 6 2 ∷ nearestOf 1 3 ∷ nearestOf 2 3 ∷ [] ≡ 0 ∷ 2 ∷ 2 ∷ 3 ∷ 0 ∷ 1 ∷ []
+unfolding nearestOf
+quotients = refl
+
+-- 9,999.5 and 9,998.5, and a little less and more
+figures :
+    efficiencyOf 1000000000000 0 0 ∷ efficiencyOf 1000000000000 0 50000000 ∷ efficiencyOf 1000000000000 0 150000000
+    ∷ efficiencyOf 1000000000000 0 50000001 ∷ efficiencyOf 1000000000000 0 149999999 ∷ []
+    ≡ 10000 ∷ 10000 ∷ 9998 ∷ 9999 ∷ 9999 ∷ []
 unfolding efficiencyOf nearestOf
 figures = refl
 

@@ -24,12 +24,13 @@ typedef struct {
     __typeof__(symbreak_check) *check;
     __typeof__(symbreak_descend) *descend, *descend_noting;
     __typeof__(symbreak_compare) *compare;
+    __typeof__(symbreak_efficiency) *efficiency;
 } calls;
 
 #define CALLS(prefix, noting) \
     { \
         prefix##_open, prefix##_offer, prefix##_withdraw, prefix##_header, prefix##_clause, prefix##_fill_in, prefix##_check, prefix##_descend, noting, \
-            prefix##_compare \
+            prefix##_compare, prefix##_efficiency \
     }
 static const calls library = CALLS(symbreak, symbreak_descend), plain = CALLS(plain, plain_descend_noting);
 
@@ -92,6 +93,17 @@ static void descend(const calls *c) { descend_by(c->descend); }
 static void descend_noting(const calls *c) { descend_by(c->descend_noting); }
 
 static void compare(const calls *c) { say_answer(c->compare(SLICE(w.a), SLICE(w.b))); }
+
+/* Three words each are the counts of a figure. */
+static void efficiency(const calls *c)
+{
+    symbreak_answer figure = {0};
+    for (size_t i = 0; i < SYMBREAK_MAX_WORDS; i += 3) {
+        figure = c->efficiency(w.a[i], w.a[i + 1], w.a[i + 2]);
+        w.said += figure.value;
+    }
+    say_answer(figure);
+}
 
 /* What they do it to. */
 
@@ -264,6 +276,20 @@ static void to_compare(unsigned n, unsigned m, unsigned rows)
     w.said = 0;
 }
 
+/* Counts by chance, below 10^12, and document 02's exact half last. */
+static void to_figure(unsigned n, unsigned m, unsigned rows)
+{
+    (void)n, (void)m, (void)rows;
+    memset(&w, 0, sizeof w);
+    state = 1;
+    for (size_t i = 0; i < SYMBREAK_MAX_WORDS; i += 3) {
+        w.a[i + 1] = chance(1000000);
+        w.a[i + 2] = w.a[i + 1] + chance(1000000);
+        w.a[i] = w.a[i + 2] + 1 + 900000ull * chance(1000000);
+    }
+    memcpy(w.a + SYMBREAK_MAX_WORDS - 3, (uint64_t[]){20001, 1, 19998}, 3 * sizeof *w.a);
+}
+
 typedef struct {
     const char *name;
     void (*prepare)(unsigned n, unsigned m, unsigned rows);
@@ -293,6 +319,7 @@ static const job jobs[] = {
     {"descend, 448 moves, 64 full rows", to_shift, descend, 512, 0, 64, 0, 448},
     {"the same against C that notes what rows move", to_shift, descend_noting, 512, 0, 64, 0, 448},
     {"compare 519 words, alike but for the last bit", to_compare, compare, 512, 4096, 64, 0, 64 * 519},
+    {"173 efficiencies", to_figure, efficiency, 0, 0, 0, 0, 2},
 };
 enum { JOBS = sizeof jobs / sizeof *jobs };
 

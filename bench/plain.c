@@ -493,3 +493,10 @@ symbreak_answer plain_compare(const uint64_t *a, size_t a_len, const uint64_t *b
         if (a[i] != b[i]) return answer(64 * i + (size_t)__builtin_clzll(a[i] ^ b[i]) + 1);
     return answer(0);
 }
+
+symbreak_answer plain_efficiency(uint64_t labelled, uint64_t unlabelled, uint64_t allowed)
+{
+    if (unlabelled > allowed || allowed > labelled || labelled == unlabelled || labelled > 1000000000000) return refused(SYMBREAK_NO_FIGURE, 0);
+    uint64_t x = 10000 * (labelled - allowed), y = labelled - unlabelled, below = x / y, twice = 2 * (x % y);
+    return answer(below + (twice > y || (twice == y && below % 2)));
+}

@@ -13,6 +13,7 @@ __typeof__(symbreak_fill_in) plain_fill_in;
 __typeof__(symbreak_check) plain_check;
 __typeof__(symbreak_descend) plain_descend;
 __typeof__(symbreak_compare) plain_compare;
+__typeof__(symbreak_efficiency) plain_efficiency;
 
 /* The same as plain_descend, by a quicker way for rows that move few variables. */
 __typeof__(symbreak_descend) plain_descend_noting;

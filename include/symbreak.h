@@ -162,7 +162,8 @@ symbreak_descent symbreak_descend(uint64_t variables, uint64_t clauses, uint64_t
  * where they are equal. Refusal 12. */
 symbreak_answer symbreak_compare(const uint64_t *a, size_t a_len, const uint64_t *b, size_t b_len);
 
-/* The value is 10,000 * (labelled - allowed) / (labelled - unlabelled), cut off downwards: hundredths of a percent. Refusal 14. */
+/* The value is 10,000 * (labelled - allowed) / (labelled - unlabelled) to the nearest whole number, an exact half to the even one: hundredths of a percent,
+ * at most 10,000. Refusal 14. */
 symbreak_answer symbreak_efficiency(uint64_t labelled, uint64_t unlabelled, uint64_t allowed);
 
 #ifdef __cplusplus

@@ -7,6 +7,7 @@ from collections import Counter
 import generate
 import library
 import reference
+import tables
 from agree import LIBRARY, Agree
 from library import TOP
 
@@ -315,7 +316,9 @@ class Efficiency(unittest.TestCase):
 
     def test_edges(self):
         self.assertEqual(self.agree(25, 6, 8), ("done", 8947))
-        self.assertEqual(self.agree(29281, 302, 1024), ("done", 9750))
+        self.assertEqual(self.agree(29281, 302, 1024), ("done", 9751))
+        self.assertEqual(self.agree(20001, 1, 20000), ("done", 0))
+        self.assertEqual(self.agree(20001, 1, 19998), ("done", 2))
         self.assertEqual(self.agree(10 ** 12, 0, 0), ("done", 10000))
         for counts in [(10 ** 12 + 1, 0, 0), (9, 3, 2), (9, 3, 10), (7, 7, 7), (0, 0, 0), (TOP, 0, TOP), (TOP, TOP, TOP)]:
             self.assertEqual(self.agree(*counts), ("refused", 14, 0))
@@ -329,6 +332,22 @@ class Efficiency(unittest.TestCase):
             if chance.random() < 0.7:
                 counts = [max(counts), min(counts), sorted(counts)[1]]
             self.agree(*counts)
+
+    def test_halves(self):
+        """Counts whose quotient is k and an exact half, and one allowed more and fewer."""
+        chance = random.Random(3)
+        for _ in range(5000):
+            k, unit = chance.randrange(10000), chance.choice([1, chance.randrange(1, 100), chance.randrange(1, 49999998)])
+            unlabelled = chance.randrange(10 ** 12 - 20000 * unit + 1)
+            labelled = unlabelled + 20000 * unit
+            allowed = labelled - (2 * k + 1) * unit
+            self.assertEqual(self.agree(labelled, unlabelled, allowed), ("done", k + k % 2))
+            self.assertEqual(self.agree(labelled, unlabelled, allowed + 1), ("done", k))
+            self.assertEqual(self.agree(labelled, unlabelled, allowed - 1), ("done", k + 1))
+
+    def test_printed_tables(self):
+        for _, _, *counts, percent in tables.ROWS:
+            self.assertEqual(self.agree(*counts), ("done", tables.hundredths(percent)))
 
 
 if __name__ == "__main__":

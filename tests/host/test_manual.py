@@ -1,5 +1,5 @@
-"""The manual's examples, run: its console blocks and its host in C, every refusal of its table, and its tables of moving, filling in and descent. What
-docs/MANUAL.md shows is taken from there, so that it stays true. Run by tests/run, after the program and the library are built."""
+"""The manual's examples, run: its console blocks and its host in C, every refusal of its table, and its tables of moving, filling in, descent and
+the efficiency. What docs/MANUAL.md shows is taken from there, so that it stays true. Run by tests/run, after the program and the library are built."""
 import os
 import re
 import subprocess
@@ -149,6 +149,14 @@ class Manual(unittest.TestCase):
             self.assertEqual(told, ("done", how, int(moves)))
             steps = re.findall(r"[01]{4}", way)
             self.assertEqual(left, words(steps[-1]) if steps else words("1100") if way == "none" else reached)
+
+    def test_efficiency(self):
+        table = rows(section("The efficiency figure"))
+        self.assertEqual(len(table), 6)
+        for *numbers, percent in table:
+            *counts, figure = (int(number.replace(",", "")) for number in numbers)
+            self.assertEqual(library.said(library.load().symbreak_efficiency(*counts)), ("done", figure))
+            self.assertEqual(round(100 * float(percent.split(" %")[0])), figure)
 
 
 if __name__ == "__main__":

@@ -1,4 +1,4 @@
-"""Reference symmetry breaker: document 01 with CR 1 and CR 2 of document 02, written from the papers, naive on purpose.
+"""Reference symmetry breaker: document 01 with CR 1 to CR 4 of document 02, written from the papers, naive on purpose.
 
 A call answers ('refused', number, place) or ('done', value...).  A call that may write lent memory returns that
 answer followed by the new contents of each thing it may write; nothing lent is ever changed in place.
@@ -11,6 +11,7 @@ import functools
 import inspect
 import re
 import sys
+from fractions import Fraction
 from itertools import accumulate, islice
 from typing import Dict, Iterator, List, NamedTuple, Optional, Tuple
 
@@ -470,10 +471,10 @@ def descend(record, literals, ends, images, a: List[int], limit: int):
 
 @call()
 def efficiency(labelled: int, unlabelled: int, allowed: int):
-    """"10,000 x (labelled - allowed) / (labelled - unlabelled), cut off downwards"; 14."""
+    """"10,000 x (labelled - allowed) / (labelled - unlabelled)", "the nearest .., an exact half going to the even one" (CR 4); 14."""
     if not unlabelled <= allowed <= labelled or labelled == unlabelled or labelled > MAX_LABELLED:
         raise Refusal(14, 0)
-    return "done", 10000 * (labelled - allowed) // (labelled - unlabelled)
+    return "done", round(Fraction(10000 * (labelled - allowed), labelled - unlabelled))  # Python rounds a half to the even number
 
 
 def split_input(data: bytes) -> Tuple[bytes, List[bytes]]:

@@ -5,6 +5,7 @@ import random
 import unittest
 
 import reference as ref
+import tables
 
 LISTING = b"p cnf 3 2\n1 2 0\n2 3 0\n"
 TOP = 2 ** 64 - 1
@@ -100,12 +101,23 @@ class WorkedCases(unittest.TestCase):
         self.assertEqual(descend(turned, "010"), (("done", "settled", 0), "010"))
 
     def test_efficiency(self):
-        cases = [((25, 6, 8), 8947), ((29281, 302, 1024), 9750), ((10 ** 12, 0, 0), 10000), ((5, 4, 5), 0),
-                 ((20001, 1, 20000), 0), ((20001, 1, 19998), 1)]
+        cases = [((25, 6, 8), 8947), ((29281, 302, 1024), 9751), ((10 ** 12, 0, 0), 10000), ((5, 4, 5), 0),
+                 ((20001, 1, 20000), 0), ((20001, 1, 19998), 2)]
+        cases += [(counts, tables.hundredths(percent)) for _, _, *counts, percent in tables.ROWS]
         for figures, answer in cases:
             self.assertEqual(ref.efficiency(*figures), ("done", answer))
         for figures in (3, 3, 3), (5, 4, 3), (5, 2, 6), (10 ** 12 + 1, 0, 0), (0, 0, 0), (2, TOP, TOP), (TOP, 0, 1):
             self.assertEqual(ref.efficiency(*figures), ("refused", 14, 0))
+
+    def test_nearest_figure(self):
+        """Of all figures the nearest one, and of two that are as near the even one."""
+        halves = 0
+        for labelled, unlabelled in [(7, 0), (33, 1), (64, 0), (97, 1), (20000, 0), (20001, 1)]:
+            for allowed in {*range(unlabelled, unlabelled + 30), *range(labelled - 30, labelled + 1)} & set(range(unlabelled, labelled + 1)):
+                x, y = 10000 * (labelled - allowed), labelled - unlabelled
+                halves += 2 * x % (2 * y) == y
+                self.assertEqual(ref.efficiency(labelled, unlabelled, allowed), ("done", min(range(10001), key=lambda f: (abs(x - f * y), f % 2))))
+        self.assertGreater(halves, 50)
 
     def test_edges_of_the_text(self):
         self.assertEqual(opening(b"p cnf 512 4096\n" + b"0 " * 4096), ("done", 512, 4096))

@@ -1,26 +1,14 @@
 -- CR 4: the figure that the call answers is the nearest hundredth of a percent, no other number is, and none is past 100 percent. Assumes nothing.
 use mathlib.Core.Path.{_≡_, refl, subst}
 use mathlib.Core.Bool.{Bool, true, false, cond}
-use mathlib.Core.Logic.{_⊎_, inl, inr}
-use Prim.Native.Nat.{ℕ, _-_, _*_, _≤_, _<_}
-use native.Mathlib.Nat.{add-mul, mul-le-mul-right}
+use Prim.Native.Nat.{ℕ, _-_, _*_, _<_}
 use native.Mathlib.Omega.{arith}
-use Rattle.lists.proofs.Cases.{lt-or-le}
-use Rattle.quality.specs.Rounding.{Nearest}
 use Rattle.quality.specs.Efficiency.{hasEfficiency, efficiencyOf}
-use Rattle.quality.proofs.Rounding.{is-nearest, only-nearest}
+use Rattle.quality.proofs.Rounding.{is-nearest, only-nearest, nearest-at-most}
 use Rattle.quality.proofs.Laws.{counts}
 use Rattle.store.specs.Refusals.{done, refused}
 use Rattle.calls.specs.Calls.{efficiencySays}
-use Rattle.demands.specs.Figure.{NearestHundredth, TheNearest}
-
--- a number nearest to a quotient that is at most c is at most c
-nearest-bounded : (x y c : ℕ) {f : ℕ} → 0 < y → x ≤ c * y → Nearest x y f → f ≤ c
-nearest-bounded x y c {f} positive h n = by (lt-or-le c f)
-  where
-    by : (c < f) ⊎ (f ≤ c) → f ≤ c
-    by (inl k) = absurd (omega (arith, positive, h, n .near, mul-le-mul-right y k, add-mul c 1 y))
-    by (inr k) = k
+use Rattle.demands.specs.Figure.{TheNearest}
 
 module _ (labelled unlabelled allowed : ℕ) where
   of-counts : hasEfficiency labelled unlabelled allowed ≡ true → TheNearest labelled unlabelled allowed (efficiencyOf labelled unlabelled allowed)
@@ -32,7 +20,7 @@ module _ (labelled unlabelled allowed : ℕ) where
       record {
         nearest = near;
         only = only-nearest (10000 * (labelled - allowed)) (labelled - unlabelled) divisor;
-        at-most = nearest-bounded (10000 * (labelled - allowed)) (labelled - unlabelled) 10000 divisor (omega (arith, c)) near;
+        at-most = nearest-at-most (10000 * (labelled - allowed)) (labelled - unlabelled) divisor (omega (arith, c)) near;
       }
 
   pub the-nearest : (figure : ℕ) → efficiencySays labelled unlabelled allowed ≡ done figure → TheNearest labelled unlabelled allowed figure

@@ -75,3 +75,11 @@ module _ (x y : ℕ) where
       by (inl h) more = absurd (not-two positive n (is-nearest positive) h)
       by (inr h) (inl k) = absurd (not-two positive (is-nearest positive) n k)
       by (inr h) (inr k) = omega (arith, h, k)
+
+  -- what is nearest to a quotient of at most c is at most c
+  pub nearest-at-most : {c f : ℕ} → 0 < y → x ≤ c * y → Nearest x y f → f ≤ c
+  nearest-at-most {c} {f} positive h n = by (lt-or-le c f)
+    where
+      by : (c < f) ⊎ (f ≤ c) → f ≤ c
+      by (inl k) = absurd (omega (arith, positive, h, n .near, mul-le-mul-right y k, add-mul c 1 y))
+      by (inr k) = k

@@ -1,10 +1,8 @@
-// Document 01's unstarred cases ("Tried on both edges") and CR 1's comments, run: each line is a case, its refusal (0 for none) and its place. Then random inputs of
-// the program, read from standard input, with what it prints for each; the script `make_batch.py` makes them and, by the reference, what is expected.
-use dimacs::Reading;
+// Document 01's unstarred cases ("Tried on both edges") and CR 1's comments, run: each line is a case, its refusal (0 for none) and its place. Then CR 4's outside
+// vectors, tables 2 and 3 of source document 000: each line is a row, the efficiency printed there, and ours.
 use offering::Offered;
 use opening::Opened;
-use printing::Handed;
-use stdio::Input;
+use store::answer::Answer;
 use store::record::Record;
 
 fn main() {
@@ -15,7 +13,8 @@ fn main() {
     rows();
     comments();
     no_comments();
-    batch();
+    acyclic_digraphs();
+    relations();
 }
 
 fn opened(name: &[u8], text: &[u8]) {
@@ -112,38 +111,31 @@ fn no_comments() {
     opened(b"after a comment: ", b"p cnf 1 1\nc x\n2 0\n");
 }
 
-// Each input of the batch follows its length, which has a line of its own.
-fn batch() {
-    let mut data = [0u8; 65536];
-    let Input::Bytes(read) = stdio::read(&mut data) else {
+// Table 2. Row 6 is left out: its labelled lacks a digit.
+fn acyclic_digraphs() {
+    figured(b"acyclic digraphs, 3, 89.47%: ", 25, 6, 8);
+    figured(b"acyclic digraphs, 4, 93.55%: ", 543, 31, 64);
+    figured(b"acyclic digraphs, 5, 97.51%: ", 29281, 302, 1024);
+    figured(
+        b"acyclic digraphs, 7, 99.84%: ",
+        1138779265,
+        243668,
+        2097152,
+    );
+}
+
+// Table 3. Rows 11 and 12 are left out: their counts give other figures than are printed.
+fn relations() {
+    figured(b"relations, 8, 99.26%: ", 102528, 303, 1057);
+    figured(b"relations, 9, 99.80%: ", 1327360, 1119, 3828);
+    figured(b"relations, 10, 99.94%: ", 52494848, 5479, 38160);
+}
+
+fn figured(name: &[u8], labelled: u64, unlabelled: u64, allowed: u64) {
+    let Answer::Value(figure) = calls::efficiency(labelled, unlabelled, allowed) else {
         return;
     };
-    inputs(&data[..read]);
-}
-
-fn inputs(data: &[u8]) {
-    let mut at = 0;
-    let mut count = 0;
-    loop {
-        let Reading::Found(size, past) = dimacs::read(data, at) else {
-            return;
-        };
-        let from = past.at + 1;
-        let to = from + size.size as usize;
-        if data.len() < to {
-            return;
-        }
-        count += 1;
-        heading(count);
-        let Handed::Bytes(_) = printing::print(&data[from..to]) else {
-            return;
-        };
-        at = to;
-    }
-}
-
-fn heading(count: u64) {
-    io::write_all(1, b"input ");
-    io::print_decimal(1, count);
+    io::write_all(1, name);
+    io::print_decimal(1, figure);
     io::write_all(1, b"\n");
 }

@@ -1,4 +1,4 @@
--- `cases::inputs` is safe and ends: each input lies past the one before it. Assumes nothing.
+-- `batch::inputs` is safe and ends: each input lies past the one before it. Assumes nothing.
 use mathlib.Core.Path.{sym, _∙_}
 use Prim.Native.Nat.{_-_, _≤_}
 use native.Mathlib.Omega.{arith}
@@ -7,8 +7,8 @@ use Rattle.dimacs.specs.Words.{isWordByte}
 use Rattle.dimacs.proofs.Runs.{run-within}
 use Rattle.dimacs.proofs.WordLaws.{read-found}
 use borrow.Author.Needs.{needs}
-use Rattle.cases.proofs.inputs.Statement.{statement}
-use Rattle.cases.proofs.inputs.Tie as tie
+use Rattle.batch.proofs.inputs.Statement.{statement}
+use Rattle.batch.proofs.inputs.Tie as tie
 
 abbrev Inv-loop : tie.InvT-loop
 Inv-loop «data» at₀ count₀ at count = (at ≤ length «data») × (count ≤ at)

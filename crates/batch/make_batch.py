@@ -1,8 +1,8 @@
 """Makes this program's stdin, a batch of random inputs of the symmetry breaker, and its stdout, by the reference.
 
 Takes no arguments and writes both files beside itself; a second run gives the same bytes. An input in stdin is a
-line with its length in bytes, then that many bytes. In stdout the lines of the fixed cases come first, then for
-input K (from 1) the line `input K` and what the reference prints for it.
+line with its length in bytes, then that many bytes. In stdout input K, from 1, has the line `input K` and what the
+reference prints for it.
 """
 import os
 import random
@@ -13,28 +13,6 @@ TESTS = os.path.join(HERE, "..", "..", "tests")
 sys.path[:0] = [os.path.join(TESTS, "reference"), os.path.join(TESTS, "host")]
 import generate
 import reference
-
-# Document 01, "Tried on both edges"; then CR 1.
-FIXED = [
-    b"512 variables: 0 0",
-    b"513 variables: 2 0",
-    b"nothing at all: 0 0",
-    b"minus zero: 3 10",
-    b"row 64: 0 0",
-    b"row 65: 22 0",
-    b"rows: 64",
-    b"inside a clause: 0 0",
-    b"between clauses: 0 0",
-    b"after the problem line: 0 0",
-    b"as the last line: 0 0",
-    b"without a line feed: 0 0",
-    b"after no clauses: 0 0",
-    b"a blank first: 3 11",
-    b"a blank first, last: 6 15",
-    b"inside a line: 3 12",
-    b"comments alone: 6 16",
-    b"after a comment: 4 14",
-]
 
 # How many inputs of each kind: refused with a number, or accepted with as many rows that move something.
 WANTED = {**{("refused", number): 3 for number in (1, 3, 4, 6, 7, 8, 9, 10, 11, 15)},
@@ -71,8 +49,7 @@ def write(name, parts):
 def main():
     inputs = batch(random.Random(8))
     write("stdin", [b"%d\n%b" % (len(data), data) for data in inputs])
-    fixed = [line + b"\n" for line in FIXED]
-    write("stdout", fixed + [b"input %d\n%b" % (k, reference.program(data)) for k, data in enumerate(inputs, 1)])
+    write("stdout", [b"input %d\n%b" % (k, reference.program(data)) for k, data in enumerate(inputs, 1)])
 
 
 if __name__ == "__main__":

@@ -13,7 +13,7 @@ fn main() {
     rows();
     comments();
     no_comments();
-    acyclic_digraphs();
+    digraphs();
     relations();
 }
 
@@ -111,24 +111,19 @@ fn no_comments() {
     opened(b"after a comment: ", b"p cnf 1 1\nc x\n2 0\n");
 }
 
-// Table 2. Row 6 is left out: its labelled lacks a digit.
-fn acyclic_digraphs() {
-    figured(b"acyclic digraphs, 3, 89.47%: ", 25, 6, 8);
-    figured(b"acyclic digraphs, 4, 93.55%: ", 543, 31, 64);
-    figured(b"acyclic digraphs, 5, 97.51%: ", 29281, 302, 1024);
-    figured(
-        b"acyclic digraphs, 7, 99.84%: ",
-        1138779265,
-        243668,
-        2097152,
-    );
+// Table 2, acyclic digraphs. n = 6 is left out: its labelled lacks a digit.
+fn digraphs() {
+    figured(b"digraphs, n = 3, 89.47%: ", 25, 6, 8);
+    figured(b"digraphs, n = 4, 93.55%: ", 543, 31, 64);
+    figured(b"digraphs, n = 5, 97.51%: ", 29281, 302, 1024);
+    figured(b"digraphs, n = 7, 99.84%: ", 1138779265, 243668, 2097152);
 }
 
-// Table 3. Rows 11 and 12 are left out: their counts give other figures than are printed.
+// Table 3. n = 11 and n = 12 are left out: their counts give other figures than are printed.
 fn relations() {
-    figured(b"relations, 8, 99.26%: ", 102528, 303, 1057);
-    figured(b"relations, 9, 99.80%: ", 1327360, 1119, 3828);
-    figured(b"relations, 10, 99.94%: ", 52494848, 5479, 38160);
+    figured(b"relations, n = 8, 99.26%: ", 102528, 303, 1057);
+    figured(b"relations, n = 9, 99.80%: ", 1327360, 1119, 3828);
+    figured(b"relations, n = 10, 99.94%: ", 52494848, 5479, 38160);
 }
 
 fn figured(name: &[u8], labelled: u64, unlabelled: u64, allowed: u64) {

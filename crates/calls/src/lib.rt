@@ -299,7 +299,7 @@ pub fn lesser<'a>(a: &'a [u64], b: &'a [u64]) -> &'a [u64]
 
 // ---- the quality figure
 
-// Hundredths of a percent.
+// Hundredths of a percent, to the nearest; an exact half goes to the even one.
 pub fn efficiency(labelled: u64, unlabelled: u64, allowed: u64) -> Answer
     ensures { λ r. ⌜ said r ≡ efficiencySays labelled unlabelled allowed ⌝ }
 {

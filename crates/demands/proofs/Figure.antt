@@ -17,11 +17,7 @@ module _ (labelled unlabelled allowed : ℕ) where
       let c = counts labelled unlabelled allowed has in
       let divisor : 0 < labelled - unlabelled = omega (arith, c) in
       let near = is-nearest (10000 * (labelled - allowed)) (labelled - unlabelled) divisor in
-      record {
-        nearest = near;
-        only = only-nearest (10000 * (labelled - allowed)) (labelled - unlabelled) divisor;
-        at-most = nearest-at-most (10000 * (labelled - allowed)) (labelled - unlabelled) divisor (omega (arith, c)) near;
-      }
+      record { nearest = near; only = only-nearest _ _ divisor; at-most = nearest-at-most _ _ divisor (omega (arith, c)) near }
 
   pub the-nearest : (figure : ℕ) → efficiencySays labelled unlabelled allowed ≡ done figure → TheNearest labelled unlabelled allowed figure
   unfolding efficiencySays

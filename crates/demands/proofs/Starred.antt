@@ -1,4 +1,5 @@
--- Document 01's starred cases ("Tried on both edges"): one table, by computation on what the calls say and leave. Assumes nothing.
+-- Document 01's starred cases ("Tried on both edges"), the figures as document 02's CR 4 has them: one table, by computation on what the calls say and leave.
+-- Assumes nothing.
 use mathlib.Core.Path.{_≡_, refl}
 use mathlib.Core.List.{List, [], _∷_}
 use Prim.Native.Nat.{ℕ, _*_, _^_}
@@ -67,7 +68,7 @@ filling s a = filled (fillSays s (a ∷ []) 1) (fillLeaves s (a ∷ []) (0 ∷ [
 
 -- The values of three variables stand in the highest bits of a word: 110 is 6 · 2 ^ 61. In the order of the paper: the listing's offers; with its row 110 settles at
 -- 011 with one move, is spent at once with limit 0, where 011 settles; 101 fills in as 1011, 011 as 0110; with the row `2 3 1`, 100 settles at 001 and 010
--- unmoved; the figures.
+-- unmoved; the figures, CR 4's exact halves last.
 starred :
     offered (offerSays listing (49 ∷ 32 ∷ 51 ∷ []) (51 ∷ 32 ∷ 49 ∷ []))
     ∷ offered (offerSays listing (49 ∷ 32 ∷ 50 ∷ []) (50 ∷ 32 ∷ 49 ∷ []))

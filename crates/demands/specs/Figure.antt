@@ -5,7 +5,8 @@ use Prim.Native.Nat.{ℕ, _-_, _*_, _≤_}
 use Rattle.quality.specs.Rounding.{Nearest}
 
 module _ (labelled unlabelled allowed : ℕ) where
-  -- a number of hundredths of a percent is the nearest to 10,000 × (labelled - allowed) / (labelled - unlabelled)
+  -- a number is the nearest to 10,000 × (labelled - allowed) / (labelled - unlabelled): twice the distance is at most the divisor, and where it is exactly the divisor
+  -- the number is even
   abbrev pub NearestHundredth : ℕ → Type 0
   NearestHundredth = Nearest (10000 * (labelled - allowed)) (labelled - unlabelled)
 

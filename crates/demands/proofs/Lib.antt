@@ -12,6 +12,6 @@ pub mod Refusing
 pub mod OfferRefusals
 pub mod OpenRefusals
 pub mod Demand1
-pub mod Figure
+pub mod Efficiency
 pub mod Starred
 pub mod Examples

@@ -4,4 +4,4 @@ pub mod Demand2
 pub mod Lists
 pub mod Demand3
 pub mod TakingBack
-pub mod Figure
+pub mod Efficiency

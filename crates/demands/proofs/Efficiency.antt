@@ -8,7 +8,7 @@ use Rattle.quality.proofs.Rounding.{is-nearest, only-nearest, nearest-at-most}
 use Rattle.quality.proofs.Laws.{counts}
 use Rattle.store.specs.Refusals.{done, refused}
 use Rattle.calls.specs.Calls.{efficiencySays}
-use Rattle.demands.specs.Figure.{TheNearest}
+use Rattle.demands.specs.Efficiency.{TheNearest}
 
 module _ (labelled unlabelled allowed : ℕ) where
   of-counts : hasEfficiency labelled unlabelled allowed ≡ true → TheNearest labelled unlabelled allowed (efficiencyOf labelled unlabelled allowed)

@@ -1,4 +1,4 @@
--- Document 02, CR 4: "The figure is now the nearest hundredth of a percent, an exact half going to the even one." `the-nearest` (proofs/Figure.antt) says that
+-- Document 02, CR 4: "The figure is now the nearest hundredth of a percent, an exact half going to the even one." `the-nearest` (proofs/Efficiency.antt) says that
 -- `TheNearest` holds of every three counts that the call does not refuse and of the figure that it answers. Assumes nothing.
 use mathlib.Core.Path.{_≡_}
 use Prim.Native.Nat.{ℕ, _-_, _*_, _≤_}

@@ -1,4 +1,4 @@
-"""Tests of the reference: the worked cases of 01, the examples of the readings A-I, demand 3 by brute force."""
+"""Tests of the reference: the worked cases of 01, the examples of the readings A-I, the tables of 000, demand 3 by brute force."""
 import copy
 import itertools
 import random

@@ -9,7 +9,7 @@ quotients : nearestOf 1 2 ∷ nearestOf 3 2 ∷ nearestOf 5 2 ∷ nearestOf 6 2 
 unfolding nearestOf
 quotients = refl
 
--- 9,999.5 and 9,998.5, and a little less and more
+-- exactly 10,000; then 9,999.5 and 9,998.5, a little less than the one and a little more than the other
 figures :
     efficiencyOf 1000000000000 0 0 ∷ efficiencyOf 1000000000000 0 50000000 ∷ efficiencyOf 1000000000000 0 150000000
     ∷ efficiencyOf 1000000000000 0 50000001 ∷ efficiencyOf 1000000000000 0 149999999 ∷ []

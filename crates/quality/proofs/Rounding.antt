@@ -1,5 +1,5 @@
 -- `nearestOf x y` is the nearest whole number to x / y, and no other is. What carries it: x lies x % y past the multiple of y below it and y - x % y short of the next,
--- and two numbers that are both at most half of y away from x / y are next to each other, each exactly half away, and one of them is odd. Assumes nothing.
+-- and of two numbers whose multiples of y are both at most half of y away from x, one is the next after the other, both are exactly half away, and one is odd. Assumes nothing.
 use mathlib.Core.Path.{_≡_, sym, subst}
 use mathlib.Core.Logic.{_⊎_, inl, inr}
 use Prim.Native.Nat.{ℕ, _+_, _-_, _*_, _/_, _%_, _≤_, _<_}

@@ -92,33 +92,35 @@ typedef struct {
 /* A new store's record: closed, and all counts 0. */
 symbreak_record symbreak_new_record(void);
 
-/* The store is what the host lends at every call: the record, as four numbers, and three slices.
+/* The store is what the host lends at every call: the record, as four numbers, and four slices.
  *   literals  the clauses' literals in order, as codes: 2 * i for variable i, 2 * i + 1 for its negation; SYMBREAK_MAX_LITERALS entries are always enough
  *   ends      for each clause the count of literals up to its end; SYMBREAK_MAX_CLAUSES entries are always enough
+ *   keys      for each clause its key, the sum modulo 2^64 of a fixed number for each different literal in it (docs/KEYS.md lists the numbers), which opening
+ *             writes; SYMBREAK_MAX_CLAUSES entries are always enough
  *   images    one row of n codes for each accepted permutation, the image of variable i at index i - 1; SYMBREAK_MAX_ROWS * n entries are always enough
- * Entries past those in use are never looked at and never changed. */
+ * Entries past those in use are never looked at and never changed. A key in use that is not its clause's makes the store badly formed (21). */
 
 /* Opens a formula: it replaces what the store held and drops its rows. The record lent is handed back at a refusal and not looked at otherwise.
  * The text is DIMACS CNF: the line `p cnf n m`, then m clauses, each a list of literals closed by 0. Lines whose first byte is `c` are skipped, before that
  * line and after it, also inside a clause; they count in offsets and in the text's length. Words are separated by spaces, tabs and line feeds; a number is an
  * optional `-` and one to six digits without leading zeros. A carriage return is no blank: it belongs to a word, so that lines that end in one are refused.
  * Clauses may be empty, repeated, or hold a literal twice or with its negation.
- * Refusals 1 to 6, the first fault from the left; then 23 for literals, then 23 for ends. */
+ * Refusals 1 to 6, the first fault from the left; then 23 for literals, then 23 for ends, then 23 for keys. */
 symbreak_stored symbreak_open(uint64_t variables, uint64_t clauses, uint64_t rows, uint64_t is_open, const uint8_t *text, size_t text_len,
-                              uint16_t *literals, size_t literals_len, uint16_t *ends, size_t ends_len);
+                              uint16_t *literals, size_t literals_len, uint16_t *ends, size_t ends_len, uint64_t *keys, size_t keys_len);
 
 /* Offers a permutation p: a line of names and a line of values in that order, without line feeds. p takes each name to its value, and variables that are not
  * named stay. It is held, as one row more, exactly when it takes the formula's set of clauses to itself. images must have room for (rows + 1) * n entries.
  * Refusals 20, 21, 22, 7, 8, 9, 10, 11, 23, in this order. */
 symbreak_stored symbreak_offer(uint64_t variables, uint64_t clauses, uint64_t rows, uint64_t is_open, const uint16_t *literals, size_t literals_len,
-                               const uint16_t *ends, size_t ends_len, uint16_t *images, size_t images_len, const uint8_t *names, size_t names_len,
-                               const uint8_t *values, size_t values_len);
+                               const uint16_t *ends, size_t ends_len, const uint64_t *keys, size_t keys_len, uint16_t *images, size_t images_len,
+                               const uint8_t *names, size_t names_len, const uint8_t *values, size_t values_len);
 
 /* Takes back the newest row: that of the offer accepted last, of those not taken back before. Its clauses and auxiliaries are gone with it, and the next row
  * gets its auxiliaries' numbers. Only the count of rows in the record falls: no slice is written, and the row's entries are then past those in use.
  * Refusals 20, 21, 30, in this order. */
 symbreak_stored symbreak_withdraw(uint64_t variables, uint64_t clauses, uint64_t rows, uint64_t is_open, const uint16_t *literals, size_t literals_len,
-                                  const uint16_t *ends, size_t ends_len, const uint16_t *images, size_t images_len);
+                                  const uint16_t *ends, size_t ends_len, const uint64_t *keys, size_t keys_len, const uint16_t *images, size_t images_len);
 
 /* The made formula: the plain clauses, then those of each row. Header and clauses are written one line at a time, each with its line feed; the value is
  * the line's length in bytes, and bytes past it stay. N and M are the two numbers of the header. A line of L literals has at most 7 * L + 2 bytes, and a
@@ -128,12 +130,13 @@ symbreak_stored symbreak_withdraw(uint64_t variables, uint64_t clauses, uint64_t
 
 /* The header, `p cnf N M`. Refusals 20, 21, 23. */
 symbreak_answer symbreak_header(uint64_t variables, uint64_t clauses, uint64_t rows, uint64_t is_open, const uint16_t *literals, size_t literals_len,
-                                const uint16_t *ends, size_t ends_len, const uint16_t *images, size_t images_len, uint8_t *out, size_t out_len);
+                                const uint16_t *ends, size_t ends_len, const uint64_t *keys, size_t keys_len, const uint16_t *images, size_t images_len,
+                                uint8_t *out, size_t out_len);
 
 /* Clause q, from 1 to the M of the header. Refusals 20, 21, 13, 23. */
 symbreak_answer symbreak_clause(uint64_t variables, uint64_t clauses, uint64_t rows, uint64_t is_open, const uint16_t *literals, size_t literals_len,
-                                const uint16_t *ends, size_t ends_len, const uint16_t *images, size_t images_len, uint64_t q, uint8_t *out,
-                                size_t out_len);
+                                const uint16_t *ends, size_t ends_len, const uint64_t *keys, size_t keys_len, const uint16_t *images, size_t images_len,
+                                uint64_t q, uint8_t *out, size_t out_len);
 
 /* Assignments are 64-bit words: variable 1 is the highest bit of the first word, 1 is true, spare low bits are 0, and the count of words is just enough:
  * (n + 63) / 64 for the plain formula's n variables, (N + 63) / 64 for the made formula's N, at most SYMBREAK_MAX_WORDS. To take the plain part of a made
@@ -143,20 +146,21 @@ symbreak_answer symbreak_clause(uint64_t variables, uint64_t clauses, uint64_t r
 /* Writes the assignment of 1..N that an assignment a of 1..n fills in as: a itself, and each auxiliary true exactly where a agrees with a moved so far. The
  * value is the count of words written; words past them stay. Refusals 20, 21, 12, 23. */
 symbreak_answer symbreak_fill_in(uint64_t variables, uint64_t clauses, uint64_t rows, uint64_t is_open, const uint16_t *literals, size_t literals_len,
-                                 const uint16_t *ends, size_t ends_len, const uint16_t *images, size_t images_len, const uint64_t *a, size_t a_len,
-                                 uint64_t *out, size_t out_len);
+                                 const uint16_t *ends, size_t ends_len, const uint64_t *keys, size_t keys_len, const uint16_t *images, size_t images_len,
+                                 const uint64_t *a, size_t a_len, uint64_t *out, size_t out_len);
 
 /* Checks an assignment of 1..N against the made formula: the value is 0 for yes, or the number, from 1, of the first clause that is false.
  * Refusals 20, 21, 12. */
 symbreak_answer symbreak_check(uint64_t variables, uint64_t clauses, uint64_t rows, uint64_t is_open, const uint16_t *literals, size_t literals_len,
-                               const uint16_t *ends, size_t ends_len, const uint16_t *images, size_t images_len, const uint64_t *a, size_t a_len);
+                               const uint16_t *ends, size_t ends_len, const uint64_t *keys, size_t keys_len, const uint16_t *images, size_t images_len,
+                               const uint64_t *a, size_t a_len);
 
 /* Moves an assignment a of 1..n by the first row that makes it smaller, from the first row again after each move, at most as often as the limit says. It
  * settles where no row makes it smaller, and is spent where the moves equal the limit and one still does; a holds the assignment reached either way. From
  * a model of the formula, a settled descent ends on a kept one. Refusals 20, 21, 12. */
 symbreak_descent symbreak_descend(uint64_t variables, uint64_t clauses, uint64_t rows, uint64_t is_open, const uint16_t *literals, size_t literals_len,
-                                  const uint16_t *ends, size_t ends_len, const uint16_t *images, size_t images_len, uint64_t *a, size_t a_len,
-                                  uint64_t limit);
+                                  const uint16_t *ends, size_t ends_len, const uint64_t *keys, size_t keys_len, const uint16_t *images, size_t images_len,
+                                  uint64_t *a, size_t a_len, uint64_t limit);
 
 /* Compares two assignments of one length, of at most SYMBREAK_MAX_WORDS words of any value. The value is the variable at which a and b first differ, or 0
  * where they are equal. Refusal 12. */

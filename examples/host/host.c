@@ -9,9 +9,10 @@
 /* A store as the calls take it, lent whole each time: the library keeps nothing. */
 static symbreak_record record;
 static uint16_t literals[SYMBREAK_MAX_LITERALS], ends[SYMBREAK_MAX_CLAUSES], images[SYMBREAK_MAX_ROWS * SYMBREAK_MAX_VARIABLES];
+static uint64_t keys[SYMBREAK_MAX_CLAUSES];
 #define SLICE(array) array, sizeof(array) / sizeof *(array)
 #define RECORD record.variables, record.clauses, record.rows, record.is_open
-#define STORE RECORD, SLICE(literals), SLICE(ends), SLICE(images)
+#define STORE RECORD, SLICE(literals), SLICE(ends), SLICE(keys), SLICE(images)
 
 /* The record to lend at the next call; from a refusal it is the one that was lent. */
 static symbreak_record record_of(symbreak_stored s) { return (symbreak_record){s.variables, s.clauses, s.rows, s.is_open}; }
@@ -27,7 +28,7 @@ static uint64_t value(const char *call, symbreak_answer answer)
 static void open_formula(text formula)
 {
     record = symbreak_new_record();
-    symbreak_stored stored = symbreak_open(RECORD, formula.bytes, formula.length, SLICE(literals), SLICE(ends));
+    symbreak_stored stored = symbreak_open(RECORD, formula.bytes, formula.length, SLICE(literals), SLICE(ends), SLICE(keys));
     if (refused("formula", stored.refusal, stored.place))
         exit(EXIT_FAILURE);
     record = record_of(stored);

@@ -14,17 +14,17 @@ def told(record):
 
 class Agree(unittest.TestCase):
     def open(self, host, text):
-        record, literals, ends, images = before = host.parts()
-        expected, record, literals, ends = reference.open_formula(record, text, literals, ends)
+        *opened, images = before = host.parts()
+        expected, record, *slices = reference.open_formula(opened[0], text, *opened[1:])
         answer = host.open(text)
-        self.assertEqual((answer, *host.parts()), (expected, told(record), literals, ends, images), (before, text))
+        self.assertEqual((answer, *host.parts()), (expected, told(record), *slices, images), (before, text))
         return answer
 
     def offer(self, host, names, values):
         before = host.parts()
         expected, record, images = reference.offer(*before, names, values)
         answer = host.offer(names, values)
-        self.assertEqual((answer, *host.parts()), (expected, told(record), before[1], before[2], images), (before, names, values))
+        self.assertEqual((answer, *host.parts()), (expected, told(record), *before[1:4], images), (before, names, values))
         return answer
 
     def withdraw(self, host):

@@ -1,6 +1,10 @@
 """Random input for the tests: formulas that are symmetric by construction, texts and lines that are in order or damaged."""
 import itertools
+import operator
 import re
+
+import library  # which makes the reference importable
+import reference
 
 
 def permutation(chance, n):
@@ -226,38 +230,74 @@ def repaired(chance, clauses, given):
     return "".join(changed)
 
 
+def summed(codes):
+    """The sum modulo 2^64 of the numbers of codes, each as often as it comes. A code that is no literal's adds nothing."""
+    return sum(reference.NUMBERS.get(reference.literal_of(code), 0) for code in codes) % 2 ** 64
+
+
+def clauses_of(literals, ends):
+    return [literals[start:end] for start, end in zip([0, *ends], ends)]
+
+
+def keys_of(literals, ends):
+    """The keys of the clauses that these codes and ends make."""
+    return [summed(set(clause)) for clause in clauses_of(literals, ends)]
+
+
 def store(chance, n, clauses, rows, flag):
     """The numbers and slices of a store that holds these clauses and rows, with entries of any value past those in use, at times as many as a row."""
     literals = [2 * abs(literal) + (literal < 0) for clause in clauses for literal in clause]
     ends = list(itertools.accumulate(len(clause) for clause in clauses))
-    images = [2 * image for row in rows for image in row]
-    spare = [[chance.randrange(65536) for _ in range(chance.choice([0, 0, 1, most]))] for most in (3, 3, n)]
-    return (n, len(clauses), len(rows), flag), literals + spare[0], ends + spare[1], images + spare[2]
+    slices = literals, ends, keys_of(literals, ends), [2 * image for row in rows for image in row]
+    spare = [[chance.getrandbits(bits) for _ in range(chance.choice([0, 0, 1, most]))] for most, bits in [(3, 16), (3, 16), (3, 64), (n, 16)]]
+    return (n, len(clauses), len(rows), flag), *map(operator.add, slices, spare)
 
 
 EDGES = [0, 1, 2, 3, 63, 64, 65, 512, 513, 4096, 4097, 2 ** 16, 2 ** 32, 2 ** 55, 2 ** 63, 2 ** 64 - 1]
 
 
-def damaged_store(chance, record, literals, ends, images):
-    """A store that no call left so: counts, the flag, an entry in use or a slice's length changed."""
-    slices = [list(literals), list(ends), list(images)]
-    for _ in range(chance.choice([1, 1, 1, 2])):
-        kind = chance.randrange(6)
+def put_wrong_key(chance, clauses, keys):
+    """Makes a key any number, changes a bit of it, exchanges two, or counts the literals of a clause as often as they come."""
+    at, other = (chance.randrange(len(clauses)) for _ in range(2))
+    kind = chance.randrange(4)
+    if kind == 0:
+        keys[at] = chance.choice([0, 1, 2 ** 64 - 1, chance.getrandbits(64)])
+    elif kind == 1:
+        keys[at] ^= 1 << chance.randrange(64)
+    elif kind == 2:
+        keys[at], keys[other] = keys[other], keys[at]
+    else:
+        repeating = [q for q, clause in enumerate(clauses) if len(set(clause)) < len(clause)]
+        at = chance.choice(repeating or [at])
+        keys[at] = summed(clauses[at])
+
+
+def damaged_store(chance, record, literals, ends, keys, images):
+    """A store that no call left so: counts, the flag, an entry in use, a slice's length or a key changed. Mostly the keys are those of the clauses as changed,
+    so that they hide no other damage."""
+    slices = literals, ends, keys, images = [list(part) for part in (literals, ends, keys, images)]
+    kinds = chance.choices(range(7), k=chance.choice([1, 1, 1, 2]))
+    for kind in kinds:
         if kind == 0:
             for field in chance.sample(["variables", "clauses", "rows"], chance.choice([1, 1, 1, 2, 3])):
                 record = record._replace(**{field: chance.choice([*EDGES, min(getattr(record, field) + 1, EDGES[-1])])})
         elif kind == 1:
             record = record._replace(open=chance.choice([0, 0, 0, 1, 2, 2 ** 32, 2 ** 64 - 1]))
-        else:
-            which = chance.randrange(3)
-            part, used = slices[which], [max(slices[1][:record.clauses], default=0), record.clauses, record.rows * record.variables][which]
+        elif kind < 6:
+            which = chance.randrange(4) if kind == 2 else chance.choice([0, 1, 3])
+            part, used = slices[which], [max(ends[:record.clauses], default=0), record.clauses, record.clauses, record.rows * record.variables][which]
             used = min(used, len(part))
             if kind == 2:
                 del part[max(chance.choice([used - 1, chance.randint(0, used), 0]), 0):]
             elif used:
                 at = chance.randrange(used)
                 part[at] = chance.choice([0, 1, 65535, part[at] ^ 1, part[at] + 1, part[at] - 1, chance.choice(part), chance.randrange(300)]) % 65536
-    return record, *slices
+    keyed = clauses_of(literals, ends[:record.clauses])[:len(keys)]
+    if chance.random() < 0.8:
+        keys[:len(keyed)] = [summed(set(clause)) for clause in keyed]
+    if 6 in kinds and keyed:
+        put_wrong_key(chance, keyed, keys)
+    return record, literals, ends, keys, images
 
 
 def misfit(chance, n, words):

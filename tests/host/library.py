@@ -13,6 +13,8 @@ sys.path.insert(0, os.path.join(ROOT, "tests", "reference"))
 TOP = 2 ** 64 - 1
 
 NUMBER, SLICE = [ctypes.c_uint64], [ctypes.c_void_p, ctypes.c_size_t]
+RECORD = NUMBER * 4
+STORE = RECORD + SLICE * 4
 
 
 class Record(ctypes.Structure):
@@ -33,14 +35,14 @@ class Stored(ctypes.Structure):
 
 EXPORTS = {
     "symbreak_new_record": (Record, []),
-    "symbreak_open": (Stored, NUMBER * 4 + SLICE * 3),
-    "symbreak_offer": (Stored, NUMBER * 4 + SLICE * 5),
-    "symbreak_withdraw": (Stored, NUMBER * 4 + SLICE * 3),
-    "symbreak_header": (Answer, NUMBER * 4 + SLICE * 4),
-    "symbreak_clause": (Answer, NUMBER * 4 + SLICE * 3 + NUMBER + SLICE),
-    "symbreak_fill_in": (Answer, NUMBER * 4 + SLICE * 5),
-    "symbreak_check": (Answer, NUMBER * 4 + SLICE * 4),
-    "symbreak_descend": (Descent, NUMBER * 4 + SLICE * 4 + NUMBER),
+    "symbreak_open": (Stored, RECORD + SLICE * 4),
+    "symbreak_offer": (Stored, STORE + SLICE * 2),
+    "symbreak_withdraw": (Stored, STORE),
+    "symbreak_header": (Answer, STORE + SLICE),
+    "symbreak_clause": (Answer, STORE + NUMBER + SLICE),
+    "symbreak_fill_in": (Answer, STORE + SLICE * 2),
+    "symbreak_check": (Answer, STORE + SLICE),
+    "symbreak_descend": (Descent, STORE + SLICE + NUMBER),
     "symbreak_compare": (Answer, SLICE * 2),
     "symbreak_efficiency": (Answer, NUMBER * 3),
 }
@@ -164,29 +166,31 @@ def compare(library, a, b):
 
 
 class Host:
-    """A store as a host keeps it: a record and three slices, lent at each call. A slice that a call only reads is said to have `beyond` entries more
+    """A store as a host keeps it: a record and four slices, lent at each call. A slice that a call only reads is said to have `beyond` entries more
     than it has, which a call may not look at where they are not in use."""
 
     beyond = 0
 
-    def __init__(self, library, record, literals, ends, images):
+    def __init__(self, library, record, literals, ends, keys, images):
         self.library = library
-        self.put(record, literals, ends, images)
+        self.put(record, literals, ends, keys, images)
 
-    def put(self, record, literals, ends, images):
+    def put(self, record, literals, ends, keys, images):
         """Keeps another store."""
         self.record = record
         self.literals, self.ends, self.images = (memory.lend(ctypes.c_uint16, part) for part in (literals, ends, images))
+        self.keys = memory.lend(ctypes.c_uint64, keys)
 
     def parts(self):
         """All that is lent, as the reference has it."""
-        return self.record, self.literals[:], self.ends[:], self.images[:]
+        return self.record, self.literals[:], self.ends[:], self.keys[:], self.images[:]
 
     def _numbers(self):
         return self.record.variables, self.record.clauses, self.record.rows, int(self.record.open)
 
     def _store(self, written=None):
-        return *self._numbers(), *((part, len(part) + (self.beyond if part is not written else 0)) for part in (self.literals, self.ends, self.images))
+        slices = self.literals, self.ends, self.keys, self.images
+        return *self._numbers(), *((part, len(part) + (self.beyond if part is not written else 0)) for part in slices)
 
     def _told(self, answer, done):
         """The answer, and the record beside it, which says open as 1."""
@@ -196,7 +200,7 @@ class Host:
 
     def open(self, text):
         lent = memory.lend(ctypes.c_uint8, text)
-        slices = lent, self.literals, self.ends
+        slices = lent, self.literals, self.ends, self.keys
         answer = call(self.library.symbreak_open, *self._numbers(), *map(whole, slices), written=slices[1:])
         assert bytes(lent) == text
         return self._told(answer, lambda record: ("done", record.variables, record.clauses))

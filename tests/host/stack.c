@@ -29,7 +29,7 @@ static uint64_t *from, *lowest;
 
 static char text[1 << 17], names[1 << 12], values[1 << 12];
 static uint16_t literals[L], ends[M], images[R * N];
-static uint64_t plain[N / 64], full[W];
+static uint64_t keys[M], plain[N / 64], full[W];
 static uint8_t out[64];
 static symbreak_record record;
 static symbreak_stored stored;
@@ -37,10 +37,10 @@ static symbreak_answer answer;
 static symbreak_descent descent;
 
 #define RECORD record.variables, record.clauses, record.rows, record.is_open
-#define STORE RECORD, literals, L, ends, M, images, R *N
+#define STORE RECORD, literals, L, ends, M, keys, M, images, R *N
 
 static void call_new_record(void) { ON_STACK(record = symbreak_new_record()); }
-static void call_open(void) { ON_STACK(stored = symbreak_open(RECORD, (uint8_t *)text, strlen(text), literals, L, ends, M)); }
+static void call_open(void) { ON_STACK(stored = symbreak_open(RECORD, (uint8_t *)text, strlen(text), literals, L, ends, M, keys, M)); }
 static void call_offer(void) { ON_STACK(stored = symbreak_offer(STORE, (uint8_t *)names, strlen(names), (uint8_t *)values, strlen(values))); }
 static void call_withdraw(void) { ON_STACK(stored = symbreak_withdraw(STORE)); }
 static void call_header(void) { ON_STACK(answer = symbreak_header(STORE, out, sizeof out)); }

@@ -125,7 +125,8 @@ class Random(Agree):
         yield "withdraw", self.withdraw(host)
         text = generate.text(chance, n, clauses)
         record = host.record._replace(variables=chance.choice(generate.EDGES), open=chance.choice([0, 1, TOP]))
-        host.put(record, entries(chance, about(chance, sum(map(len, clauses)))), entries(chance, about(chance, len(clauses))), [])
+        slices = (entries(chance, about(chance, needed), bits) for needed, bits in [(sum(map(len, clauses)), 16), (len(clauses), 16), (len(clauses), 64)])
+        host.put(record, *slices, [])
         yield "open", self.open(host, generate.damaged(chance, text) if chance.random() < 0.5 else text)
 
     def compared(self, chance):
@@ -162,6 +163,10 @@ class Withdrawals(test_host.Withdrawals):
     test_lists = test_damaged = None
 
 
+class Keys(test_host.Keys):
+    test_random = None
+
+
 class Compare(test_host.Compare):
     test_random = None
 
@@ -170,7 +175,7 @@ def load_tests(loader, *_):
     """The guards, then all cases at the end of a page and again at the start of one."""
     suite = loader.loadTestsFromTestCase(Guards)
     for name, memory in [("AtEnd", END), ("AtStart", START)]:
-        for case in [Random, Stores, Withdrawals, Compare, test_models.Worked, test_models.Refusals]:
+        for case in [Random, Stores, Withdrawals, Keys, Compare, test_models.Worked, test_models.Refusals]:
             placed = type(case.__name__ + name, (case,), {"setUp": lambda self, memory=memory: setattr(library, "memory", memory)})
             suite.addTests(loader.loadTestsFromTestCase(placed))
     return suite

@@ -11,10 +11,12 @@ import tables
 from agree import LIBRARY, Agree
 from library import TOP
 
+LISTING = b"p cnf 3 2\n1 2 0\n2 3 0\n"
 
-def fresh(literals=64, ends=64, images=256, entry=7):
+
+def fresh(literals=64, ends=64, keys=64, images=256, entry=7):
     """A store that was never opened, with something in every entry."""
-    return library.Host(LIBRARY, reference.new_record(), [entry] * literals, [entry] * ends, [entry] * images)
+    return library.Host(LIBRARY, reference.new_record(), *([entry] * length for length in (literals, ends, keys, images)))
 
 
 class Stores(Agree):
@@ -34,17 +36,16 @@ class Stores(Agree):
         self.assertEqual((record.variables, record.clauses, record.rows, bool(record.is_open)), tuple(reference.new_record()))
 
     def test_worked_cases(self):
-        listing = b"p cnf 3 2\n1 2 0\n2 3 0\n"
         for names, values, expected in [(b"1 3", b"3 1", ("done",)), (b"1 2", b"2 1", ("refused", 11, 2)), (b"1 3", b"3", ("refused", 10, 1)),
                                         (b"1 3", b"3 3", ("refused", 10, 2)), (b"1 1", b"", ("refused", 8, 2)), (b"4", b"", ("refused", 8, 0))]:
             host = fresh()
-            self.assertEqual(self.open(host, listing), ("done", 3, 2))
+            self.assertEqual(self.open(host, LISTING), ("done", 3, 2))
             self.assertEqual(self.offer(host, names, values), expected)
         self.assertEqual(self.open(fresh(), b"p cnf 0 0"), ("done", 0, 0))
         self.assertEqual(self.open(fresh(), b"p cnf 1 1\n-0 0"), ("refused", 3, 10))
 
     def test_limits(self):
-        full = fresh(literals=12289, ends=4097)
+        full = fresh(literals=12289, ends=4097, keys=4097)
         self.assertEqual(self.open(full, b"p cnf 512 0"), ("done", 512, 0))
         self.assertEqual(self.open(full, b"p cnf 513 0"), ("refused", 2, 0))
         self.assertEqual(self.open(full, b"p cnf 0 4096" + b"\n0" * 4096), ("done", 0, 4096))
@@ -52,7 +53,8 @@ class Stores(Agree):
         self.assertEqual(self.open(full, b"p cnf 1 1\n" + b"1 " * 12288 + b"0"), ("done", 1, 1))
         self.assertEqual(self.open(full, b"p cnf 1 1\n" + b"1 " * 12289 + b"0"), ("refused", 5, 10 + 2 * 12288))
         self.assertEqual(self.open(fresh(literals=12287), b"p cnf 1 1\n" + b"1 " * 12288 + b"0"), ("refused", 23, 12288))
-        self.assertEqual(self.open(fresh(ends=4095), b"p cnf 0 4096" + b"\n0" * 4096), ("refused", 23, 4096))
+        self.assertEqual(self.open(fresh(ends=4095, keys=4096), b"p cnf 0 4096" + b"\n0" * 4096), ("refused", 23, 4096))
+        self.assertEqual(self.open(fresh(ends=4096, keys=4095), b"p cnf 0 4096" + b"\n0" * 4096), ("refused", 23, 4096))
         rows = fresh(images=2 * 64)
         self.open(rows, b"p cnf 2 1\n1 2 0\n")
         for _ in range(64):
@@ -68,7 +70,7 @@ class Stores(Agree):
         clauses = [[1 + i % 512, -(1 + (i * 7) % 512), 1 + (i * 11) % 512] for i in range(2048)]
         swap = [i + 1 if i % 2 else i - 1 for i in range(1, 513)]
         clauses = [each for clause in clauses for each in (clause, generate.image(clause, swap))]
-        host = fresh(literals=12288, ends=4096, images=1024)
+        host = fresh(literals=12288, ends=4096, keys=4096, images=1024)
         self.assertEqual(self.open(host, generate.text(random.Random(3), 512, clauses)), ("done", 512, 4096))
         names = b" ".join(b"%d" % i for i in range(1, 513))
         self.assertEqual(self.offer(host, names, b" ".join(b"%d" % i for i in swap)), ("done",))
@@ -81,7 +83,7 @@ class Stores(Agree):
             n = chance.choice([0, 1, 2, 3, 4, 5, 6, 9])
             clauses, rows = generate.formula(chance, n, 12)
             text = generate.text(chance, n, clauses)
-            sizes = [64, 64, 64, chance.randrange(40)], [64, 64, chance.randrange(14)], [256, 256, chance.randrange(40)]
+            sizes = [64, 64, 64, chance.randrange(40)], [64, 64, chance.randrange(14)], [64, 64, chance.randrange(14)], [256, 256, chance.randrange(40)]
             host = fresh(*map(chance.choice, sizes))
             if chance.random() < 0.3:
                 text = generate.damaged(chance, text)
@@ -130,8 +132,8 @@ class Withdrawals(Agree):
     def test_order(self):
         """20 before 21 before 30, with every choice of reasons."""
         for closed, damaged, empty in itertools.product([False, True], repeat=3):
-            record = reference.Record(3, 2, 0 if empty else 1, not closed)
-            host = library.Host(LIBRARY, record, [2, 4, 4, 8 if damaged else 6], [2, 4], [6, 4, 2])
+            record, literals, ends = reference.Record(3, 2, 0 if empty else 1, not closed), [2, 4, 4, 8 if damaged else 6], [2, 4]
+            host = library.Host(LIBRARY, record, literals, ends, generate.keys_of(literals, ends), [6, 4, 2])
             expected = 20 if closed else 21 if damaged else 30 if empty else None
             self.assertEqual(self.withdraw(host), ("refused", expected, 0) if expected else ("done",))
 
@@ -168,7 +170,7 @@ class Withdrawals(Agree):
                 if answer == ("done",):
                     left.append(lines)
                 elif answer[1] == 23 and chance.random() < 0.5:
-                    host.put(*host.parts()[:3], host.images[:] + [7] * chance.randint(1, 3 * n))
+                    host.put(*host.parts()[:4], host.images[:] + [7] * chance.randint(1, 3 * n))
                     seen["lent"] += 1
             seen[answer[1] if answer[0] == "refused" else "done"] += 1
         return left
@@ -214,6 +216,93 @@ class Withdrawals(Agree):
             self.assertGreater(seen[sort], 20, sort)
 
 
+NUMBERS = {1: 8399848799942217, -1: 24472253299389718, 2: 27429481777697638, -2: 47979604178350562, 3: 56431291722079895,
+           512: 18413816788118036576, -512: 18434917261454267020}  # some of docs/KEYS.md
+FIRST, SECOND = NUMBERS[1] + NUMBERS[2], NUMBERS[2] + NUMBERS[3]
+
+WRONG_KEYS = [
+    ("none", []),
+    ("a key too few", [FIRST]),
+    ("exchanged", [SECOND, FIRST]),
+    ("the first twice", [FIRST, FIRST]),
+    ("the second one place on", [FIRST, 0, SECOND]),
+    ("a key 0", [0, SECOND]),
+    ("the highest bit", [FIRST ^ 2 ** 63, SECOND]),
+    ("the lowest bit", [FIRST, SECOND ^ 1]),
+    ("a literal left out", [NUMBERS[1], SECOND]),
+    ("a literal twice", [FIRST + NUMBERS[1], SECOND]),
+    ("the negations", [NUMBERS[-1] + NUMBERS[-2], SECOND]),
+    ("all literals so far", [FIRST, FIRST + SECOND]),
+]
+
+
+class Keys(Agree):
+    """CR 5: a key for each clause."""
+
+    def test_written(self):
+        """Order and repeats make no difference, i and -i are two literals, the empty clause has 0, sums wrap at 2^64; entries past the clauses stay."""
+        host, wrapped = fresh(keys=9), NUMBERS[512] + NUMBERS[-512] - 2 ** 64
+        self.assertEqual(self.open(host, b"p cnf 512 7\n1 2 0 2 1 2 0 1 -1 0 0 1 -2 1 0 512 -512 0 -512 1 512 1 0"), ("done", 512, 7))
+        self.assertEqual(host.keys[:], [FIRST, FIRST, NUMBERS[1] + NUMBERS[-1], 0, 56379452978292779, wrapped, wrapped + NUMBERS[1], 7, 7])
+        self.assertEqual(self.open(host, LISTING), ("done", 3, 2))
+        self.assertEqual(host.keys[:4], [FIRST, SECOND, NUMBERS[1] + NUMBERS[-1], 0])
+
+    def test_short(self):
+        """23 for literals, then for ends, then for keys, of which as many are needed; after 1 to 6."""
+        self.assertEqual(self.open(fresh(4, 2, 2), LISTING), ("done", 3, 2))
+        for lengths, needed in [((4, 2, 1), 2), ((4, 2, 0), 2), ((4, 1, 2), 2), ((4, 1, 1), 2), ((3, 2, 1), 4), ((3, 1, 1), 4)]:
+            self.assertEqual(self.open(fresh(*lengths), LISTING), ("refused", 23, needed), lengths)
+        self.assertEqual(self.open(fresh(keys=1), LISTING + b"x"), ("refused", 6, 22))
+        self.assertEqual(self.open(fresh(keys=0), b"p cnf 3 0"), ("done", 3, 0))
+
+    def every(self, host):
+        """What every call that needs an open store answers. The store has a row, and the next offer has room."""
+        yield self.header(host, bytes(20))
+        yield self.clause(host, 1, bytes(20))
+        yield self.fill_in(host, [0], [5])[0]
+        yield self.check(host, [0])
+        yield self.descend(host, [0], 1)[0]
+        yield self.offer(host, b"1 3", b"3 1")
+        yield self.withdraw(host)
+
+    def test_wrong(self):
+        """A key that is not its clause's, or a key too few, is 21 in every call, after 20."""
+        for name, keys in WRONG_KEYS:
+            for is_open, number in [(True, 21), (False, 20)]:
+                with self.subTest(name, open=is_open):
+                    host = library.Host(LIBRARY, reference.Record(3, 2, 1, is_open), [2, 4, 4, 6], [2, 4], keys, [6, 4, 2, 0, 0, 0])
+                    self.assertEqual(list(self.every(host)), [("refused", number, 0)] * 7)
+
+    def test_past(self):
+        """Keys past those in use are not looked at."""
+        for past in [[], [0], [TOP, FIRST, 1]]:
+            host = library.Host(LIBRARY, reference.Record(3, 2, 1, True), [2, 4, 4, 6], [2, 4], [FIRST, SECOND, *past], [6, 4, 2, 0, 0, 0])
+            self.assertEqual([answer[0] for answer in self.every(host)], ["done"] * 7)
+
+    def test_random(self):
+        """Damaged stores: many are sound still, or would be with other keys."""
+        chance = random.Random(8)
+        seen = Counter()
+        for _ in range(1000):
+            n = chance.choice([1, 2, 3, 4, 6])
+            clauses, rows = generate.cycles(chance, n, 12)
+            numbers, *slices = generate.store(chance, n, clauses, chance.choices(rows, k=chance.randrange(3)), 1)
+            record, literals, ends, keys, images = parts = generate.damaged_store(chance, reference.Record(*numbers), *slices)
+            host = library.Host(LIBRARY, *parts)
+            self.header(host, bytes(32))
+            self.offer(host, *generate.offers(chance, n, [chance.choice(rows)]))
+            self.withdraw(host)
+            right = generate.keys_of(literals, ends[:record.clauses])
+            if not reference.badly_formed(*parts):
+                seen["sound"] += 1
+            elif not reference.badly_formed(record, literals, ends, right, images):
+                seen["a key too few" if len(keys) < record.clauses else "a wrong key"] += 1
+                repeated = map(generate.summed, generate.clauses_of(literals, ends))
+                seen["repeats counted"] += any(key == wrong != other for key, wrong, other in zip(keys, repeated, right))
+        for sort, least in [("sound", 300), ("a wrong key", 100), ("a key too few", 10), ("repeats counted", 10)]:
+            self.assertGreater(seen[sort], least, sort)
+
+
 COMMENTS = [
     ("inside a clause", b"p cnf 2 1\n1\nc x 0\n2 0\n", ("done", 2, 1)),
     ("before the closing zero", b"p cnf 2 1\n1 2\nc\n0\n", ("done", 2, 1)),
@@ -253,7 +342,7 @@ class Comments(Agree):
     def test_limits(self):
         """A remark above each of 4,096 clauses; then literal 12,289, its offset counted with them."""
         clauses = [b"%d %d -%d 0\n" % (1 + i % 512, 1 + i * 7 % 512, 1 + i * 11 % 512) for i in range(4096)]
-        plain, remarked = fresh(literals=12288, ends=4096), fresh(literals=12288, ends=4096)
+        plain, remarked = (fresh(literals=12288, ends=4096, keys=4096) for _ in range(2))
         text = b"p cnf 512 4096\n" + b"".join(b"c bracket %d\n" % i + clause for i, clause in enumerate(clauses))
         self.assertEqual(self.open(plain, b"p cnf 512 4096\n" + b"".join(clauses)), ("done", 512, 4096))
         self.assertEqual(self.open(remarked, text), ("done", 512, 4096))

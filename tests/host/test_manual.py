@@ -27,9 +27,9 @@ def rows(part):
     return [row for row in table if re.match(r"\d", row[0])]
 
 
-def store(text, literals=12288, ends=4096, images=64 * 512):
+def store(text, literals=12288, ends=4096, keys=4096, images=64 * 512):
     """A store of these lengths, and what opening a text in it answers."""
-    host = library.Host(library.load(), CLOSED, [0] * literals, [0] * ends, [0] * images)
+    host = library.Host(library.load(), CLOSED, [0] * literals, [0] * ends, [0] * keys, [0] * images)
     return host, host.open(text)
 
 
@@ -86,8 +86,10 @@ class Manual(unittest.TestCase):
             "`symbreak_header` with `symbreak_new_record()`": lambda: self.header(host, record=CLOSED),
             "`symbreak_header` with variables = 2": lambda: self.header(host, record=host.record._replace(variables=2)),
             "`symbreak_header` with ends_len = 1": lambda: self.header(host, ends=host.ends[:1]),
+            "`symbreak_header` with keys[0] = 0": lambda: self.header(host, keys=[0, *host.keys[1:]]),
             "`symbreak_header` with out_len = 4": lambda: host.header(bytes(4))[0],
             "`symbreak_open` with literals_len = 3": lambda: store(LISTING, literals=3)[1],
+            "`symbreak_open` with keys_len = 1": lambda: store(LISTING, keys=1)[1],
             "`symbreak_offer` with images_len = 2, no row held": lambda: store(LISTING, images=2)[0].offer(b"1 3", b"3 1"),
             "names `1 3`, values `3 1`, the 65th time": lambda: [host.offer(b"1 3", b"3 1") for _ in range(64)][-1],
             "`symbreak_withdraw`, the second time": lambda: [host.withdraw() for _ in range(2)][-1],
@@ -106,7 +108,7 @@ class Manual(unittest.TestCase):
         return store(shown[0] + shown[1] * int(times[1].replace(",", "")) + shown[2] if times else shown[0])[1][1:]
 
     def header(self, host, **changed):
-        parts = {"record": host.record, "literals": host.literals[:], "ends": host.ends[:], "images": host.images[:]} | changed
+        parts = dict(zip(("record", "literals", "ends", "keys", "images"), host.parts())) | changed
         return library.Host(library.load(), **parts).header(bytes(100))[0]
 
     def test_refusals(self):

@@ -18,9 +18,9 @@ def packed(digits):
     return [int(digits[at:at + 64].ljust(64, "0"), 2) for at in range(0, len(digits), 64)]
 
 
-def opened(text, literals=1200, ends=500, images=1500):
+def opened(text, literals=1200, clauses=500, images=1500):
     """A store with this formula, if it opens, and something in every entry past those in use."""
-    host = library.Host(LIBRARY, reference.new_record(), [7] * literals, [7] * ends, [7] * images)
+    host = library.Host(LIBRARY, reference.new_record(), [7] * literals, [7] * clauses, [7] * clauses, [7] * images)
     host.open(text)
     return host
 
@@ -85,6 +85,7 @@ class Worked(Agree):
 
 
 STORE = {"record": reference.Record(3, 2, 1, True), "literals": [2, 4, 4, 6], "ends": [2, 4], "images": [6, 4, 2]}
+KEYS = generate.keys_of(STORE["literals"], STORE["ends"])
 
 BADLY_FORMED = [
     ("513 variables", {"record": reference.Record(513, 0, 0, True)}),
@@ -107,7 +108,17 @@ BADLY_FORMED = [
     ("an image beyond n", {"images": [6, 4, 8]}),
     ("an image twice", {"images": [6, 4, 4]}),
     ("an image with a sign", {"images": [6, 4, 3]}),
+    ("a key too few", {"keys": KEYS[:1]}),
+    ("keys exchanged", {"keys": KEYS[::-1]}),
+    ("a key wrong by a bit", {"keys": [KEYS[0], KEYS[1] ^ 2 ** 40]}),
+    ("a literal more than its key", {"literals": [2, 4, 2, 4, 6], "ends": [2, 5], "keys": KEYS}),
 ]
+
+
+def stored(**changed):
+    """That store with parts changed, and with its clauses' keys if these are not among them."""
+    parts = STORE | changed
+    return library.Host(LIBRARY, **{"keys": generate.keys_of(parts["literals"], parts["ends"])} | parts)
 
 
 class Refusals(Agree):
@@ -119,25 +130,24 @@ class Refusals(Agree):
         self.assertEqual(self.check(host, list(a)), ("refused", number, 0))
 
     def test_not_open(self):
-        self.refused(library.Host(LIBRARY, reference.new_record(), [], [], []), 20)
-        self.refused(library.Host(LIBRARY, **STORE | {"record": reference.Record(3, 2, 1, False)}), 20)
+        self.refused(library.Host(LIBRARY, reference.new_record(), [], [], [], []), 20)
+        self.refused(stored(record=reference.Record(3, 2, 1, False)), 20)
 
     def test_open(self):
         """Every other flag is open."""
         for flag in [True, 2, 2 ** 32, TOP]:
-            host = library.Host(LIBRARY, **STORE | {"record": reference.Record(3, 2, 1, flag)})
-            self.assertEqual(self.check(host, packed("1011")), ("done", 0))
+            self.assertEqual(self.check(stored(record=reference.Record(3, 2, 1, flag)), packed("1011")), ("done", 0))
 
     def test_badly_formed(self):
         for name, damage in BADLY_FORMED:
             with self.subTest(name):
-                self.refused(library.Host(LIBRARY, **STORE | damage), 21)
+                self.refused(stored(**damage), 21)
 
     def test_order(self):
         """20 before 21 before 12 before 23, with every choice of reasons; only filling in knows the last."""
         for reasons in itertools.product([False, True], repeat=4):
             closed, damaged, misfit, short = reasons
-            host = library.Host(LIBRARY, reference.Record(3, 2, 1, not closed), [2, 4, 4, 6], [2, 4], [6, 4, 4] if damaged else [6, 4, 2])
+            host = stored(record=reference.Record(3, 2, 1, not closed), images=[6, 4, 4] if damaged else [6, 4, 2])
             plain, full = ([], []) if misfit else (packed("110"), packed("1100"))
             numbers = [number for number, holds in zip([20, 21, 12], reasons) if holds]
             self.assertEqual(refusal(self.check(host, full)), (numbers + [None])[0])

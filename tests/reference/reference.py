@@ -1,4 +1,4 @@
-"""Reference symmetry breaker: document 01 with CR 1 to CR 4 of document 02, written from the papers, naive on purpose.
+"""Reference symmetry breaker: document 01 with CR 1 to CR 5 of document 02, written from the papers, naive on purpose.
 
 A call answers ('refused', number, place) or ('done', value...).  A call that may write lent memory returns that
 answer followed by the new contents of each thing it may write; nothing lent is ever changed in place.
@@ -9,6 +9,7 @@ from __future__ import annotations
 
 import functools
 import inspect
+import os
 import re
 import sys
 from fractions import Fraction
@@ -131,14 +132,29 @@ def read_clauses(text: bytes, problem: int, n: int, m: int) -> List[Clause]:
     return closed
 
 
+def listed_numbers() -> Dict[int, int]:
+    """CR 5: "The team picks the 1,024 numbers, no two alike and none 0, and lists them in docs/": that of each literal, from the table of docs/KEYS.md."""
+    with open(os.path.join(os.path.dirname(os.path.abspath(__file__)), "..", "..", "docs", "KEYS.md")) as page:
+        rows = [map(int, row) for row in re.findall(r"^\| (\d+) \| (\d+) \| (\d+) \|$", page.read(), re.M)]
+    return {literal: number for i, positive, negative in rows for literal, number in ((i, positive), (-i, negative))}
+
+
+NUMBERS = listed_numbers()
+
+
+def key_of(clause_: Clause) -> int:
+    """CR 5: "a 64-bit key for each clause: the wrapping sum of one fixed number for each different literal in it"."""
+    return sum(NUMBERS[literal] for literal in set(clause_)) % 2 ** 64
+
+
 def new_record() -> Record:
     """"A new store starts closed"."""
     return Record(0, 0, 0, False)
 
 
-@call("record", "literals", "ends")
-def open_formula(record, text: bytes, literals, ends):
-    """"Opening a formula replaces the old one and drops its rows"; "opening tries literals before ends" (23)."""
+@call("record", "literals", "ends", "keys")
+def open_formula(record, text: bytes, literals, ends, keys):
+    """"Opening a formula replaces the old one and drops its rows"; "opening tries literals before ends" (23), and the "keys slice, tried last" (CR 5)."""
     place, line = problem_line(text)
     n, m = problem_counts(place, line)
     formula = read_clauses(text, place, n, m)
@@ -148,7 +164,10 @@ def open_formula(record, text: bytes, literals, ends):
         raise Refusal(23, len(codes))
     if len(ends) < m:
         raise Refusal(23, m)
-    return ("done", n, m), Record(n, m, 0, True), overwritten(literals, codes), overwritten(ends, new_ends)
+    if len(keys) < m:
+        raise Refusal(23, m)
+    new_keys = [key_of(clause_) for clause_ in formula]
+    return ("done", n, m), Record(n, m, 0, True), overwritten(literals, codes), overwritten(ends, new_ends), overwritten(keys, new_keys)
 
 
 def literal_code(literal: int) -> int:
@@ -161,27 +180,29 @@ def literal_of(code: int) -> int:
     return -(code // 2) if code % 2 else code // 2
 
 
-def badly_formed(record, literals, ends, images) -> bool:
-    """"a slice too short for the counts, ends that fall or pass the literals, a literal 0 or beyond n, .." (21)."""
+def badly_formed(record, literals, ends, keys, images) -> bool:
+    """"a slice too short for the counts, ends that fall or pass the literals, .." (21); "A stored key that isn't its clause's sum" too (CR 5)."""
     n, m, rows = record.variables, record.clauses, record.rows
     if n > MAX_VARIABLES or m > MAX_CLAUSES or rows > MAX_ROWS:
         return True
-    if len(ends) < m or len(images) < rows * n:
+    if len(ends) < m or len(keys) < m or len(images) < rows * n:
         return True
     if any(ends[q] < ends[q - 1] for q in range(1, m)) or any(end > len(literals) for end in ends[:m]):
         return True
     used = ends[m - 1] if m > 0 else 0
     if used > MAX_LITERALS or any(not 1 <= code // 2 <= n for code in literals[:used]):
         return True
+    if any(keys[q] != key_of(clause_) for q, clause_ in enumerate(plain_clauses(record, literals, ends))):
+        return True
     identity = [2 * i for i in range(1, n + 1)]
     return any(sorted(images[r * n:(r + 1) * n]) != identity for r in range(rows))
 
 
-def require_store(record, literals, ends, images) -> None:
+def require_store(record, literals, ends, keys, images) -> None:
     """"20. Not open. 21. Badly formed .. These have place 0 and come first, in this order"."""
     if not record.open:
         raise Refusal(20, 0)
-    if badly_formed(record, literals, ends, images):
+    if badly_formed(record, literals, ends, keys, images):
         raise Refusal(21, 0)
 
 
@@ -251,9 +272,9 @@ def require_symmetry(formula: List[Clause], row: Row) -> None:
 
 
 @call("record", "images")
-def offer(record, literals, ends, images, names: bytes, values: bytes):
+def offer(record, literals, ends, keys, images, names: bytes, values: bytes):
     """"An offer tries 7, 8, 9, 10, 11 in that order, each over its whole line"; 20, 21, 22 before, 23 last."""
-    require_store(record, literals, ends, images)
+    require_store(record, literals, ends, keys, images)
     n, held = record.variables, record.rows
     if held == MAX_ROWS:
         raise Refusal(22, 0)
@@ -267,9 +288,9 @@ def offer(record, literals, ends, images, names: bytes, values: bytes):
 
 
 @call("record")
-def withdraw(record, literals, ends, images):
+def withdraw(record, literals, ends, keys, images):
     """CR 3: "a call that drops the newest row"; "from a store that holds no row is refused with 30, place 0, after 21"."""
-    require_store(record, literals, ends, images)
+    require_store(record, literals, ends, keys, images)
     if record.rows == 0:
         raise Refusal(30, 0)
     return ("done",), record._replace(rows=record.rows - 1)
@@ -299,7 +320,7 @@ def row_clauses(row: Row, last: int) -> Iterator[Clause]:
         yield [-e, -x_next, y_next]
 
 
-def made_formula(record, literals, ends, images) -> Iterator[Clause]:
+def made_formula(record, literals, ends, _keys, images) -> Iterator[Clause]:
     """"The first m clauses are the plain ones, then each row's in order of acceptance"."""
     yield from plain_clauses(record, literals, ends)
     last = record.variables
@@ -324,9 +345,9 @@ def clause_line(clause_: Clause) -> bytes:
     return " ".join(map(str, [*clause_, 0])).encode() + b"\n"
 
 
-def made_text(record, literals, ends, images) -> bytes:
+def made_text(record, literals, ends, keys, images) -> bytes:
     """"the text written is exactly the plain formula followed by the documented clauses": header and all lines."""
-    return header_line(record, images) + b"".join(map(clause_line, made_formula(record, literals, ends, images)))
+    return header_line(record, images) + b"".join(map(clause_line, made_formula(record, literals, ends, keys, images)))
 
 
 def write_line(line: bytes, out):
@@ -337,19 +358,19 @@ def write_line(line: bytes, out):
 
 
 @call("out")
-def header(record, literals, ends, images, out):
+def header(record, literals, ends, keys, images, out):
     """"Header and clause q (1 to M) are written by separate calls": the header's."""
-    require_store(record, literals, ends, images)
+    require_store(record, literals, ends, keys, images)
     return write_line(header_line(record, images), out)
 
 
 @call("out")
-def clause(record, literals, ends, images, q: int, out):
+def clause(record, literals, ends, keys, images, q: int, out):
     """"Header and clause q (1 to M) are written by separate calls"; "Clause number 0 or above M" (13)."""
-    require_store(record, literals, ends, images)
+    require_store(record, literals, ends, keys, images)
     if not 1 <= q <= made_counts(record, images)[1]:
         raise Refusal(13, 0)
-    return write_line(clause_line(next(islice(made_formula(record, literals, ends, images), q - 1, None))), out)
+    return write_line(clause_line(next(islice(made_formula(record, literals, ends, keys, images), q - 1, None))), out)
 
 
 def bits(words_: List[int]) -> List[bool]:
@@ -436,9 +457,9 @@ def filled_in(record, images, a: Assignment) -> Assignment:
 
 
 @call("out_words")
-def fill_in(record, literals, ends, images, a: List[int], out_words):
+def fill_in(record, literals, ends, keys, images, a: List[int], out_words):
     """"Filling in writes an assignment of 1..N .. Words after it stay"."""
-    require_store(record, literals, ends, images)
+    require_store(record, literals, ends, keys, images)
     filled = words_of(filled_in(record, images, assignment_of(a, record.variables)))
     if len(out_words) < len(filled):
         raise Refusal(23, len(filled))
@@ -446,19 +467,19 @@ def fill_in(record, literals, ends, images, a: List[int], out_words):
 
 
 @call()
-def check(record, literals, ends, images, a: List[int]):
+def check(record, literals, ends, keys, images, a: List[int]):
     """"answers yes, or the first clause of the made formula that an assignment of 1..N makes false"."""
-    require_store(record, literals, ends, images)
+    require_store(record, literals, ends, keys, images)
     full = assignment_of(a, made_counts(record, images)[0])
-    false = (q for q, clause_ in enumerate(made_formula(record, literals, ends, images), 1)
+    false = (q for q, clause_ in enumerate(made_formula(record, literals, ends, keys, images), 1)
              if not true_clause(clause_, full))
     return "done", next(false, 0)
 
 
 @call("a")
-def descend(record, literals, ends, images, a: List[int], limit: int):
+def descend(record, literals, ends, keys, images, a: List[int], limit: int):
     """"Descent takes the first row by which A moved is < A, puts that in A, and goes on"; settled or spent."""
-    require_store(record, literals, ends, images)
+    require_store(record, literals, ends, keys, images)
     reached, rows, moves = assignment_of(a, record.variables), rows_of(record, images), 0
     while True:
         lowering = next((row for row in rows if lowers(row, reached)), None)
@@ -489,14 +510,14 @@ def split_input(data: bytes) -> Tuple[bytes, List[bytes]]:
 def run(data: bytes) -> bytes:
     """"It offers all, then prints the made formula"; "without value lines nothing is offered"."""
     text, after = split_input(data)
-    literals, ends, images = [0] * MAX_LITERALS, [0] * MAX_CLAUSES, [0] * (MAX_ROWS * MAX_VARIABLES)
-    answer, record, literals, ends = open_formula(new_record(), text, literals, ends)
+    literals, ends, keys, images = [0] * MAX_LITERALS, [0] * MAX_CLAUSES, [0] * MAX_CLAUSES, [0] * (MAX_ROWS * MAX_VARIABLES)
+    answer, record, literals, ends, keys = open_formula(new_record(), text, literals, ends, keys)
     for values in after[1:]:
         if answer[0] == "done":
-            answer, record, images = offer(record, literals, ends, images, after[0], values)
+            answer, record, images = offer(record, literals, ends, keys, images, after[0], values)
     if answer[0] == "refused":
         raise Refusal(*answer[1:])
-    return made_text(record, literals, ends, images)
+    return made_text(record, literals, ends, keys, images)
 
 
 def program(data: bytes) -> bytes:

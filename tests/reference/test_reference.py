@@ -9,22 +9,30 @@ import tables
 
 LISTING = b"p cnf 3 2\n1 2 0\n2 3 0\n"
 TOP = 2 ** 64 - 1
+NUMBERS = {1: 8399848799942217, -1: 24472253299389718, 2: 27429481777697638, -2: 47979604178350562, 3: 56431291722079895,
+           512: 18413816788118036576, -512: 18434917261454267020}  # some of docs/KEYS.md
+LISTING_KEYS = [NUMBERS[1] + NUMBERS[2], NUMBERS[2] + NUMBERS[3]]
 
 
 class Host:
     """A store with slices of its own; every call is checked to change nothing in place, and nothing when refused."""
 
-    def __init__(self, text=LISTING, literals=64, ends=64, images=256):
+    def __init__(self, text=LISTING, literals=64, ends=64, keys=64, images=256):
         self.record, self.images = ref.new_record(), [7] * images
-        self.answer, self.record, self.literals, self.ends = call(
-            ref.open_formula, self.record, text, [9] * literals, [8] * ends, written=(0, 2, 3))
+        self.literals, self.ends, self.keys = [9] * literals, [8] * ends, [6] * keys
+        self.answer = self.open(text)
 
     @property
     def store(self):
-        return self.record, self.literals, self.ends, self.images
+        return self.record, self.literals, self.ends, self.keys, self.images
+
+    def open(self, text):
+        answer, self.record, self.literals, self.ends, self.keys = call(
+            ref.open_formula, self.record, text, self.literals, self.ends, self.keys, written=(0, 2, 3, 4))
+        return answer
 
     def offer(self, names, values):
-        answer, self.record, self.images = call(ref.offer, *self.store, names, values, written=(0, 3))
+        answer, self.record, self.images = call(ref.offer, *self.store, names, values, written=(0, 4))
         return answer
 
     def withdraw(self):
@@ -60,17 +68,17 @@ def digits(words_, n):
     return "".join("1" if bit else "0" for bit in ref.bits(words_)[:n])
 
 
-def opening(text, literals=13000, ends=5000):
-    return ref.open_formula(ref.new_record(), text, [0] * literals, [0] * ends)[0]
+def opening(text, literals=13000, ends=5000, keys=5000):
+    return ref.open_formula(ref.new_record(), text, [0] * literals, [0] * ends, [0] * keys)[0]
 
 
 def descend(host, a, limit=TOP):
-    answer, reached = call(ref.descend, *host.store, words(a), limit, written=(4,))
+    answer, reached = call(ref.descend, *host.store, words(a), limit, written=(5,))
     return answer, digits(reached, len(a))
 
 
 def fill_in(host, a, room=1):
-    return call(ref.fill_in, *host.store, words(a), [TOP] * room, written=(5,))
+    return call(ref.fill_in, *host.store, words(a), [TOP] * room, written=(6,))
 
 
 class WorkedCases(unittest.TestCase):
@@ -152,7 +160,7 @@ class Withdrawing(unittest.TestCase):
         self.assertEqual(ref.made_counts(host.record, host.images), (5, 1 + 6 * 2))
         self.assertEqual((host.withdraw(), host.withdraw(), host.images), (("done",), ("refused", 30, 0), images))
         self.assertEqual(host.offer(b"1 3", b"3 1"), ("done",))
-        self.assertEqual(ref.made_text(host.record, host.literals, host.ends, host.images).splitlines()[-1], b"-4 -3 1 0")
+        self.assertEqual(ref.made_text(*host.store).splitlines()[-1], b"-4 -3 1 0")
         host.record = host.record._replace(rows=0, variables=2)
         self.assertEqual(host.withdraw(), ("refused", 21, 0))
         host.record = host.record._replace(open=False)
@@ -207,14 +215,59 @@ class OpeningReadings(unittest.TestCase):
     def test_slices(self):
         self.assertEqual(opening(LISTING, 3, 1), ("refused", 23, 4))
         self.assertEqual(opening(LISTING, 4, 1), ("refused", 23, 2))
-        host = Host().with_rows((1, 2, 3))
-        answer, record, literals, ends = call(
-            ref.open_formula, host.record, b"p cnf 2 2 -1 2", host.literals, host.ends, written=(0, 2, 3))
-        self.assertEqual((answer, record.rows), (("refused", 1, 0), 1))
-        answer, record, literals, ends = call(
-            ref.open_formula, host.record, b"p cnf 2 2\n0 -1 0", [9] * 3, [8] * 3, written=(0, 2, 3))
-        self.assertEqual((record, literals, ends), (ref.Record(2, 2, 0, True), [3, 9, 9], [0, 1, 8]))
-        self.assertEqual(ref.plain_clauses(record, literals, ends), [[], [-1]])
+        host = Host(literals=5, ends=3, keys=3).with_rows((1, 2, 3))
+        self.assertEqual((host.open(b"p cnf 2 2 -1 2"), host.record.rows), (("refused", 1, 0), 1))
+        self.assertEqual(host.open(b"p cnf 2 2\n0 -1 0"), ("done", 2, 2))
+        self.assertEqual(host.store[:4], (ref.Record(2, 2, 0, True), [3, 4, 4, 6, 9], [0, 1, 8], [0, NUMBERS[-1], 6]))
+        self.assertEqual(ref.plain_clauses(*host.store[:3]), [[], [-1]])
+
+
+class Keys(unittest.TestCase):
+    """CR 5 and readings B5, B7, D2 and D8."""
+
+    def test_key(self):
+        """Order and repeats make no difference, i and -i are two literals, the empty clause has 0; sums wrap at 2^64."""
+        cases = [([1, 2], NUMBERS[1] + NUMBERS[2]), ([2, 1], NUMBERS[1] + NUMBERS[2]), ([2, 1, 2, 2], NUMBERS[1] + NUMBERS[2]), ([1, 1], NUMBERS[1]),
+                 ([1, -1], NUMBERS[1] + NUMBERS[-1]), ([-1, 1, -1], NUMBERS[1] + NUMBERS[-1]), ([], 0), ([1, -2, 1], 56379452978292779),
+                 ([512, -512], NUMBERS[512] + NUMBERS[-512] - 2 ** 64), ([-512, 512, -512, 1], NUMBERS[512] + NUMBERS[-512] + NUMBERS[1] - 2 ** 64)]
+        for clause, key in cases:
+            self.assertEqual(ref.key_of(clause), key, clause)
+        everything = [sign * i for i in range(1, 513) for sign in (1, -1)]
+        self.assertEqual(sorted(ref.NUMBERS), sorted(everything))
+        self.assertEqual(ref.key_of(everything), sum(ref.NUMBERS.values()) & TOP)
+        self.assertGreater(sum(ref.NUMBERS.values()), 2 ** 72)
+
+    def test_opening(self):
+        """A key for each clause, and entries past them stay."""
+        host = Host(b"p cnf 512 5\n1 -2 1 0 0 512 -512 0 -1 0 -1 0", keys=7)
+        self.assertEqual(host.keys, [56379452978292779, 0, NUMBERS[512] + NUMBERS[-512] - 2 ** 64, NUMBERS[-1], NUMBERS[-1], 6, 6])
+        self.assertEqual((host.open(LISTING), host.keys[:3]), (("done", 3, 2), [*LISTING_KEYS, NUMBERS[512] + NUMBERS[-512] - 2 ** 64]))
+
+    def test_short(self):
+        """23 with the count of clauses, after 1 to 6, after the literals and after the ends, which need as many; a refused opening leaves the keys."""
+        for keys in 0, 1:
+            self.assertEqual(opening(LISTING, 4, 2, keys), ("refused", 23, 2))
+            self.assertEqual(opening(LISTING, 3, 2, keys), ("refused", 23, 4))
+            self.assertEqual(opening(LISTING, 4, 1, keys), ("refused", 23, 2))
+            self.assertEqual(opening(LISTING + b"x", 4, 2, keys), ("refused", 6, 22))
+        self.assertEqual(opening(LISTING, 4, 2, 2), ("done", 3, 2))
+        self.assertEqual(opening(b"p cnf 3 0", 0, 0, 0), ("done", 3, 0))
+        host = Host(keys=3)
+        self.assertEqual(host.open(b"p cnf 1 4\n0 0 1 0 0"), ("refused", 23, 4))
+        self.assertEqual((host.record, host.keys), (ref.Record(3, 2, 0, True), [*LISTING_KEYS, 6]))
+        self.assertEqual(host.offer(b"1 3", b"3 1"), ("done",))
+
+    def test_badly_formed(self):
+        """A key of a clause that is not its sum, or a key too few; entries past those in use are free."""
+        one, two = LISTING_KEYS
+        for keys in [], [one], [two, one], [one, one], [one, two + 1], [one ^ 2 ** 63, two], [one + NUMBERS[1], two], [NUMBERS[1], two], [0, two]:
+            self.assertTrue(ref.badly_formed(ref.Record(3, 2, 0, True), [2, 4, 4, 6], [2, 4], keys, []), keys)
+        for keys in [one, two], [one, two, 0], [one, two, TOP, one]:
+            self.assertFalse(ref.badly_formed(ref.Record(3, 2, 0, True), [2, 4, 4, 6], [2, 4], keys, []), keys)
+        for literals, ends, key in ([2, 2], [2], NUMBERS[1]), ([3, 2, 3], [3], NUMBERS[1] + NUMBERS[-1]), ([], [0], 0):
+            self.assertFalse(ref.badly_formed(ref.Record(1, 1, 0, True), literals, ends, [key], []))
+            self.assertTrue(ref.badly_formed(ref.Record(1, 1, 0, True), literals, ends, [key + NUMBERS[1]], []))
+        self.assertFalse(ref.badly_formed(ref.Record(3, 0, 0, True), [], [], [], []))
 
 
 class OfferReadings(unittest.TestCase):
@@ -252,35 +305,35 @@ class OfferReadings(unittest.TestCase):
 class StoreReadings(unittest.TestCase):
     """Readings D: 20 and 21 in every call that needs an open store, entries past those in use not looked at."""
 
-    def answers(self, record, literals, ends, images):
-        store, lent = (record, literals, ends, images), [5] * 600
-        return [call(ref.offer, *store, b"x", b"", written=(0, 3))[0], call(ref.header, *store, [], written=(4,))[0],
-                call(ref.clause, *store, 0, [], written=(5,))[0], call(ref.fill_in, *store, lent, [], written=(5,))[0],
-                ref.check(*store, lent), call(ref.descend, *store, lent, 0, written=(4,))[0]]
+    def answers(self, *store):
+        lent = [5] * 600
+        return [call(ref.offer, *store, b"x", b"", written=(0, 4))[0], call(ref.withdraw, *store, written=(0,))[0],
+                call(ref.header, *store, [], written=(5,))[0], call(ref.clause, *store, 0, [], written=(6,))[0],
+                call(ref.fill_in, *store, lent, [], written=(6,))[0], ref.check(*store, lent), call(ref.descend, *store, lent, 0, written=(5,))[0]]
 
     def test_refusals(self):
-        good = ref.Record(3, 2, 1, True), [2, 4, 4, 6, 0], [2, 4, 0], [6, 4, 2, 1]
-        self.assertEqual([a[1] for a in self.answers(*good)], [7, 23, 13, 12, 12, 12])
+        good = ref.Record(3, 2, 1, True), [2, 4, 4, 6, 0], [2, 4, 0], [*LISTING_KEYS, 0], [6, 4, 2, 1]
+        self.assertEqual([a[1:2] for a in self.answers(*good)], [(7,), (), (23,), (13,), (12,), (12,), (12,)])
         variants = [(0, good[0]._replace(variables=513)), (0, good[0]._replace(variables=TOP)),
                     (0, good[0]._replace(clauses=4097)), (0, good[0]._replace(clauses=TOP)),
                     (0, good[0]._replace(rows=65)), (0, good[0]._replace(rows=TOP)), (0, good[0]._replace(clauses=3)),
                     (0, good[0]._replace(rows=2)), (0, good[0]._replace(variables=2)), (1, [2, 4, 4]), (2, [2]),
-                    (2, [3, 2]), (2, [2, 5]), (2, [65535, 4]), (3, [6, 4]), (3, [6, 4, 3]), (3, [6, 6, 2]),
-                    (3, [0, 4, 2]), (3, [6, 4, 8]), (1, [0, 4, 4, 6]), (1, [1, 4, 4, 6]),
-                    (1, [8, 4, 4, 6]), (1, [9, 4, 4, 6])]
+                    (2, [3, 2]), (2, [2, 5]), (2, [65535, 4]), (4, [6, 4]), (4, [6, 4, 3]), (4, [6, 6, 2]),
+                    (4, [0, 4, 2]), (4, [6, 4, 8]), (1, [0, 4, 4, 6]), (1, [1, 4, 4, 6]),
+                    (1, [8, 4, 4, 6]), (1, [9, 4, 4, 6]), (3, []), (3, LISTING_KEYS[:1]), (3, LISTING_KEYS[::-1]), (3, [LISTING_KEYS[0], 0])]
         for index, bad in variants:
             store = [bad if place == index else part for place, part in enumerate(good)]
-            self.assertEqual(self.answers(*store), [("refused", 21, 0)] * 6, (index, bad))
+            self.assertEqual(self.answers(*store), [("refused", 21, 0)] * 7, (index, bad))
             store[0] = store[0]._replace(open=False)
-            self.assertEqual(self.answers(*store), [("refused", 20, 0)] * 6)
-        self.assertEqual(self.answers(ref.new_record(), [], [], []), [("refused", 20, 0)] * 6)
+            self.assertEqual(self.answers(*store), [("refused", 20, 0)] * 7)
+        self.assertEqual(self.answers(ref.new_record(), [], [], [], []), [("refused", 20, 0)] * 7)
 
     def test_literal_count(self):
         for count, refused in (12288, False), (12289, True):
-            self.assertEqual(ref.badly_formed(ref.Record(1, 1, 0, True), [2] * count, [count], []), refused)
+            self.assertEqual(ref.badly_formed(ref.Record(1, 1, 0, True), [2] * count, [count], [NUMBERS[1]], []), refused)
 
     def test_no_variables(self):
-        store = ref.Record(0, 1, 64, True), [], [0], []
+        store = ref.Record(0, 1, 64, True), [], [0], [0], []
         self.assertEqual(ref.made_text(*store), b"p cnf 0 1\n0\n")
         self.assertEqual(ref.check(*store, []), ("done", 1))
         self.assertEqual(ref.descend(*store, [], 0), (("done", "settled", 0), []))
@@ -300,7 +353,7 @@ class WritingAndAssignments(unittest.TestCase):
         for q, line in enumerate(lines):
             for room in len(line) - 1, len(line), len(line) + 2:
                 out, tail = bytearray(b"#" * room), (q,) if q else ()
-                answer, after = call(ref.clause if q else ref.header, *host.store, *tail, out, written=(4 + len(tail),))
+                answer, after = call(ref.clause if q else ref.header, *host.store, *tail, out, written=(5 + len(tail),))
                 enough = room >= len(line)
                 self.assertEqual(answer, ("done", len(line)) if enough else ("refused", 23, len(line)))
                 self.assertEqual(after, line + b"#" * (room - len(line)) if enough else out)
@@ -337,13 +390,13 @@ class WritingAndAssignments(unittest.TestCase):
     def test_limits(self):
         n = 512
         text = b"p cnf 512 4096\n" + b"".join(b"%d %d %d 0\n" % (i, -i, i) for i in range(1, n + 1)) * 8
-        host = Host(text, 12288, 4096, 64 * n)
+        host = Host(text, 12288, 4096, 4096, 64 * n)
         names = b" ".join(b"%d" % i for i in range(1, n + 1))
         for turn in range(1, 65):
             self.assertEqual(host.offer(names, b" ".join(b"%d" % ((i + turn) % n + 1) for i in range(n))), ("done",))
-        self.assertEqual(call(ref.header, *host.store, [0] * 19, written=(4,))[1], list(b"p cnf 33216 200320\n"))
+        self.assertEqual(call(ref.header, *host.store, [0] * 19, written=(5,))[1], list(b"p cnf 33216 200320\n"))
         self.assertEqual(sum(1 for _ in ref.made_formula(*host.store)), 200320)
-        self.assertEqual(call(ref.clause, *host.store, 200320, [0] * 18, written=(5,))[0], ("done", 17))
+        self.assertEqual(call(ref.clause, *host.store, 200320, [0] * 18, written=(6,))[0], ("done", 17))
         for a in "0" * n, "1" * n, "0" * 256 + "1" * 256:
             answer, out = fill_in(host, a, 519)
             self.assertEqual((answer, ref.check(*host.store, out)), (("done", 519), ("done", 0)))
@@ -460,7 +513,7 @@ class Demands(unittest.TestCase):
         rng, held = random.Random(17), 0
         for _ in range(600):
             text, clauses, row = random_formula(rng, rng.choice((0, 1, 2, 3, 4, 5, 6, 6)))
-            host = Host(text, 128, 64, 40)
+            host = Host(text, 128, 64, 64, 40)
             self.assertEqual(host.answer[0], "done")
             accepted = self.offers(rng, host, clauses, row)
             self.assertEqual(ref.rows_of(host.record, host.images), accepted)

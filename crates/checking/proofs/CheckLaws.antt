@@ -12,7 +12,7 @@ use Rattle.lists.proofs.Members.{all-append, all-at}
 use Rattle.packed.specs.Words.{bitsOf}
 use Rattle.packed.specs.Order.{valueOf}
 use Rattle.store.specs.Literals.{isLiteral}
-use Rattle.store.specs.Stores.{Store, plainOf, wellFormed}
+use Rattle.store.specs.Stores.{Store, plainOf, isFormed}
 use Rattle.lexleader.specs.Models.{clauseHolds, formulaHolds}
 use Rattle.lexleader.specs.Store.{madeOf, variablesOf, clausesOf}
 use Rattle.lexleader.proofs.MadeLaws.{plain-length}
@@ -62,7 +62,7 @@ pub record LeftToTry (s : Store) (a : List ℕ) (m : ℕ) (at : Cursor) (q : ℕ
   pub count : q + length (remainingOf s at) ≡ m + 1
   pub within : LiteralsWithin (variablesOf s) (remainingOf s at)
 
-module _ (s : Store) (formed : wellFormed s ≡ true) (a : List ℕ) where
+module _ (s : Store) (formed : isFormed s ≡ true) (a : List ℕ) where
   abbrev N : ℕ
   N = variablesOf s
 

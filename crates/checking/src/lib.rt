@@ -18,7 +18,7 @@ ghost use Rattle.lists.specs.Tests.{allOf};
 ghost use Rattle.packed.specs.Words.{bitsOf, isAssignment};
 ghost use Rattle.packed.specs.Order.{valueOf};
 ghost use Rattle.store.specs.Literals.{isLiteral};
-ghost use Rattle.store.specs.Stores.{maxVariables, stored, wellFormed};
+ghost use Rattle.store.specs.Stores.{maxVariables, stored, isFormed};
 ghost use Rattle.lexleader.specs.Models.{clauseHolds, formulaHolds};
 ghost use Rattle.lexleader.specs.Made.{agrees};
 ghost use Rattle.lexleader.specs.Clause.{pairAt};
@@ -43,7 +43,7 @@ pub fn first_false(
     a: &[u64],
 ) -> Checked
     requires { let s = stored counts literals ends images in
-        ⌜ (wellFormed s ≡ true) × (isAssignment (variablesOf s) (now a) ≡ true) ⌝ }
+        ⌜ (isFormed s ≡ true) × (isAssignment (variablesOf s) (now a) ≡ true) ⌝ }
     ensures { λ r. let s = stored counts (literals .entry) (ends .entry) (images .entry) in
         ⌜ verdictOf r ≡ firstFalse s (now (a .entry)) ⌝ }
 {
@@ -158,7 +158,7 @@ fn holds_at(
     a: &[u64],
 ) -> bool
     requires { let s = stored counts literals ends images in
-        ⌜ (wellFormed s ≡ true) × CursorStands counts (now images) at × ClauseRemains counts at
+        ⌜ (isFormed s ≡ true) × CursorStands counts (now images) at × ClauseRemains counts at
         × (allOf (isLiteral (64 * length (now a))) (getD (remainingOf s at) 0 []) ≡ true) ⌝ }
     ensures { λ r. let s = stored counts (literals .entry) (ends .entry) (images .entry) in
         let clause = getD (remainingOf s at) 0 [] in

@@ -8,7 +8,7 @@ use lib.ListN.{length, getD}
 use Rattle.lists.specs.Tests.{allOf}
 use Rattle.lists.proofs.Members.{all-at}
 use Rattle.store.specs.Literals.{isLiteral}
-use Rattle.store.specs.Stores.{Store, wellFormed}
+use Rattle.store.specs.Stores.{Store, isFormed}
 use Rattle.store.proofs.FormLaws.{literal-high}
 use Rattle.lexleader.specs.Store.{madeOf, variablesOf, clausesOf}
 use Rattle.lexleader.proofs.Tests.{all-mem}
@@ -17,7 +17,7 @@ use Rattle.render.specs.Text.{clauseLine}
 use Rattle.render.proofs.LineLaws.{line-within, header-within}
 use Rattle.emit.specs.Emit.{headerOf, maxHeader, maxLine}
 
-module _ (s : Store) (well : wellFormed s ≡ true) where
+module _ (s : Store) (well : isFormed s ≡ true) where
   -- "Header line: `p cnf N M`"
   pub header-most : length (headerOf s) ≤ maxHeader
   unfolding headerOf

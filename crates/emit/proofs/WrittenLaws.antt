@@ -9,7 +9,7 @@ use borrow.Author.Tests.{eq-eqb, ne-eqb, le-leb, lt-leb, lt-ltb, le-ltb}
 use lib.ListN.{length, drop}
 use lib.Seq.{length-slice}
 use Rattle.store.specs.Refusals.{said, bufferLeft, refused}
-use Rattle.store.specs.Stores.{Store, literalCount, clauseAt, FormedClauses, maxLiterals, wellFormed}
+use Rattle.store.specs.Stores.{Store, literalCount, clauseAt, FormedClauses, maxLiterals, isFormed}
 use Rattle.store.specs.declared.answer.Answer.{Answer}
 use Rattle.store.specs.declared.refusal.Refusal.{Refusal}
 use Rattle.lexleader.specs.Store.{clausesOf}
@@ -42,7 +42,7 @@ pub same-line : {line other : List ℕ} → line ≡ other → (out : List ℕ) 
 same-line e out answer after w = rw e at w
 
 -- the header of the totals that were counted
-pub header-there : (s : Store) → wellFormed s ≡ true → {total : Totals} → Counted (s .counts) (s .images) total → headerLine (total .variables) (total .clauses) ≡ headerOf s
+pub header-there : (s : Store) → isFormed s ≡ true → {total : Totals} → Counted (s .counts) (s .images) total → headerLine (total .variables) (total .clauses) ≡ headerOf s
 unfolding headerOf
 header-there s well c = ap₂ headerLine (counted-variables s c) (counted-clauses s well c)
 

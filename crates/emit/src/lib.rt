@@ -10,7 +10,7 @@ ghost use Prim.Native.Nat.{_+_, _-_, _≤_, _<_};
 ghost use mathlib.Core.List.{[]};
 ghost use lib.ListN.{length, getD};
 ghost use Rattle.store.specs.Refusals.{said, bufferLeft};
-ghost use Rattle.store.specs.Stores.{stored, rowsOf, wellFormed, FormedRows, maxLiterals};
+ghost use Rattle.store.specs.Stores.{stored, rowsOf, isFormed, FormedRows, maxLiterals};
 ghost use Rattle.lexleader.specs.Made.{rowsClauses};
 ghost use Rattle.render.specs.Text.{clauseLine, headerLine};
 ghost use Rattle.emit.specs.Emit.{lineOf, clauseBy, writtenIf};
@@ -39,7 +39,7 @@ pub fn clause(
     q: usize,
     out: &mut [u8],
 ) -> Answer
-    requires { ⌜ wellFormed (stored counts literals ends images) ≡ true ⌝ }
+    requires { ⌜ isFormed (stored counts literals ends images) ≡ true ⌝ }
     ensures answer { λ r. let s = stored counts (literals .entry) (ends .entry) (images .entry) in
         ⌜ said r ≡ clauseBy s q (length (now (out .entry))) ⌝ }
     ensures buffer { λ r. let s = stored counts (literals .entry) (ends .entry) (images .entry) in

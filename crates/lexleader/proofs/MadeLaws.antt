@@ -7,7 +7,7 @@ use Prim.Native.Nat.{ℕ, _+_, _-_, _≤_, _<_}
 use native.Mathlib.Omega.{arith}
 use lib.ListN.{length, getD, take, length-append, List·getD-append}
 use lib.Seq.{length-take-le, getD-append-add}
-use Rattle.store.specs.Stores.{Store, clauseAt, plainOf, heldRows, wellFormed}
+use Rattle.store.specs.Stores.{Store, clauseAt, plainOf, heldRows, isFormed}
 use Rattle.store.proofs.Cuts.{length-cut, clause-is}
 use Rattle.store.proofs.Demands.{rest-of}
 use Rattle.lexleader.specs.Made.{rowClauses, auxiliaries, rowsClauses, allAuxiliaries, made, madeVariables}
@@ -15,7 +15,7 @@ use Rattle.lexleader.specs.Store.{madeOf, variablesOf, clausesOf}
 use Rattle.lexleader.specs.Counted.{Counted}
 use Rattle.lexleader.specs.declared.counting.Totals.{Totals}
 
-module _ (s : Store) (formed : wellFormed s ≡ true) where
+module _ (s : Store) (formed : isFormed s ≡ true) where
   -- the ends of the clauses in use
   abbrev used-ends : List ℕ
   used-ends = take (s .counts .clauses) (s .ends)
@@ -55,7 +55,7 @@ pub counted-variables : (s : Store) {r : Totals} → Counted (s .counts) (s .ima
 unfolding variablesOf heldRows
 counted-variables s c = c .variables
 
-pub counted-clauses : (s : Store) → wellFormed s ≡ true → {r : Totals} → Counted (s .counts) (s .images) r → r .clauses ≡ clausesOf s
+pub counted-clauses : (s : Store) → isFormed s ≡ true → {r : Totals} → Counted (s .counts) (s .images) r → r .clauses ≡ clausesOf s
 unfolding heldRows
 counted-clauses s formed c = c .clauses ∙ sym (clauses-are s formed)
 

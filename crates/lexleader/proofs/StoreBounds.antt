@@ -13,7 +13,7 @@ use Rattle.lists.proofs.Cases.{lt-or-le}
 use Rattle.lists.proofs.Members.{all-at}
 use Rattle.packed.specs.Words.{maxWords, wordCount}
 use Rattle.store.specs.Literals.{isLiteral}
-use Rattle.store.specs.Stores.{Store, maxLiterals, literalCount, plainOf, heldRows, wellFormed}
+use Rattle.store.specs.Stores.{Store, maxLiterals, literalCount, plainOf, heldRows, isFormed}
 use Rattle.store.proofs.Demands.{rows-of}
 use Rattle.store.proofs.Formed.{formed, formed-clauses}
 use Rattle.store.proofs.Within.{literals-within}
@@ -30,7 +30,7 @@ pub variables-sum : (s : Store) → variablesOf s ≡ s .counts .variables + all
 unfolding variablesOf madeVariables
 variables-sum s = refl
 
-module _ (s : Store) (well : wellFormed s ≡ true) where
+module _ (s : Store) (well : isFormed s ≡ true) where
   -- "M = m + 6 times that sum"
   pub clauses-sum : clausesOf s ≡ s .counts .clauses + 6 * allAuxiliaries (heldRows s)
   clauses-sum = clauses-are s well ∙ ap (λ (k : ℕ). s .counts .clauses + k) (rows-six (s .counts .variables) (s .counts .variables + 1) (heldRows s) (rows-of s well))

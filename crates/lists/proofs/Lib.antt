@@ -3,3 +3,4 @@ pub mod Members
 pub mod Steps
 pub mod Distinct
 pub mod TableLaws
+pub mod Writing

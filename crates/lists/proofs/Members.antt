@@ -2,13 +2,14 @@
 use mathlib.Core.Path.{_≡_, refl, sym, _∙_}
 use mathlib.Core.Bool.{Bool, true, false, _&&_, or-true, and-assoc}
 use mathlib.Core.List.{List, [], _∷_, _++_, map}
+use mathlib.Core.Logic.{⊎-elim}
 use Prim.Native.Nat.{ℕ, zero, suc, _<_, zero-le, suc-le-suc}
 use native.Mathlib.Nat.{not-suc-le-zero, le-of-suc-le-suc}
-use borrow.Author.Tests.{eq-eqb, eqb-true}
+use borrow.Author.Tests.{eq-eqb, ne-eqb, eqb-true}
 use lib.ListN.{length, getD}
 use lib.Dec.{eqb}
 use Rattle.lists.specs.Tests.{anyOf, allOf, has}
-use Rattle.lists.proofs.Cases.{never, not-so, and-l, and-r, and-both, or-cases}
+use Rattle.lists.proofs.Cases.{never, not-so, and-l, and-r, and-both, or-cases, eq-or-ne}
 
 -- some element passes
 pub any-at : {A : Type 0} (q : A → Bool) (l : List A) (d : A) → anyOf q l ≡ true → (i : ℕ) × (i < length l) × (q (getD l i d) ≡ true)
@@ -66,3 +67,21 @@ placed l x i h e = any-in (λ y. eqb y x) l 0 i h (eq-eqb _ _ e)
 -- what holds of every element, at one that is in the list
 pub all-has : (q : ℕ → Bool) (l : List ℕ) (x : ℕ) → allOf q l ≡ true → has l x ≡ true → q x ≡ true
 all-has q l x e h = let r = place l x h in rw (r .2) at (all-at q l 0 e (r .0) (r .1))
+
+-- what a list has, by its head and its rest
+module _ (x : ℕ) (l : List ℕ) where
+  pub has-head : has (x ∷ l) x ≡ true
+  unfolding anyOf
+  has-head = rw (eq-eqb x x refl)
+
+  pub has-rest : (y : ℕ) → has l y ≡ true → has (x ∷ l) y ≡ true
+  unfolding anyOf
+  has-rest y h = rw (h, or-true (eqb x y))
+
+  pub has-other : (y : ℕ) → (x ≡ y → ⊥) → has (x ∷ l) y ≡ has l y
+  unfolding anyOf
+  has-other y n = rw (ne-eqb x y n)
+
+  -- a head that comes again adds nothing
+  pub has-again : has l x ≡ true → (y : ℕ) → has (x ∷ l) y ≡ has l y
+  has-again h y = ⊎-elim (λ e. rw (← e) (has-head ∙ sym h)) (has-other y) (eq-or-ne x y)

@@ -6,7 +6,7 @@ use store::refusal::Refusal;
 ghost use mathlib.Core.Path.{_≡_};
 ghost use mathlib.Core.Bool.{true};
 ghost use Prim.Native.Nat.{_<_};
-ghost use Rattle.store.specs.Stores.{stored, wellFormed, maxRows};
+ghost use Rattle.store.specs.Stores.{stored, isFormed, maxRows};
 ghost use Rattle.offering.specs.Offering.{offeredBy, imagesAfter, rowFor};
 
 pub enum Offered {
@@ -23,7 +23,7 @@ pub fn offer(
     names: &[u8],
     values: &[u8],
 ) -> Offered
-    requires { ⌜ (wellFormed (stored counts literals ends images) ≡ true) × (counts .rows < maxRows) ⌝ }
+    requires { ⌜ (isFormed (stored counts literals ends images) ≡ true) × (counts .rows < maxRows) ⌝ }
     ensures answer { λ r. let s = stored counts (literals .entry) (ends .entry) (images .entry) in
         ⌜ r ≡ offeredBy s (now (names .entry)) (now (values .entry)) ⌝ }
     ensures images { λ r. let s = stored counts (literals .entry) (ends .entry) (images .entry) in

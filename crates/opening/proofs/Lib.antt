@@ -4,7 +4,6 @@ pub mod ProblemLaws
 pub mod CodeLaws
 pub mod ScanLaws
 pub mod DoneLaws
-pub mod Writing
 pub mod OpeningLaws
 pub mod CutLaws
 pub mod Theorem

@@ -7,7 +7,7 @@ use native.Mathlib.Omega.{arith}
 use lib.ListN.{length, take, drop, length-append}
 use lib.Seq.{take-at}
 use Rattle.lists.specs.Tests.{allOf}
-use Rattle.store.specs.Stores.{Store, lent, literalCount, rowsOf, plainOf, wellFormed, heldRows}
+use Rattle.store.specs.Stores.{Store, lent, literalCount, rowsOf, plainOf, isFormed, heldRows}
 use Rattle.store.proofs.Demands.{OtherDemands, rows-decide}
 use Rattle.opening.specs.Clauses.{literalsIn, endsFrom}
 use Rattle.opening.specs.Opening.{bodyOf, openedBy, written, formulaOf}
@@ -64,7 +64,7 @@ module _ (text literals ends images : List ℕ) (n m : ℕ) (e : openedBy text (
     images-long = omega arith;
   }
 
-  pub opened-formed : wellFormed (openedStore text literals ends images n m) ≡ true
+  pub opened-formed : isFormed (openedStore text literals ends images n m) ≡ true
   unfolding allOf rowsOf heldRows
   opened-formed = rows-decide (openedStore text literals ends images n m) rest
 

@@ -1,9 +1,10 @@
 -- Opening a text (document 01, refusals 1 to 6, then 23; document 02, CR 1). Assumes nothing.
 use Prim.Native.Nat.{ℕ, _+_}
 use mathlib.Core.Bool.{cond}
-use mathlib.Core.List.{List, [], _++_}
-use lib.ListN.{length, drop}
+use mathlib.Core.List.{List, []}
+use lib.ListN.{length}
 use lib.Dec.{leb}
+use Rattle.lists.specs.Writing.{overwritten}
 use Rattle.dimacs.specs.Words.{Piece}
 use Rattle.dimacs.specs.Lines.{linesAt}
 use Rattle.comments.specs.Comments.{wordsIn}
@@ -36,10 +37,6 @@ openedAfter (Problem.Refused r) words whole literals ends = Opened.Refused r
 -- what opening a text answers where the literals and ends slices have these lengths
 unfoldable pub openedBy : List ℕ → ℕ → ℕ → Opened
 openedBy text literals ends = openedAfter (problemOf text) (bodyOf text) (length text) literals ends
-
--- a slice written over from its start
-abbrev pub overwritten : List ℕ → List ℕ → List ℕ
-overwritten front old = front ++ drop (length front) old
 
 -- a slice afterwards: written over where the text was opened, as it was where it was refused
 abbrev pub written : Opened → List ℕ → List ℕ → List ℕ

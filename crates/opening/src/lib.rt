@@ -10,13 +10,14 @@ ghost use mathlib.Core.Bool.{true};
 ghost use mathlib.Core.List.{[], _∷_};
 ghost use Prim.Native.Nat.{ℕ, _≤_};
 ghost use lib.ListN.{length};
+ghost use Rattle.lists.specs.Writing.{overwritten};
 ghost use Rattle.dimacs.specs.Words.{Piece, wordsAt};
 ghost use Rattle.dimacs.specs.Numbers.{wordAt};
 ghost use Rattle.comments.specs.Comments.{wordsPast, Between};
 ghost use Rattle.store.specs.Stores.{maxVariables};
 ghost use Rattle.opening.specs.Problem.{sameBytes, fourWords, sizesOf, problemOf};
 ghost use Rattle.opening.specs.Clauses.{scanFrom, literalsIn, endsFrom};
-ghost use Rattle.opening.specs.Opening.{bodyOf, openedAfter, openedBy, overwritten, written};
+ghost use Rattle.opening.specs.Opening.{bodyOf, openedAfter, openedBy, written};
 ghost use Rattle.opening.specs.declared.Problem.{Problem};
 ghost use Rattle.opening.specs.declared.Opened.{Opened};
 

@@ -6,7 +6,7 @@ use Prim.Native.Nat.{ℕ, _+_, _≤_, _<_}
 use native.Mathlib.Omega.{arith}
 use borrow.Author.Tests.{le-leb, lt-leb}
 use lib.ListN.{length, getD}
-use Rattle.store.specs.Stores.{Store, clauseAt, wellFormed}
+use Rattle.store.specs.Stores.{Store, clauseAt, isFormed}
 use Rattle.store.specs.declared.record.Record.{Record}
 use Rattle.symmetry.proofs.SetLaws.{at-mem}
 use Rattle.lexleader.specs.Store.{madeOf, clausesOf}
@@ -31,7 +31,7 @@ module _ (clause : List ℕ) (clauses : List (List ℕ)) (at : ℕ) (out : List 
 -- ---- no line is too long for an empty page
 
 -- a plain clause is one of the made formula
-pub plain-short : (s : Store) → wellFormed s ≡ true → (c : ℕ) → c < s .counts .clauses → length (clauseLine (clauseAt (s .literals) (s .ends) c)) ≤ longest
+pub plain-short : (s : Store) → isFormed s ≡ true → (c : ℕ) → c < s .counts .clauses → length (clauseLine (clauseAt (s .literals) (s .ends) c)) ≤ longest
 unfolding clausesOf
 plain-short s formed c h =
     rw (made-plain s formed c h) at (line-longest s formed (getD (madeOf s) c []) (at-mem [] (madeOf s) c (omega (arith, clauses-are s formed))))

@@ -8,7 +8,7 @@ ghost use mathlib.Core.Bool.{true};
 ghost use mathlib.Core.List.{List, []};
 ghost use Prim.Native.Nat.{ℕ, _≤_, _<_};
 ghost use lib.ListN.{length, getD};
-ghost use Rattle.store.specs.Stores.{stored, clauseAt, plainOf, wellFormed, FormedClauses};
+ghost use Rattle.store.specs.Stores.{stored, clauseAt, plainOf, isFormed, FormedClauses};
 ghost use Rattle.render.specs.Text.{clauseLine};
 ghost use Rattle.cursor.specs.Cursors.{remainingOf, CursorStands, AtAdded};
 ghost use Rattle.pages.specs.Pages.{FilledPage, fillFrom, longest, PageStep};
@@ -34,7 +34,7 @@ pub fn fill(
     cursor: Cursor,
     out: &mut [u8],
 ) -> Page
-    requires { ⌜ (wellFormed (stored counts literals ends images) ≡ true) × CursorStands counts (now images) cursor ⌝ }
+    requires { ⌜ (isFormed (stored counts literals ends images) ≡ true) × CursorStands counts (now images) cursor ⌝ }
     ensures filled { λ r. let s = stored counts (literals .entry) (ends .entry) (images .entry) in
         ⌜ _≡_ {A = FilledPage} (record { buffer = now (out .exit); end = r .bytes; rest = remainingOf s (r .cursor) })
         (fillFrom 0 (remainingOf s cursor) (now (out .entry))) ⌝ }
@@ -67,7 +67,7 @@ fn add_line(
     out: &mut [u8],
     at: usize,
 ) -> Line
-    requires { ⌜ (wellFormed (stored counts literals ends images) ≡ true) × CursorStands counts (now images) cursor × (at ≤ length (now out)) ⌝ }
+    requires { ⌜ (isFormed (stored counts literals ends images) ≡ true) × CursorStands counts (now images) cursor × (at ≤ length (now out)) ⌝ }
     ensures { λ r. let plain = plainOf (stored counts (literals .entry) (ends .entry) (images .entry)) in
         ⌜ PageStep plain counts (now (images .entry)) cursor at (now (out .entry)) (r .cursor) (r .at) (now (out .exit)) ⌝ }
 {

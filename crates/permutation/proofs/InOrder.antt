@@ -9,7 +9,7 @@ use lib.ListN.{length, getD, length-map}
 use lib.Dec.{eqb, ltb}
 use Rattle.lists.specs.Tests.{anyOf, allOf, has, distinct}
 use Rattle.lists.proofs.Cases.{never, and-l, and-r, and-both, or-cases, or-r-false, not-so}
-use Rattle.lists.proofs.Members.{place, all-at, all-has}
+use Rattle.lists.proofs.Members.{place, all-at, all-has, has-head, has-rest}
 use Rattle.dimacs.specs.Words.{Piece, wordsAt}
 use Rattle.store.specs.Literals.{variableOf, isNegative}
 use Rattle.store.specs.Stores.{isImage}
@@ -20,7 +20,7 @@ use Rattle.permutation.specs.Lines.{notNumber, badNameAfter, badName, ba
 use Rattle.permutation.specs.Stated.{orElse, statedBy}
 use Rattle.permutation.specs.declared.Fault.{Fault}
 use Rattle.permutation.specs.declared.Stated.{Stated}
-use Rattle.permutation.proofs.Lists.{has-head, has-rest, rest-differ, no-longer}
+use Rattle.permutation.proofs.Lists.{rest-differ, no-longer}
 use Rattle.permutation.proofs.NameLaws.{is-image}
 
 -- ---- codes that pass a test, with variables that are new

@@ -14,14 +14,6 @@ use Rattle.lists.proofs.Cases.{never, and-l, and-r, or-cases, not-so}
 use Rattle.lists.proofs.Members.{place}
 
 module _ (x : ℕ) (l : List ℕ) where
-  pub has-head : has (x ∷ l) x ≡ true
-  unfolding anyOf
-  has-head = rw (eq-eqb x x refl)
-
-  pub has-rest : (y : ℕ) → has l y ≡ true → has (x ∷ l) y ≡ true
-  unfolding anyOf
-  has-rest y h = rw (h, or-true (eqb x y))
-
   -- no number stands twice: not the head, and not in the rest
   pub head-once : distinct (x ∷ l) ≡ true → has l x ≡ false
   unfolding distinct

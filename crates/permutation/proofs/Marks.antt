@@ -9,7 +9,8 @@ use lib.ListN.{length, getD, set, length-set, replicate, length-replicate, getD-
 use lib.Dec.{eqb}
 use Rattle.lists.specs.Tests.{anyOf, has}
 use Rattle.lists.proofs.Cases.{lt-or-le}
-use Rattle.permutation.proofs.Lists.{has-head, stored}
+use Rattle.lists.proofs.Members.{has-head}
+use Rattle.permutation.proofs.Lists.{stored}
 
 pub record Marks (test : ℕ → Bool) (marks : List Bool) : Type 0 where
   pub room : length marks ≡ 513

@@ -15,7 +15,7 @@ use lib.Dec.{eqb}
 use Rattle.lists.specs.Tests.{anyOf, has, distinct}
 use Rattle.lists.specs.Tables.{table}
 use Rattle.lists.proofs.Cases.{never, or-l-false, or-r-false, not-so, lt-or-le}
-use Rattle.lists.proofs.Members.{placed}
+use Rattle.lists.proofs.Members.{placed, has-head, has-rest}
 use Rattle.lists.proofs.Steps.{drop-step}
 use Rattle.lists.proofs.TableLaws.{length-table, getD-table, table-snoc}
 use Rattle.store.specs.Literals.{variableOf}
@@ -23,7 +23,7 @@ use Rattle.store.specs.Stores.{isImage}
 use Rattle.store.proofs.FormLaws.{literal-high, image-literal}
 use Rattle.permutation.specs.Lines.{namesOn, valuesOn}
 use Rattle.permutation.specs.Stated.{imageAmong, rowStated}
-use Rattle.permutation.proofs.Lists.{has-head, has-rest, head-once, rest-differ, stored}
+use Rattle.permutation.proofs.Lists.{head-once, rest-differ, stored}
 use Rattle.permutation.proofs.InOrder.{Named, named-rest, InOrder}
 
 -- ---- a table that a loop writes over the start of a list

@@ -7,7 +7,7 @@ use native.Mathlib.Nat.{mul-le-mul-right}
 use native.Mathlib.Omega.{arith}
 use lib.ListN.{length, length-append}
 use Rattle.store.specs.Refusals.{Said, done, refused}
-use Rattle.store.specs.Stores.{Store, wellFormed}
+use Rattle.store.specs.Stores.{Store, isFormed}
 use Rattle.lexleader.specs.Store.{madeOf, clausesOf}
 use Rattle.lexleader.proofs.StoreBounds.{clauses-most}
 use Rattle.render.specs.Text.{clauseLine}
@@ -27,7 +27,7 @@ lines-length (clause ∷ clauses) h =
     let rest = lines-length clauses (λ c m. h c (List·Memᴰ·tail m)) in
     omega (arith, length-append (clauseLine clause) (linesOf clauses), h clause (List·Memᴰ·head refl), rest)
 
-text-length : (s : Store) → wellFormed s ≡ true → length (textOf s) ≤ maxOutput
+text-length : (s : Store) → isFormed s ≡ true → length (textOf s) ≤ maxOutput
 unfolding textOf clausesOf
 text-length s e =
     omega (

@@ -8,7 +8,7 @@ use native.Mathlib.Omega.{arith}
 use lib.ListN.{length, take, drop, length-append}
 use lib.Seq.{take-append-seam, drop-append-seam, length-take-le}
 use Rattle.store.specs.Refusals.{numberOf, placeOf}
-use Rattle.store.specs.Stores.{Store, wellFormed}
+use Rattle.store.specs.Stores.{Store, isFormed}
 use Rattle.store.specs.declared.refusal.Refusal.{Refusal}
 use Rattle.render.specs.Text.{refusalLine, headerLine, writtenAt}
 use Rattle.render.proofs.Writing.{length-written}
@@ -57,7 +57,7 @@ refused-step s refusal out room number place bytes after n p b a =
     line-step s (Stage.Refused refusal) Stage.Over (refusalLine number place) out (rw (n, p) (sym (append-nil (refusalLine (numberOf refusal) (placeOf refusal)))))
     (omega arith) (omega (arith, refusal-room number place (length out) room)) tt bytes after b a
 
-pub header-step : (s : Store) → wellFormed s ≡ true → (out : List ℕ) → maxLine ≤ length out → (variables clauses bytes : ℕ) (after : List ℕ)
+pub header-step : (s : Store) → isFormed s ≡ true → (out : List ℕ) → maxLine ≤ length out → (variables clauses bytes : ℕ) (after : List ℕ)
     → variables ≡ variablesOf s → clauses ≡ clausesOf s → bytes ≡ 0 + length (headerLine variables clauses) → after ≡ writtenAt 0 (headerLine variables clauses) out
     → (c : Cursor) → CursorStands (s .counts) (s .images) c → remainingOf s c ≡ madeOf s → PageStep s Stage.Header out (Stage.Clauses c) bytes after
 unfolding leftToPrint textOf headerOf
@@ -68,7 +68,7 @@ header-step s formed out room variables clauses bytes after v m b a c points all
 
 -- ---- a page of clauses
 
-pub clauses-step : (s : Store) → wellFormed s ≡ true → (c d : Cursor) (out after : List ℕ) (bytes : ℕ)
+pub clauses-step : (s : Store) → isFormed s ≡ true → (c d : Cursor) (out after : List ℕ) (bytes : ℕ)
     → _≡_ {A = FilledPage} (record { buffer = after; end = bytes; rest = remainingOf s d }) (fillFrom 0 (remainingOf s c) out)
     → CursorStands (s .counts) (s .images) d → (bytes ≡ 0 → remainingOf s c ≡ []) → PageStep s (Stage.Clauses c) out (Stage.Clauses d) bytes after
 unfolding leftToPrint linesOf

@@ -6,7 +6,7 @@ use mathlib.Core.Bool.{true}
 use mathlib.Core.List.{List, [], _++_}
 use lib.ListN.{length, take, drop, replicate}
 use Rattle.store.specs.Refusals.{Said, done, refused, numberOf, placeOf}
-use Rattle.store.specs.Stores.{Store, lent, closedRecord, wellFormed, maxVariables, maxClauses, maxLiterals, maxRows}
+use Rattle.store.specs.Stores.{Store, lent, closedRecord, isFormed, maxVariables, maxClauses, maxLiterals, maxRows}
 use Rattle.render.specs.Text.{refusalLine}
 use Rattle.lexleader.specs.Bounds.{maxMadeClauses}
 use Rattle.emit.specs.Emit.{linesOf, textOf, maxHeader, maxLine}
@@ -41,8 +41,8 @@ leftToPrint Stage.Over s = []
 -- a stage in a store
 abbrev pub StageStands : Stage → Store → Type 0
 StageStands (Stage.Refused r) s = Unit {0}
-StageStands Stage.Header s = wellFormed s ≡ true
-StageStands (Stage.Clauses c) s = (wellFormed s ≡ true) × CursorStands (s .counts) (s .images) c
+StageStands Stage.Header s = isFormed s ≡ true
+StageStands (Stage.Clauses c) s = (isFormed s ≡ true) × CursorStands (s .counts) (s .images) c
 StageStands Stage.Over s = Unit {0}
 
 -- One page: the bytes put at the start of the buffer are what is printed of what was left, the bytes past them stay, and a page without bytes is the last.

@@ -8,50 +8,50 @@ use lib.Dec.{lit<}
 use Rattle.lists.specs.Tests.{allOf}
 use Rattle.lists.proofs.Members.{all-at, all-not}
 use Rattle.store.specs.Literals.{isLiteral}
-use Rattle.store.specs.Stores.{Store, maxVariables, maxClauses, maxLiterals, maxRows, rising, literalCount, heldRows, isRow, demands, wellFormed}
+use Rattle.store.specs.Stores.{Store, maxVariables, maxClauses, maxLiterals, maxRows, rising, literalCount, heldRows, isRow, demands, isFormed}
 
 module _ (s : Store) where
   -- the count of literals in use
   abbrev pub used : ℕ
   used = literalCount (s .counts .clauses) (s .ends)
 
-  fails : (k : ℕ) → k < length (demands s) → getD (demands s) k true ≡ false → wellFormed s ≡ false
-  unfolding wellFormed
+  fails : (k : ℕ) → k < length (demands s) → getD (demands s) k true ≡ false → isFormed s ≡ false
+  unfolding isFormed
   fails k h e = all-not (λ b. b) (demands s) true k h e
 
-  pub many-variables : maxVariables < s .counts .variables → wellFormed s ≡ false
+  pub many-variables : maxVariables < s .counts .variables → isFormed s ≡ false
   unfolding demands
   many-variables h = fails 0 (lit< tt) (lt-leb _ _ h)
 
-  pub many-clauses : maxClauses < s .counts .clauses → wellFormed s ≡ false
+  pub many-clauses : maxClauses < s .counts .clauses → isFormed s ≡ false
   unfolding demands
   many-clauses h = fails 1 (lit< tt) (lt-leb _ _ h)
 
-  pub many-rows : maxRows < s .counts .rows → wellFormed s ≡ false
+  pub many-rows : maxRows < s .counts .rows → isFormed s ≡ false
   unfolding demands
   many-rows h = fails 2 (lit< tt) (lt-leb _ _ h)
 
-  pub short-ends : length (s .ends) < s .counts .clauses → wellFormed s ≡ false
+  pub short-ends : length (s .ends) < s .counts .clauses → isFormed s ≡ false
   unfolding demands
   short-ends h = fails 3 (lit< tt) (lt-leb _ _ h)
 
-  pub falling-ends : rising 0 (take (s .counts .clauses) (s .ends)) ≡ false → wellFormed s ≡ false
+  pub falling-ends : rising 0 (take (s .counts .clauses) (s .ends)) ≡ false → isFormed s ≡ false
   unfolding demands
   falling-ends e = fails 4 (lit< tt) e
 
-  pub many-literals : maxLiterals < used → wellFormed s ≡ false
+  pub many-literals : maxLiterals < used → isFormed s ≡ false
   unfolding demands
   many-literals h = fails 5 (lit< tt) (lt-leb _ _ h)
 
-  pub short-literals : length (s .literals) < used → wellFormed s ≡ false
+  pub short-literals : length (s .literals) < used → isFormed s ≡ false
   unfolding demands
   short-literals h = fails 6 (lit< tt) (lt-leb _ _ h)
 
-  pub bad-literal : allOf (isLiteral (s .counts .variables)) (take used (s .literals)) ≡ false → wellFormed s ≡ false
+  pub bad-literal : allOf (isLiteral (s .counts .variables)) (take used (s .literals)) ≡ false → isFormed s ≡ false
   unfolding demands
   bad-literal e = fails 7 (lit< tt) e
 
-  pub short-images : length (s .images) < s .counts .rows * s .counts .variables → wellFormed s ≡ false
+  pub short-images : length (s .images) < s .counts .rows * s .counts .variables → isFormed s ≡ false
   unfolding demands
   short-images h = fails 8 (lit< tt) (lt-leb _ _ h)
 
@@ -67,8 +67,8 @@ module _ (s : Store) where
     pub literals-good : allOf (isLiteral (s .counts .variables)) (take used (s .literals)) ≡ true
     pub images-long : s .counts .rows * s .counts .variables ≤ length (s .images)
 
-  pub rows-decide : OtherDemands → wellFormed s ≡ allOf (isRow (s .counts .variables)) (heldRows s)
-  unfolding wellFormed demands allOf heldRows
+  pub rows-decide : OtherDemands → isFormed s ≡ allOf (isRow (s .counts .variables)) (heldRows s)
+  unfolding isFormed demands allOf heldRows
   rows-decide r =
       simp (
         le-leb _ _ (r .variables-fit),
@@ -84,9 +84,9 @@ module _ (s : Store) where
       )
 
   -- and what a well formed store meets
-  module _ (e : wellFormed s ≡ true) where
+  module _ (e : isFormed s ≡ true) where
     pub demand : (k : ℕ) → k < length (demands s) → getD (demands s) k true ≡ true
-    unfolding wellFormed
+    unfolding isFormed
     demand k h = all-at (λ b. b) (demands s) true e k h
 
     pub rest-of : OtherDemands

@@ -5,20 +5,20 @@ use mathlib.Core.List.{List, [], _∷_, map}
 use Prim.Native.Nat.{ℕ}
 use Rattle.lists.specs.Tests.{allOf, anyOf, distinct}
 use Rattle.store.specs.Literals.{isLiteral}
-use Rattle.store.specs.Stores.{Store, lent, rising, literalCount, rowsOf, isImage, isRow, demands, wellFormed}
+use Rattle.store.specs.Stores.{Store, lent, rising, literalCount, rowsOf, isImage, isRow, demands, isFormed}
 
 -- document 01's listing with its row `3 2 1`, and with what is past the entries in use
 listing : (rows : ℕ) (literals ends images : List ℕ) → Store
 listing rows literals ends images = lent (record { variables = 3; clauses = 2; rows = rows; is_open = true }) literals ends images
 
-good : wellFormed (listing 1 (2 ∷ 4 ∷ 4 ∷ 6 ∷ 9999 ∷ []) (2 ∷ 4 ∷ 1 ∷ []) (6 ∷ 4 ∷ 2 ∷ 7 ∷ [])) ≡ true
-unfolding listing isLiteral rising literalCount rowsOf isImage isRow demands wellFormed allOf anyOf distinct
+good : isFormed (listing 1 (2 ∷ 4 ∷ 4 ∷ 6 ∷ 9999 ∷ []) (2 ∷ 4 ∷ 1 ∷ []) (6 ∷ 4 ∷ 2 ∷ 7 ∷ [])) ≡ true
+unfolding listing isLiteral rising literalCount rowsOf isImage isRow demands isFormed allOf anyOf distinct
 good = refl
 
 -- an end that falls; one that passes the literals; a literal beyond n; a literal 0; a row with a repeated image; one with a negative image; images
 -- too short for the rows
 bad :
-    map wellFormed
+    map isFormed
     (listing 0 (2 ∷ 4 ∷ 4 ∷ 6 ∷ []) (4 ∷ 2 ∷ []) []
     ∷ listing 0 (2 ∷ 4 ∷ 4 ∷ 6 ∷ []) (2 ∷ 5 ∷ []) []
     ∷ listing 0 (2 ∷ 4 ∷ 4 ∷ 8 ∷ []) (2 ∷ 4 ∷ []) []
@@ -28,5 +28,5 @@ bad :
     ∷ listing 2 (2 ∷ 4 ∷ 4 ∷ 6 ∷ []) (2 ∷ 4 ∷ []) (6 ∷ 4 ∷ 2 ∷ 6 ∷ 4 ∷ [])
     ∷ [])
     ≡ false ∷ false ∷ false ∷ false ∷ false ∷ false ∷ false ∷ []
-unfolding listing isLiteral rising literalCount rowsOf isImage isRow demands wellFormed allOf anyOf distinct
+unfolding listing isLiteral rising literalCount rowsOf isImage isRow demands isFormed allOf anyOf distinct
 bad = refl

@@ -14,7 +14,7 @@ use Rattle.lists.proofs.Cases.{and-l, and-r}
 use Rattle.lists.proofs.Members.{all-at}
 use Rattle.lists.proofs.Distinct.{distinct-inj}
 use Rattle.store.specs.Literals.{variableOf, isNegative, isLiteral}
-use Rattle.store.specs.Stores.{Store, maxVariables, maxClauses, maxLiterals, maxRows, rising, literalCount, rowAt, heldRows, isImage, isRow, FormedRows, FormedClauses, wellFormed}
+use Rattle.store.specs.Stores.{Store, maxVariables, maxClauses, maxLiterals, maxRows, rising, literalCount, rowAt, heldRows, isImage, isRow, FormedRows, FormedClauses, isFormed}
 use Rattle.store.proofs.FormLaws.{variables, variable-at, literal-low, literal-high, image-literal, count-none, count-last}
 use Rattle.store.proofs.RowLaws.{rows-at}
 use Rattle.store.proofs.Cuts.{end-is}
@@ -91,7 +91,7 @@ pub record Formed (s : Store) : Type 0 where
   pub literal-high : (i : ℕ) → i < used s → variableOf (getD (s .literals) i 0) ≤ s .counts .variables
   pub row : (r : ℕ) → r < s .counts .rows → Row (s .counts .variables) (rowAt (s .counts .variables) r (s .images))
 
-pub formed : (s : Store) → wellFormed s ≡ true → Formed s
+pub formed : (s : Store) → isFormed s ≡ true → Formed s
 unfolding heldRows
 formed s e =
     let n : ℕ = s .counts .variables in
@@ -119,7 +119,7 @@ formed s e =
 
 -- ---- its rows and its clauses alone
 
-pub formed-rows : (s : Store) → wellFormed s ≡ true → FormedRows (s .counts .variables) (s .counts .rows) (s .images)
+pub formed-rows : (s : Store) → isFormed s ≡ true → FormedRows (s .counts .variables) (s .counts .rows) (s .images)
 unfolding heldRows
 formed-rows s e = let r = rest-of s e in record { small = r .variables-fit; rows-fit = r .rows-fit; fits = r .images-long; good = rows-of s e }
 

@@ -6,5 +6,4 @@ pub mod Formed
 pub mod Cuts
 pub mod Within
 pub mod RowChanges
-pub mod StandingLaws
 pub mod Examples

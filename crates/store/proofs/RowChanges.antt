@@ -9,12 +9,12 @@ use lib.ListN.{length, take, drop, take-append-drop}
 use Rattle.lists.specs.Tests.{allOf}
 use Rattle.lists.proofs.Cases.{and-l, and-both}
 use Rattle.lists.proofs.Members.{all-append}
-use Rattle.store.specs.Stores.{Store, withRows, withRow, withoutRow, maxRows, rowsOf, heldRows, isRow, wellFormed}
+use Rattle.store.specs.Stores.{Store, withRows, withRow, withoutRow, maxRows, rowsOf, heldRows, isRow, isFormed}
 use Rattle.store.proofs.Demands.{rest-of, rows-of, rows-decide}
 use Rattle.store.proofs.RowLaws.{appended-rows, appended-length, rows-fewer, rows-count}
 
-pub with-rows-formed : (s : Store) (k : ℕ) (images : List ℕ) → wellFormed s ≡ true → k ≤ maxRows → k * s .counts .variables ≤ length images
-    → allOf (isRow (s .counts .variables)) (rowsOf (s .counts .variables) k images) ≡ true → wellFormed (withRows s k images) ≡ true
+pub with-rows-formed : (s : Store) (k : ℕ) (images : List ℕ) → isFormed s ≡ true → k ≤ maxRows → k * s .counts .variables ≤ length images
+    → allOf (isRow (s .counts .variables)) (rowsOf (s .counts .variables) k images) ≡ true → isFormed (withRows s k images) ≡ true
 unfolding heldRows
 with-rows-formed s k images e few fits good =
     let r = rest-of s e in
@@ -45,7 +45,7 @@ module _ (s : Store) (row : List ℕ) (size : length row ≡ s .counts .variable
   pub with-row-images : length (withRow s row .images) ≡ length (s .images)
   with-row-images = appended-length (s .counts .variables) (s .counts .rows) (s .images) row size (omega arith)
 
-  pub with-row-formed : wellFormed s ≡ true → isRow (s .counts .variables) row ≡ true → s .counts .rows < maxRows → wellFormed (withRow s row) ≡ true
+  pub with-row-formed : isFormed s ≡ true → isRow (s .counts .variables) row ≡ true → s .counts .rows < maxRows → isFormed (withRow s row) ≡ true
   unfolding allOf heldRows
   with-row-formed e good few =
       with-rows-formed s (s .counts .rows + 1) (withRow s row .images) e (omega arith) (omega (arith, with-row-images))
@@ -57,7 +57,7 @@ pub without-row-held : (s : Store) → heldRows (withoutRow s) ≡ take (length 
 unfolding heldRows
 without-row-held s = rw (held-count s) (rows-fewer (s .counts .variables) (s .counts .rows - 1) (s .counts .rows) (s .images) (omega arith))
 
-pub without-row-formed : (s : Store) → wellFormed s ≡ true → wellFormed (withoutRow s) ≡ true
+pub without-row-formed : (s : Store) → isFormed s ≡ true → isFormed (withoutRow s) ≡ true
 unfolding heldRows
 without-row-formed s e =
     let n : ℕ = s .counts .variables in

@@ -1,7 +1,7 @@
 -- Refusals by their numbers and places (document 01, "Turned back by what was lent", "Turned back by the store"; 30 by document 02, CR 3). Assumes nothing.
 use Prim.Native.Nat.{ℕ}
-use mathlib.Core.List.{List, _++_}
-use lib.ListN.{length, drop}
+use mathlib.Core.List.{List}
+use Rattle.lists.specs.Writing.{overwritten}
 use Rattle.store.specs.declared.answer.Answer.{Answer}
 use Rattle.store.specs.declared.refusal.Refusal.{Refusal}
 
@@ -71,4 +71,4 @@ unlessRefused (refused number place) changed same = same
 
 -- a lent buffer after a call that writes: what it wrote in front of what was past that
 abbrev pub bufferLeft : Said ℕ → List ℕ → List ℕ → List ℕ
-bufferLeft answer front out = unlessRefused answer (front ++ drop (length front) out) out
+bufferLeft answer front out = unlessRefused answer (overwritten front out) out

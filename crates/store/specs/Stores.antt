@@ -1,5 +1,5 @@
--- The store: "what the caller lends at every call" (document 01, "Plain formula"), and when it is well formed ("Turned back by the store", 21).
--- Assumes nothing.
+-- The store: "what the caller lends at every call" (document 01, "Plain formula"), and the form that it must have ("Turned back by the store", 21). The keys of its
+-- clauses (document 02, CR 5) are lent beside it, for those that look at them: `standing/specs/Keyed.antt`. Assumes nothing.
 use mathlib.Core.Path.{_≡_}
 use Prim.Native.Nat.{ℕ, zero, suc, _+_, _-_, _*_, _≤_, _<_}
 use mathlib.Core.Bool.{Bool, true, false, cond, not, _&&_}
@@ -10,9 +10,7 @@ use lib.Dec.{eqb, leb}
 use denote.Ref.{RefT}
 use Rattle.lists.specs.Tests.{allOf, distinct}
 use Rattle.store.specs.Literals.{variableOf, isNegative, isLiteral}
-use Rattle.store.specs.declared.form.Standing.{Standing}
 use Rattle.store.specs.declared.record.Record.{Record}
-use Rattle.store.specs.declared.refusal.Refusal.{Refusal}
 
 -- "At most 512 variables, 4,096 clauses and 12,288 literals", and 64 rows
 abbrev pub maxVariables : ℕ
@@ -111,7 +109,7 @@ withRow s row = withRows s (s .counts .rows + 1) (appended (s .counts .variables
 abbrev pub withoutRow : Store → Store
 withoutRow s = withRows s (s .counts .rows - 1) (s .images)
 
--- the opposite of 21: "a slice too short for the counts, ends that fall or pass the literals, a literal 0 or beyond n, a row that isn't a
+-- the opposite of 21, the keys apart: "a slice too short for the counts, ends that fall or pass the literals, a literal 0 or beyond n, a row that isn't a
 -- permutation, a count over its limit"
 unfoldable pub demands : Store → List Bool
 demands s =
@@ -131,10 +129,10 @@ demands s =
     ∷ allOf (isRow n) (rowsOf n rows (s .images))
     ∷ []
 
-unfoldable pub wellFormed : Store → Bool
-wellFormed s = allOf (λ b. b) (demands s)
+unfoldable pub isFormed : Store → Bool
+isFormed s = allOf (λ b. b) (demands s)
 
--- The rows of a well-formed store, for functions that read no more of it.
+-- The rows of a formed store, for functions that read no more of it.
 pub record FormedRows (n k : ℕ) (images : List ℕ) : Type 0 where
   pub small : n ≤ maxVariables
   pub rows-fit : k ≤ maxRows
@@ -148,6 +146,8 @@ pub record FormedClauses (m : ℕ) (literals ends : List ℕ) : Type 0 where
   pub within : (c : ℕ) → c < m → literalCount (c + 1) ends ≤ length literals
   pub literals-fit : (c : ℕ) → c < m → literalCount (c + 1) ends ≤ maxLiterals
 
--- "20. Not open. 21. Badly formed .. These have place 0 and come first, in this order."
-unfoldable pub standingOf : Store → Standing
-standingOf s = cond (not (s .counts .is_open)) (Standing.Refused Refusal.NotOpen) (cond (not (wellFormed s)) (Standing.Refused Refusal.BadlyFormed) Standing.Ready)
+-- And its clauses with their literals, each of one of the variables 1..n.
+pub record FormedFormula (n m : ℕ) (literals ends : List ℕ) : Type 0 where
+  pub clauses : FormedClauses m literals ends
+  pub clauses-fit : m ≤ maxClauses
+  pub literals-good : allOf (allOf (isLiteral n)) (clausesIn m literals ends) ≡ true

@@ -1,39 +1,19 @@
-// The one test of a store's form, the opposite of refusal 21: every call that needs an open store makes it first, and the functions below
-// the public calls rely on it. It looks only at the entries in use.
+// The one test of a store's form, the opposite of refusal 21 but for the keys: every call that needs an open store makes it first, and the
+// functions below the public calls rely on it. It looks only at the entries in use.
 ghost use mathlib.Core.Path.{_≡_};
 ghost use Prim.Native.Nat.{_*_, _≤_};
 ghost use lib.ListN.{length};
 ghost use Rattle.lists.specs.Tests.{allOf};
 ghost use Rattle.store.specs.Literals.{isLiteral};
-ghost use Rattle.store.specs.Stores.{stored, wellFormed, standingOf, rising, isImage, isRow, rowsOf, maxVariables};
+ghost use Rattle.store.specs.Stores.{stored, isFormed, rising, isImage, isRow, rowsOf, maxVariables};
 use crate::clauses;
 use crate::literal;
 use crate::record::Record;
-use crate::refusal::Refusal;
 use crate::rows;
 use std::num::wrapping_sub_usize;
 
-// What a call that needs an open store finds first.
-pub enum Standing {
-    Ready,
-    Refused(Refusal),
-}
-
-// Whether a store is open and well formed: 20, then 21.
-pub fn admit(counts: Record, literals: &[u16], ends: &[u16], images: &[u16]) -> Standing
-    ensures { λ r. ⌜ r ≡ standingOf (stored counts (literals .entry) (ends .entry) (images .entry)) ⌝ }
-{
-    if !counts.is_open {
-        return Standing::Refused(Refusal::NotOpen);
-    }
-    if !well_formed(counts, literals, ends, images) {
-        return Standing::Refused(Refusal::BadlyFormed);
-    }
-    Standing::Ready
-}
-
-pub fn well_formed(counts: Record, literals: &[u16], ends: &[u16], images: &[u16]) -> bool
-    ensures { λ r. ⌜ r ≡ wellFormed (stored counts (literals .entry) (ends .entry) (images .entry)) ⌝ }
+pub fn is_formed(counts: Record, literals: &[u16], ends: &[u16], images: &[u16]) -> bool
+    ensures { λ r. ⌜ r ≡ isFormed (stored counts (literals .entry) (ends .entry) (images .entry)) ⌝ }
 {
     let n = counts.variables;
     let m = counts.clauses;

@@ -9,11 +9,11 @@ use Rattle.dimacs.specs.Words.{Piece}
 use Rattle.comments.specs.Comments.{wordsPast, Between}
 use Rattle.store.specs.Stores.{maxVariables, maxLiterals}
 use Rattle.opening.specs.Clauses.{scanFrom, literalsIn, endsFrom}
-use Rattle.opening.specs.Opening.{overwritten}
+use Rattle.lists.specs.Writing.{overwritten}
 use Rattle.opening.specs.declared.Scanned.{Scanned}
 use Rattle.opening.proofs.NextNumber.{NextNumber, body-found, body-missing}
 use Rattle.opening.proofs.DoneLaws.{counted, ZeroTurn, zero-turn, LiteralTurn, literal-turn, none-left}
-use Rattle.opening.proofs.Writing.{stored, sets-front}
+use Rattle.lists.proofs.Writing.{stored, sets-front}
 use Rattle.opening.proofs.OpeningLaws.{room}
 use borrow.Author.Needs.{needs}
 use native.Mathlib.Omega.{arith}

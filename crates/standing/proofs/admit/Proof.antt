@@ -1,10 +1,10 @@
--- `store::form::admit` meets its contract. Assumes nothing.
+-- `standing::admit` meets its contract. Assumes nothing.
 use mathlib.Core.Path.{sym, _∙_}
 use borrow.Author.Tests.{not-true, not-false}
-use Rattle.store.proofs.StandingLaws.{not-open, badly-formed, ready-of}
+use Rattle.standing.proofs.StandingLaws.{not-open, badly-formed, ready-of}
 use borrow.Author.Needs.{needs}
-use Rattle.store.proofs.form.admit.Statement.{statement}
-use Rattle.store.proofs.form.admit.Tie as tie
+use Rattle.standing.proofs.admit.Statement.{statement}
+use Rattle.standing.proofs.admit.Tie as tie
 
 returns : tie.Need-returns
 returns c = sym (not-open _ (not-true _ (c .if1 .taken)))

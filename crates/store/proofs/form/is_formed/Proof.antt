@@ -1,4 +1,4 @@
--- `store::form::well_formed` meets its contract: each test is one of the demands. Assumes nothing.
+-- `store::form::is_formed` meets its contract: each test is one of the demands. Assumes nothing.
 use mathlib.Core.Path.{_≡_, sym, ap, _∙_}
 use Prim.Native.Nat.{ℕ}
 use native.Mathlib.Nat.{mul-le-mul}
@@ -11,8 +11,8 @@ use Rattle.store.specs.Stores.{literalCount, heldRows}
 use Rattle.store.proofs.Demands.{many-variables, many-clauses, many-rows, short-ends, falling-ends, many-literals, short-literals, bad-literal, short-images, rows-decide}
 use borrow.Author.Needs.{needs}
 use native.Mathlib.Omega.{arith}
-use Rattle.store.proofs.form.well_formed.Statement.{statement}
-use Rattle.store.proofs.form.well_formed.Tie as tie
+use Rattle.store.proofs.form.is_formed.Statement.{statement}
+use Rattle.store.proofs.form.is_formed.Tie as tie
 
 -- what was tested are the literals in use
 inside : (c : tie.After-literals-within) → let counted = c .before .before .before .before in
@@ -85,8 +85,8 @@ returns-10 c =
       images-long = e9 .if9 .left;
     }))
 
-pub well-formed-spec : {M : Type 1} → statement M
-well-formed-spec =
+pub is-formed-spec : {M : Type 1} → statement M
+is-formed-spec =
     tie.close
     (tie.spec returns returns-2 returns-3 returns-4 slice-aggregate-ends-rise (search needs) returns-5 (search needs) returns-6 returns-7
     slice-aggregate-literals-within (search needs) returns-8 mul-if9 returns-9 (search needs) returns-10)

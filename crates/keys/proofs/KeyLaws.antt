@@ -1,0 +1,45 @@
+-- The key of a clause by a loop from its end: the codes from i on, a code more, no code. Clauses with the same literals have the same key. Assumes nothing.
+use mathlib.Core.Path.{_≡_, refl, sym, ap, _∙_}
+use mathlib.Core.Bool.{Bool, true, false}
+use mathlib.Core.List.{List, [], _∷_, map}
+use Prim.Native.Nat.{ℕ, _+_, _-_, _%_, _^_, _≤_, _<_}
+use native.Mathlib.Omega.{arith}
+use lib.ListN.{length, getD, drop, drop-of-length-le}
+use Rattle.lists.specs.Tests.{has}
+use Rattle.lists.proofs.Steps.{drop-step}
+use Rattle.numbers.specs.Numbers.{numbers}
+use Rattle.keys.specs.Keys.{different, total, numberIn, keyBy, keyOf}
+use Rattle.keys.proofs.Sums.{same-total, exchanged}
+
+-- "independent of order, proved equal for equal sets" (document 01, "Forms and where they belong"): neither order nor repeats matter
+pub same-key : (table a b : List ℕ) → ((x : ℕ) → has a x ≡ has b x) → keyBy table a ≡ keyBy table b
+unfolding keyBy
+same-key table a b e = ap (λ (s : ℕ). s % 2 ^ 64) (same-total (numberIn table) a b e)
+
+-- the key of a clause whose literals were exchanged for others, different ones for different ones, by a table of the numbers of those
+pub key-exchanged : (table : List ℕ) (g : ℕ → ℕ) (clause : List ℕ) → ((x y : ℕ) → has clause x ≡ true → has clause y ≡ true → g x ≡ g y → x ≡ y)
+    → ((x : ℕ) → has clause x ≡ true → numberIn table x ≡ numberIn numbers (g x)) → keyBy table clause ≡ keyOf (map g clause)
+unfolding keyBy
+key-exchanged table g clause one agree =
+    ap (λ (s : ℕ). s % 2 ^ 64) (sym (exchanged (numberIn numbers) (numberIn table) g clause one (λ x e. sym (agree x e))))
+
+module _ (table clause : List ℕ) where
+  pub key-none : (i : ℕ) → length clause ≤ i → keyBy table (drop i clause) ≡ 0
+  unfolding keyBy different total
+  key-none i h = rw (drop-of-length-le clause {i = i} h)
+
+  -- the code at i, and the codes from k = i + 1 on
+  module _ (i k code : ℕ) (next : k ≡ i + 1) (h : i < length clause) (is : code ≡ getD clause i 0) where
+    pub key-again : has (drop k clause) code ≡ true → keyBy table (drop k clause) ≡ keyBy table (drop i clause)
+    unfolding keyBy different
+    key-again e = let again : has (drop (i + 1) clause) code ≡ true = rw next at e in rw (next, drop-step clause i 0 h, ← is, again)
+
+    pub key-more : has (drop k clause) code ≡ false → (number sum : ℕ) → number ≡ numberIn table code → sum ≡ keyBy table (drop k clause)
+        → (sum + number) % 2 ^ 64 ≡ keyBy table (drop i clause)
+    unfolding keyBy different total
+    key-more e number sum f g =
+        let new : has (drop (i + 1) clause) code ≡ false = rw next at e in
+        rw (f, g, next, drop-step clause i 0 h, ← is, new) (wraps (numberIn table code) (total (map (numberIn table) (different (drop (i + 1) clause)))))
+      where
+        wraps : (x s : ℕ) → (s % 2 ^ 64 + x) % 2 ^ 64 ≡ (x + s) % 2 ^ 64
+        wraps x s = omega arith

@@ -1,0 +1,4 @@
+pub mod Sums
+pub mod KeyLaws
+pub mod MarkLaws
+pub mod RightLaws

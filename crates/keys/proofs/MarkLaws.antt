@@ -1,0 +1,73 @@
+-- Marks while a clause is gone through from its end: those of its mark are at the literals that came. Assumes nothing.
+use mathlib.Core.Path.{_≡_, refl, sym, ap, _∙_}
+use mathlib.Core.Bool.{true, false}
+use mathlib.Core.List.{List, [], _∷_}
+use mathlib.Core.Logic.{⊎-elim}
+use Prim.Native.Nat.{ℕ, _+_, _-_, _≤_, _<_}
+use native.Mathlib.Omega.{arith}
+use borrow.Author.Tests.{eq-eqb, ne-eqb}
+use lib.ListN.{length, getD, drop, drop-of-length-le, set, length-set, replicate, length-replicate, getD-replicate, List·getD-eq-default}
+use lib.Seq.{getD-set-same, getD-set-other}
+use lib.Dec.{eqb}
+use Rattle.lists.specs.Tests.{anyOf, has}
+use Rattle.lists.proofs.Cases.{lt-or-le, eq-or-ne}
+use Rattle.lists.proofs.Members.{has-head, has-other, has-again}
+use Rattle.lists.proofs.Steps.{drop-step}
+use Rattle.numbers.specs.Numbers.{numberCount}
+use Rattle.keys.specs.Marks.{Below}
+
+pub record Marked (mark : ℕ) (codes marks : List ℕ) : Type 0 where
+  pub is : (x : ℕ) → 2 ≤ x → eqb (getD marks (x - 2) 0) mark ≡ has codes x
+  pub most : Below (mark + 1) marks
+
+-- marks of zeros
+pub unmarked : Below 1 (replicate numberCount 0)
+unmarked = record { room = length-replicate {A = ℕ} numberCount 0; low = λ i. ⊎-elim (inside i) (outside i) (lt-or-le i numberCount) }
+  where
+    inside : (i : ℕ) → i < numberCount → getD {A = ℕ} (replicate numberCount 0) i 0 < 1
+    inside i h = rw (getD-replicate {A = ℕ} numberCount i 0 0 h) (omega arith)
+
+    outside : (i : ℕ) → numberCount ≤ i → getD {A = ℕ} (replicate numberCount 0) i 0 < 1
+    outside i h = rw (List·getD-eq-default {A = ℕ} (replicate numberCount 0) 0 {n = i} (omega (arith, length-replicate {A = ℕ} numberCount 0))) (omega arith)
+
+module _ (mark : ℕ) (clause marks : List ℕ) where
+  pub marked-none : (i : ℕ) → length clause ≤ i → Below mark marks → Marked mark (drop i clause) marks
+  unfolding anyOf
+  marked-none i h low = record {
+    is = λ x g. rw (drop-of-length-le clause {i = i} h) (ne-eqb (getD marks (x - 2) 0) mark (λ e. omega (arith, low .low (x - 2))));
+    most = record { room = low .room; low = λ j. omega (arith, low .low j) };
+  }
+
+  -- the literal at i, the literals from k = i + 1 on, which are marked, and the place of the literal's mark
+  module _ (i k code place : ℕ) (next : k ≡ i + 1) (h : i < length clause) (is : code ≡ getD clause i 0) (low : 2 ≤ code) (e : place ≡ code - 2) (m : Marked mark (drop k clause) marks) where
+    pub came : getD marks place 0 ≡ mark → has (drop k clause) code ≡ true
+    came q = sym (m .is code low) ∙ rw (← e) (eq-eqb (getD marks place 0) mark q)
+
+    pub is-new : (getD marks place 0 ≡ mark → ⊥) → has (drop k clause) code ≡ false
+    is-new n = sym (m .is code low) ∙ rw (← e) (ne-eqb (getD marks place 0) mark n)
+
+    rest : drop i clause ≡ code ∷ drop k clause
+    rest = rw (drop-step clause i 0 h, is, next)
+
+    pub marked-again : has (drop k clause) code ≡ true → Marked mark (drop i clause) marks
+    marked-again f = rw rest (record { is = λ x g. m .is x g ∙ sym (has-again code (drop k clause) f x); most = m .most })
+
+    pub marked-more : place < numberCount → Marked mark (drop i clause) (set marks place mark)
+    marked-more h = rw rest (record { is = at; most = record { room = simp length-set (m .most .room); low = most } })
+      where
+        room : place < length marks
+        room = omega (arith, m .most .room)
+
+        at : (x : ℕ) → 2 ≤ x → eqb (getD (set marks place mark) (x - 2) 0) mark ≡ has (code ∷ drop k clause) x
+        at x g = ⊎-elim here other (eq-or-ne code x)
+          where
+            here : code ≡ x → eqb (getD (set marks place mark) (x - 2) 0) mark ≡ has (code ∷ drop k clause) x
+            here q =
+                let same : x - 2 ≡ place = omega arith in
+                eq-eqb _ mark (rw same (getD-set-same marks place mark 0 room)) ∙ sym (rw (← q) (has-head code (drop k clause)))
+
+            other : (code ≡ x → ⊥) → eqb (getD (set marks place mark) (x - 2) 0) mark ≡ has (code ∷ drop k clause) x
+            other n = rw (getD-set-other marks place (x - 2) mark 0 (λ q. n (omega arith))) (m .is x g) ∙ sym (has-other code (drop k clause) x n)
+
+        most : (j : ℕ) → getD (set marks place mark) j 0 < mark + 1
+        most j = ⊎-elim (λ q. rw (← q, getD-set-same marks place mark 0 room) (omega arith)) (λ n. rw (getD-set-other marks place j mark 0 (λ q. n (sym q))) (m .most .low j)) (eq-or-ne place j)

@@ -1,0 +1,136 @@
+"""The numbers of the keys, wherever they stand; and offers where two clauses share a key, so that only comparing in full tells them apart. Run by tests/run."""
+import itertools
+import os
+import random
+import re
+import subprocess
+import sys
+import unittest
+
+HERE = os.path.dirname(os.path.abspath(__file__))
+sys.path.insert(0, os.path.join(os.path.dirname(HERE), "host"))
+
+import generate
+import library
+import literal_numbers
+import reference
+from agree import LIBRARY, Agree
+
+BREAKER = os.environ.get("BREAKER", os.path.join(library.ROOT, "target", "bin", "breaker"))
+LITERALS = [sign * i for i in range(1, 513) for sign in (1, -1)]
+
+
+def part(path, pattern):
+    """The part of a file of the project that a pattern finds."""
+    with open(os.path.join(library.ROOT, path)) as file:
+        return re.search(pattern, file.read(), re.S | re.M)[1]
+
+
+def numbers(text):
+    return [int(number.replace("_", "")) for number in re.findall(r"\b\d[\d_]*", text)]
+
+
+def text(clauses):
+    return b"p cnf 512 %d\n" % len(clauses) + b"".join(map(reference.clause_line, clauses))
+
+
+def opened(clauses):
+    """A store with a formula of these clauses over 512 variables, room for a row, and something in every entry past those in use."""
+    host = library.Host(LIBRARY, reference.new_record(), [7] * 1030, [7] * 1030, [7] * 1030, [7] * 512)
+    assert host.open(text(clauses)) == ("done", 512, len(clauses))
+    return host
+
+
+class Numbers(unittest.TestCase):
+    """All places have the same 1,024 numbers."""
+
+    MADE = literal_numbers.made()
+
+    def test_chosen(self):
+        """No two alike and none 0, each of 64 bits."""
+        self.assertEqual((len(self.MADE), len(set(self.MADE))), (1024, 1024))
+        self.assertTrue(all(0 < number < 2 ** 64 for number in self.MADE))
+
+    def test_page(self):
+        """The page's table is what the generator prints, and the reference has it."""
+        printed = subprocess.run([sys.executable, os.path.join(HERE, "literal_numbers.py")], capture_output=True, check=True, text=True).stdout
+        self.assertEqual(part("docs/KEYS.md", r"^\|---:\|---:\|---:\|\n(.*)\Z"), printed)
+        self.assertEqual(numbers(printed), [each for i in range(1, 513) for each in (i, *self.MADE[2 * i - 2:2 * i])])
+        self.assertEqual(reference.NUMBERS, dict(zip(LITERALS, self.MADE)))
+
+    def test_code(self):
+        self.assertEqual(numbers(part("crates/numbers/src/lib.rt", r"^const NUMBERS: \[u64; \w+\] = \[(.*?)\];")), self.MADE)
+
+    def test_definition(self):
+        self.assertEqual(numbers(part("crates/numbers/specs/Numbers.antt", r"^numbers =([\s\d_∷]*)\[\]")), self.MADE)
+
+    def test_opening(self):
+        """Opening writes them as the keys of the unit clauses."""
+        self.assertEqual(opened([[literal] for literal in LITERALS]).keys[:], self.MADE + [7] * 6)
+
+
+# Two clauses and their key, as sharing.py finds them; and two that are like them, of other variables.
+A, B, SHARED = [29, 41, -88, -168, 234, -254], [-264, -370, 380, 420, 477, -479], 10741577179405158241
+C, D = [1, 2, -3, -4, 5, -6], [-7, -8, 9, 10, 11, -12]
+
+
+def exchange(*pairs):
+    """The permutation that takes one clause of each pair to the other and back: positive literals in their order, and negative ones."""
+    images = list(range(1, 513))
+    for pair in pairs:
+        for one, other in zip(*([abs(literal) for literal in sorted(clause, key=lambda each: (each < 0, abs(each)))] for clause in pair)):
+            images[one - 1], images[other - 1] = other, one
+    return images
+
+
+ROWS = [exchange((A, C)), exchange((B, D)), exchange((A, C), (B, D)), exchange((A, B)), exchange((A, B), (C, D)), exchange((A, D), (B, C))]
+
+
+def first_missing(clauses, row, same):
+    """The number of the first clause whose image is the same as no clause, or 0."""
+    return next((q for q, clause in enumerate(clauses, 1) if not any(same(generate.image(clause, row)) == same(other) for other in clauses)), 0)
+
+
+class Sharing(Agree):
+    """A and B share a key: offers to formulas of A, B, C and D in any order, some of them missing, some more than once."""
+
+    def offers(self, most):
+        """All formulas of one clause up to so many, with each permutation as two lines, and the place of 11, or 0; then what it would be if keys decided."""
+        chance = random.Random(12)
+        for count in range(1, most + 1):
+            for clauses in itertools.product((A, B, C, D), repeat=count):
+                written = [chance.sample(clause, 6) + chance.choices(clause, k=chance.randrange(3)) for clause in clauses]
+                for row in ROWS:
+                    yield written, generate.offers(chance, 512, [row]), first_missing(clauses, row, frozenset), first_missing(clauses, row, reference.key_of)
+
+    def test_shared(self):
+        self.assertEqual((reference.key_of(A), reference.key_of(B)), (SHARED, SHARED))
+        self.assertEqual(len({abs(literal) for literal in A + B + C + D}), 24)
+        self.assertEqual(opened([A, B, C, D]).keys[:4], [SHARED, SHARED, reference.key_of(C), reference.key_of(D)])
+        self.assertEqual(len({SHARED, reference.key_of(C), reference.key_of(D)}), 3)
+
+    def test_offers(self):
+        """Each is decided as the clauses say, and not their keys."""
+        otherwise = 0
+        for clauses, lines, missing, by_keys in self.offers(4):
+            self.assertEqual(self.offer(opened(clauses), *lines), ("refused", 11, missing) if missing else ("done",), clauses)
+            otherwise += missing != by_keys
+        self.assertGreater(otherwise, 300)
+
+    def test_program(self):
+        """The program decides so too."""
+        for clauses, lines, missing, _ in self.offers(3):
+            ended = subprocess.run([BREAKER], input=b"%b%%\n%b\n%b\n" % (text(clauses), *lines), capture_output=True)
+            self.assertTrue(ended.stdout.startswith(b"refused 11 %d\n" % missing if missing else b"p cnf "), ended)
+
+    def test_stored(self):
+        """The key of one is the right key of the other: A is exchanged for B in the store."""
+        host = opened([A, D, C])
+        host.literals[:6] = [reference.literal_code(literal) for literal in B]
+        self.assertEqual(self.clause(host, 1, bytes(40))[0], "done")
+        for row, answer in [(exchange((A, C)), ("refused", 11, 3)), (exchange((B, D)), ("done",))]:
+            self.assertEqual(self.offer(host, *generate.offers(random.Random(13), 512, [row])), answer)
+
+
+if __name__ == "__main__":
+    unittest.main()

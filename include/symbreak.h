@@ -124,7 +124,7 @@ symbreak_stored symbreak_withdraw(uint64_t variables, uint64_t clauses, uint64_t
 
 /* The made formula: the plain clauses, then those of each row. Header and clauses are written one line at a time, each with its line feed; the value is
  * the line's length in bytes, and bytes past it stay. N and M are the two numbers of the header. A line of L literals has at most 7 * L + 2 bytes, and a
- * buffer of SYMBREAK_MAX_LINE bytes always has room. Each call looks over the whole store first, so its time grows with the rows held. */
+ * buffer of SYMBREAK_MAX_LINE bytes always has room. Each call looks over the whole store first, so its time grows with the formula and the rows held. */
 #define SYMBREAK_MAX_HEADER 19
 #define SYMBREAK_MAX_LINE (7 * SYMBREAK_MAX_LITERALS + 2)
 

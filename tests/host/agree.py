@@ -14,10 +14,10 @@ def told(record):
 
 class Agree(unittest.TestCase):
     def open(self, host, text):
-        *opened, images = before = host.parts()
-        expected, record, *slices = reference.open_formula(opened[0], text, *opened[1:])
+        record, literals, ends, keys, images = before = host.parts()
+        expected, record, literals, ends, keys = reference.open_formula(record, text, literals, ends, keys)
         answer = host.open(text)
-        self.assertEqual((answer, *host.parts()), (expected, told(record), *slices, images), (before, text))
+        self.assertEqual((answer, *host.parts()), (expected, told(record), literals, ends, keys, images), (before, text))
         return answer
 
     def offer(self, host, names, values):

@@ -298,7 +298,7 @@ class Keys(Agree):
             elif not reference.badly_formed(record, literals, ends, right, images):
                 seen["a key too few" if len(keys) < record.clauses else "a wrong key"] += 1
                 repeated = map(generate.summed, generate.clauses_of(literals, ends))
-                seen["repeats counted"] += any(key == wrong != other for key, wrong, other in zip(keys, repeated, right))
+                seen["repeats counted"] += any(key == wrong != true for key, wrong, true in zip(keys, repeated, right))
         for sort, least in [("sound", 300), ("a wrong key", 100), ("a key too few", 10), ("repeats counted", 10)]:
             self.assertGreater(seen[sort], least, sort)
 

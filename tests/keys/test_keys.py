@@ -22,7 +22,7 @@ LITERALS = [sign * i for i in range(1, 513) for sign in (1, -1)]
 
 def part(path, pattern):
     """The part of a file of the project that a pattern finds."""
-    with open(os.path.join(library.ROOT, path)) as file:
+    with open(os.path.join(library.ROOT, path), encoding="utf-8") as file:
         return re.search(pattern, file.read(), re.S | re.M)[1]
 
 
@@ -69,9 +69,10 @@ class Numbers(unittest.TestCase):
         self.assertEqual(opened([[literal] for literal in LITERALS]).keys[:], self.MADE + [7] * 6)
 
 
-# Two clauses and their key, as sharing.py finds them; and two that are like them, of other variables.
+# What sharing.py finds: two clauses and their key, and a clause with key 0. Then clauses that are like them, of other variables.
 A, B, SHARED = [29, 41, -88, -168, 234, -254], [-264, -370, 380, 420, 477, -479], 10741577179405158241
-C, D = [1, 2, -3, -4, 5, -6], [-7, -8, 9, 10, 11, -12]
+Z = [48, 93, 95, -159, 187, 247, -276, -277, 335, -423, -475, 494]
+C, D, Y = [1, 2, -3, -4, 5, -6], [-7, -8, 9, 10, 11, -12], [13, 14, 15, -16, 17, 18, -19, -20, 21, -22, -23, 24]
 
 
 def exchange(*pairs):
@@ -83,7 +84,12 @@ def exchange(*pairs):
     return images
 
 
-ROWS = [exchange((A, C)), exchange((B, D)), exchange((A, C), (B, D)), exchange((A, B)), exchange((A, B), (C, D)), exchange((A, D), (B, C))]
+# Clauses of which some share a key, and permutations. In the second a key is the empty clause's; in the third, clauses of one key are parts of one another.
+FAMILIES = [
+    ([A, B, C, D], [exchange((A, C)), exchange((B, D)), exchange((A, C), (B, D)), exchange((A, B)), exchange((A, B), (C, D)), exchange((A, D), (B, C))]),
+    ([[], Y, Z], [exchange((Y, Z))]),
+    ([A, C, A + Z, C + Z], [exchange((A, C)), exchange((A, C), (Y, Z))]),
+]
 
 
 def first_missing(clauses, row, same):
@@ -92,36 +98,38 @@ def first_missing(clauses, row, same):
 
 
 class Sharing(Agree):
-    """A and B share a key: offers to formulas of A, B, C and D in any order, some of them missing, some more than once."""
+    """Offers to formulas of a family's clauses, in any order, some of them missing, some more than once."""
 
-    def offers(self, most):
+    def offers(self, family, most):
         """All formulas of one clause up to so many, with each permutation as two lines, and the place of 11, or 0; then what it would be if keys decided."""
         chance = random.Random(12)
         for count in range(1, most + 1):
-            for clauses in itertools.product((A, B, C, D), repeat=count):
-                written = [chance.sample(clause, 6) + chance.choices(clause, k=chance.randrange(3)) for clause in clauses]
-                for row in ROWS:
-                    yield written, generate.offers(chance, 512, [row]), first_missing(clauses, row, frozenset), first_missing(clauses, row, reference.key_of)
+            for clauses in itertools.product(family[0], repeat=count):
+                repeating = [clause + clause[:chance.randrange(3)] for clause in clauses]
+                shuffled = [chance.sample(clause, len(clause)) for clause in repeating]
+                for row in family[1]:
+                    yield shuffled, generate.offers(chance, 512, [row]), first_missing(clauses, row, frozenset), first_missing(clauses, row, reference.key_of)
 
     def test_shared(self):
-        self.assertEqual((reference.key_of(A), reference.key_of(B)), (SHARED, SHARED))
-        self.assertEqual(len({abs(literal) for literal in A + B + C + D}), 24)
-        self.assertEqual(opened([A, B, C, D]).keys[:4], [SHARED, SHARED, reference.key_of(C), reference.key_of(D)])
-        self.assertEqual(len({SHARED, reference.key_of(C), reference.key_of(D)}), 3)
+        self.assertEqual(opened([A, B, A + Z, [], Z]).keys[:5], [SHARED, SHARED, SHARED, 0, 0])
+        self.assertEqual(len({abs(literal) for literal in A + B + C + D + Y + Z}), 48)
+        self.assertEqual(len({reference.key_of(clause) for clause in (A, C, D, Y, Z)}), 5)
 
     def test_offers(self):
         """Each is decided as the clauses say, and not their keys."""
-        otherwise = 0
-        for clauses, lines, missing, by_keys in self.offers(4):
-            self.assertEqual(self.offer(opened(clauses), *lines), ("refused", 11, missing) if missing else ("done",), clauses)
-            otherwise += missing != by_keys
-        self.assertGreater(otherwise, 300)
+        for family, least in zip(FAMILIES, [600, 20, 200]):
+            otherwise = 0
+            for clauses, lines, missing, by_keys in self.offers(family, 4):
+                self.assertEqual(self.offer(opened(clauses), *lines), ("refused", 11, missing) if missing else ("done",), clauses)
+                otherwise += missing != by_keys
+            self.assertGreater(otherwise, least)
 
     def test_program(self):
         """The program decides so too."""
-        for clauses, lines, missing, _ in self.offers(3):
-            ended = subprocess.run([BREAKER], input=b"%b%%\n%b\n%b\n" % (text(clauses), *lines), capture_output=True)
-            self.assertTrue(ended.stdout.startswith(b"refused 11 %d\n" % missing if missing else b"p cnf "), ended)
+        for family in FAMILIES:
+            for clauses, lines, missing, _ in self.offers(family, 3):
+                ended = subprocess.run([BREAKER], input=b"%b%%\n%b\n%b\n" % (text(clauses), *lines), capture_output=True)
+                self.assertTrue(ended.stdout.startswith(b"refused 11 %d\n" % missing if missing else b"p cnf "), ended)
 
     def test_stored(self):
         """The key of one is the right key of the other: A is exchanged for B in the store."""

@@ -23,23 +23,30 @@ unfolding keyBy
 key-exchanged table g clause one agree =
     ap (λ (s : ℕ). s % 2 ^ 64) (sym (exchanged (numberIn numbers) (numberIn table) g clause one (λ x e. sym (agree x e))))
 
+-- the literal at hand: it stands at i, the literals that came are those from k = i + 1 on, and it has a place in a table of numbers
+pub record Hand (clause : List ℕ) (i k code place : ℕ) : Type 0 where
+  pub next : k ≡ i + 1
+  pub inside : i < length clause
+  pub is : code ≡ getD clause i 0
+  pub low : 2 ≤ code
+  pub placed : place ≡ code - 2
+
+pub hand-rest : (clause : List ℕ) (i k code place : ℕ) → Hand clause i k code place → drop i clause ≡ code ∷ drop k clause
+hand-rest clause i k code place h = rw (drop-step clause i 0 (h .inside), h .is, h .next)
+
 module _ (table clause : List ℕ) where
   pub key-none : (i : ℕ) → length clause ≤ i → keyBy table (drop i clause) ≡ 0
   unfolding keyBy different total
   key-none i h = rw (drop-of-length-le clause {i = i} h)
 
-  -- the code at i, and the codes from k = i + 1 on
-  module _ (i k code : ℕ) (next : k ≡ i + 1) (h : i < length clause) (is : code ≡ getD clause i 0) where
+  module _ (i k code place : ℕ) (h : Hand clause i k code place) where
     pub key-again : has (drop k clause) code ≡ true → keyBy table (drop k clause) ≡ keyBy table (drop i clause)
     unfolding keyBy different
-    key-again e = let again : has (drop (i + 1) clause) code ≡ true = rw next at e in rw (next, drop-step clause i 0 h, ← is, again)
+    key-again e = rw (hand-rest clause i k code place h, e)
 
-    pub key-more : has (drop k clause) code ≡ false → (number sum : ℕ) → number ≡ numberIn table code → sum ≡ keyBy table (drop k clause)
-        → (sum + number) % 2 ^ 64 ≡ keyBy table (drop i clause)
+    pub key-more : has (drop k clause) code ≡ false → (sum : ℕ) → sum ≡ keyBy table (drop k clause) → (sum + getD table place 0) % 2 ^ 64 ≡ keyBy table (drop i clause)
     unfolding keyBy different total
-    key-more e number sum f g =
-        let new : has (drop (i + 1) clause) code ≡ false = rw next at e in
-        rw (f, g, next, drop-step clause i 0 h, ← is, new) (wraps (numberIn table code) (total (map (numberIn table) (different (drop (i + 1) clause)))))
+    key-more e sum f = rw (f, hand-rest clause i k code place h, e, h .placed) (wraps (numberIn table code) (total (map (numberIn table) (different (drop k clause)))))
       where
         wraps : (x s : ℕ) → (s % 2 ^ 64 + x) % 2 ^ 64 ≡ (x + s) % 2 ^ 64
         wraps x s = omega arith

@@ -15,6 +15,7 @@ use Rattle.lists.proofs.Members.{has-head, has-other, has-again}
 use Rattle.lists.proofs.Steps.{drop-step}
 use Rattle.numbers.specs.Numbers.{numberCount}
 use Rattle.keys.specs.Marks.{Below}
+use Rattle.keys.proofs.KeyLaws.{Hand, hand-rest}
 
 pub record Marked (mark : ℕ) (codes marks : List ℕ) : Type 0 where
   pub is : (x : ℕ) → 2 ≤ x → eqb (getD marks (x - 2) 0) mark ≡ has codes x
@@ -38,22 +39,18 @@ module _ (mark : ℕ) (clause marks : List ℕ) where
     most = record { room = low .room; low = λ j. omega (arith, low .low j) };
   }
 
-  -- the literal at i, the literals from k = i + 1 on, which are marked, and the place of the literal's mark
-  module _ (i k code place : ℕ) (next : k ≡ i + 1) (h : i < length clause) (is : code ≡ getD clause i 0) (low : 2 ≤ code) (e : place ≡ code - 2) (m : Marked mark (drop k clause) marks) where
+  module _ (i k code place : ℕ) (h : Hand clause i k code place) (m : Marked mark (drop k clause) marks) where
     pub came : getD marks place 0 ≡ mark → has (drop k clause) code ≡ true
-    came q = sym (m .is code low) ∙ rw (← e) (eq-eqb (getD marks place 0) mark q)
+    came q = sym (m .is code (h .low)) ∙ rw (← h .placed) (eq-eqb (getD marks place 0) mark q)
 
     pub is-new : (getD marks place 0 ≡ mark → ⊥) → has (drop k clause) code ≡ false
-    is-new n = sym (m .is code low) ∙ rw (← e) (ne-eqb (getD marks place 0) mark n)
-
-    rest : drop i clause ≡ code ∷ drop k clause
-    rest = rw (drop-step clause i 0 h, is, next)
+    is-new n = sym (m .is code (h .low)) ∙ rw (← h .placed) (ne-eqb (getD marks place 0) mark n)
 
     pub marked-again : has (drop k clause) code ≡ true → Marked mark (drop i clause) marks
-    marked-again f = rw rest (record { is = λ x g. m .is x g ∙ sym (has-again code (drop k clause) f x); most = m .most })
+    marked-again f = rw (hand-rest clause i k code place h) (record { is = λ x g. m .is x g ∙ sym (has-again code (drop k clause) f x); most = m .most })
 
     pub marked-more : place < numberCount → Marked mark (drop i clause) (set marks place mark)
-    marked-more h = rw rest (record { is = at; most = record { room = simp length-set (m .most .room); low = most } })
+    marked-more inside = rw (hand-rest clause i k code place h) (record { is = at; most = record { room = simp length-set (m .most .room); low = most } })
       where
         room : place < length marks
         room = omega (arith, m .most .room)
@@ -63,11 +60,11 @@ module _ (mark : ℕ) (clause marks : List ℕ) where
           where
             here : code ≡ x → eqb (getD (set marks place mark) (x - 2) 0) mark ≡ has (code ∷ drop k clause) x
             here q =
-                let same : x - 2 ≡ place = omega arith in
+                let same : x - 2 ≡ place = omega (arith, h .placed) in
                 eq-eqb _ mark (rw same (getD-set-same marks place mark 0 room)) ∙ sym (rw (← q) (has-head code (drop k clause)))
 
             other : (code ≡ x → ⊥) → eqb (getD (set marks place mark) (x - 2) 0) mark ≡ has (code ∷ drop k clause) x
-            other n = rw (getD-set-other marks place (x - 2) mark 0 (λ q. n (omega arith))) (m .is x g) ∙ sym (has-other code (drop k clause) x n)
+            other n = rw (getD-set-other marks place (x - 2) mark 0 (λ q. n (omega (arith, h .placed, h .low)))) (m .is x g) ∙ sym (has-other code (drop k clause) x n)
 
         most : (j : ℕ) → getD (set marks place mark) j 0 < mark + 1
         most j = ⊎-elim (λ q. rw (← q, getD-set-same marks place mark 0 room) (omega arith)) (λ n. rw (getD-set-other marks place j mark 0 (λ q. n (sym q))) (m .most .low j)) (eq-or-ne place j)

@@ -15,6 +15,7 @@ ghost use Rattle.keys.specs.Keys.{keyBy, keysOf, rightKeys};
 ghost use Rattle.keys.specs.Marks.{Below};
 use std::num::wrapping_add_u64;
 use store::clauses;
+use store::literal;
 
 // Writes the keys of m clauses at the start of a slice.
 pub fn write(literals: &[u16], ends: &[u16], m: usize, keys: &mut [u64])
@@ -79,7 +80,7 @@ fn key(clause: &[u16], numbers: &[u64; numbers::COUNT], marks: &mut [u16], mark:
     let mut i = clause.len();
     while 0 < i {
         i -= 1;
-        let place = place(clause[i]);
+        let place = place(literal::wide(clause[i]));
         if marks[place] != mark {
             marks[place] = mark;
             sum = wrapping_add_u64(sum, numbers[place]);
@@ -88,8 +89,8 @@ fn key(clause: &[u16], numbers: &[u64; numbers::COUNT], marks: &mut [u16], mark:
     sum
 }
 
-// Where a literal stands in the table of the numbers.
-fn place(code: u16) -> usize
+// Where a literal stands in a table of numbers.
+pub fn place(code: u32) -> usize
     requires { ⌜ isLiteral maxVariables code ≡ true ⌝ }
     ensures { λ r. ⌜ (r ≡ code - 2) × (r < numberCount) ⌝ }
 {

@@ -9,7 +9,7 @@ use lib.ListN.{length, getD, length-map}
 use Rattle.lists.specs.Tests.{allOf}
 use Rattle.lists.proofs.Members.{all-at, map-at, all-has}
 use Rattle.store.specs.Literals.{variableOf, isNegative, oppositeOf, isLiteral}
-use Rattle.store.proofs.FormLaws.{literal-low, literal-high}
+use Rattle.store.proofs.FormLaws.{literal-low, literal-high, literal-within}
 use Rattle.store.proofs.Formed.{Row}
 use Rattle.symmetry.specs.Sets.{SameSet}
 use Rattle.symmetry.specs.Symmetry.{imageOf, clauseImage}
@@ -51,7 +51,15 @@ turned code a = go (isNegative code) refl (isNegative a) refl
     go false e c f = let x = eqb-false (code % 2) 1 e in (refl, omega arith)
 
 module _ (n : ℕ) (row : List ℕ) (r : Row n row) where
-  image-one : (x y : ℕ) → isLiteral n x ≡ true → isLiteral n y ≡ true → imageOf row x ≡ imageOf row y → x ≡ y
+  pub image-good : (code : ℕ) → isLiteral n code ≡ true → isLiteral n (imageOf row code) ≡ true
+  unfolding imageOf
+  image-good code g =
+      let low = literal-low n code g in
+      let high = literal-high n code g in
+      let t = turned code (getD row (variableOf code - 1) 0) in
+      literal-within n _ (omega (arith, t .0, r .low (variableOf code - 1) (omega arith))) (omega (arith, t .0, r .high (variableOf code - 1) (omega arith)))
+
+  pub image-one : (x y : ℕ) → isLiteral n x ≡ true → isLiteral n y ≡ true → imageOf row x ≡ imageOf row y → x ≡ y
   unfolding imageOf
   image-one x y gx gy e =
       let lx = literal-low n x gx in

@@ -1,7 +1,7 @@
 pub mod SetLaws
 pub mod ImageLaws
 pub mod Missing
-pub mod BucketLaws
+pub mod KeyLaws
 pub mod Looking
 pub mod Finite
 pub mod Onto

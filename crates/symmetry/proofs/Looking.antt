@@ -1,5 +1,5 @@
--- The image of a clause is looked for in its bucket: a clause in another bucket has other literals. Assumes nothing.
-use mathlib.Core.Path.{_≡_, ap, _∙_}
+-- The image of a clause is looked for in the bucket of its key: a clause in another bucket has another key, and so other literals. Assumes nothing.
+use mathlib.Core.Path.{_≡_, sym, ap, _∙_}
 use mathlib.Core.Bool.{true, false}
 use mathlib.Core.List.{List, []}
 use Prim.Native.Nat.{ℕ, _+_, _≤_, _<_}
@@ -7,37 +7,39 @@ use native.Mathlib.Omega.{arith}
 use lib.ListN.{length, getD}
 use Rattle.buckets.proofs.Index.{next-below}
 use Rattle.buckets.proofs.Walks.{Walk, begin, go-on, hit, end}
+use Rattle.keys.specs.Keys.{keyOf, rightKeys}
+use Rattle.keys.proofs.RightLaws.{right-at}
 use Rattle.symmetry.specs.Sets.{sameSet}
 use Rattle.symmetry.specs.Symmetry.{clauseImage, hasImage}
-use Rattle.symmetry.specs.Bucket.{bucketOf, clauseBucket, Indexed}
-use Rattle.symmetry.proofs.BucketLaws.{same-bucket, bucket-low}
+use Rattle.symmetry.specs.Index.{bucketOf, clauseBucket, Indexed}
+use Rattle.symmetry.proofs.KeyLaws.{same-keys, bucket-low}
 
-module _ (row clause : List ℕ) (formula : List (List ℕ)) where
+module _ (row clause : List ℕ) (formula : List (List ℕ)) (keys : List ℕ) where
   abbrev image : List ℕ
   image = clauseImage row clause
 
   -- the clauses up to number `number`, from 1, are still to be compared
   abbrev pub Looking : ℕ → Type 0
-  Looking number = Walk (sameSet image) formula [] (clauseBucket formula) (bucketOf image) number
+  Looking number = Walk (sameSet image) formula [] (clauseBucket keys) (bucketOf (keyOf image)) number
 
   pub look-hit : (number c : ℕ) → Looking number → number ≡ c + 1 → sameSet image (getD formula c []) ≡ true → hasImage row formula clause ≡ true
   unfolding hasImage
-  look-hit number c w e t = hit (sameSet image) formula [] (clauseBucket formula) (bucketOf image) number c w e t
+  look-hit number c w e t = hit (sameSet image) formula [] (clauseBucket keys) (bucketOf (keyOf image)) number c w e t
 
   pub look-end : (number : ℕ) → Looking number → number ≡ 0 → hasImage row formula clause ≡ false
   unfolding hasImage
-  look-end number w e = end (sameSet image) formula [] (clauseBucket formula) (bucketOf image) number w e
+  look-end number w e = end (sameSet image) formula [] (clauseBucket keys) (bucketOf (keyOf image)) number w e
 
-  module _ (heads nexts : List ℕ) (index : Indexed formula heads nexts) where
-    own : (c : ℕ) → c < length formula → sameSet image (getD formula c []) ≡ true → clauseBucket formula c ≡ bucketOf image
-    own c h t = same-bucket image (getD formula c []) t
+  module _ (heads nexts : List ℕ) (index : Indexed (length formula) keys heads nexts) (right : rightKeys formula keys ≡ true) where
+    own : (c : ℕ) → c < length formula → sameSet image (getD formula c []) ≡ true → clauseBucket keys c ≡ bucketOf (keyOf image)
+    own c h t = ap bucketOf (right-at formula keys right c h ∙ sym (same-keys image (getD formula c []) t))
 
-    pub look-begin : (b number : ℕ) → b ≡ bucketOf image → number ≡ getD heads b 0 → Looking number
+    pub look-begin : (b number : ℕ) → b ≡ bucketOf (keyOf image) → number ≡ getD heads b 0 → Looking number
     look-begin b number e f =
-        begin (sameSet image) formula [] (clauseBucket formula) (bucketOf image) heads nexts (index .holds) own (omega (arith, bucket-low image, index .heads-long)) number (f ∙ ap (λ (k : ℕ). getD heads k 0) e)
+        begin (sameSet image) formula [] (clauseBucket keys) (bucketOf (keyOf image)) heads nexts (index .holds) own (omega (arith, bucket-low (keyOf image), index .heads-long)) number (f ∙ ap (λ (k : ℕ). getD heads k 0) e)
 
     pub look-on : (number c then : ℕ) → Looking number → number ≡ c + 1 → sameSet image (getD formula c []) ≡ false → then ≡ getD nexts c 0 → Looking then
-    look-on number c then w e t f = go-on (sameSet image) formula [] (clauseBucket formula) (bucketOf image) heads nexts (index .holds) own number c w e t then f
+    look-on number c then w e t f = go-on (sameSet image) formula [] (clauseBucket keys) (bucketOf (keyOf image)) heads nexts (index .holds) own number c w e t then f
 
     pub look-falls : (number c : ℕ) → Looking number → number ≡ c + 1 → getD nexts c 0 ≤ c
-    look-falls number c w e = next-below (clauseBucket formula) (length formula) c heads nexts (index .holds) (omega (arith, w .within))
+    look-falls number c w e = next-below (clauseBucket keys) (length formula) c heads nexts (index .holds) (omega (arith, w .within))

@@ -1,4 +1,4 @@
 pub mod Sets
 pub mod Symmetry
 pub mod Fitting
-pub mod Bucket
+pub mod Index

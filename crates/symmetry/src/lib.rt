@@ -7,67 +7,77 @@
 // follow the images from a clause on until two of them are the same, take the steps back from both, and the clause is itself an image
 // (proofs/Onto.antt). So the first missing image is the whole answer, and it is refusal 11's place (proofs/Theorem.antt).
 //
-// To compare each image with each clause would be the square of m. The clauses are put in an index by bucket instead, which depends on a
-// clause's set of literals only, and an image is compared with the clauses of its own bucket: any other clause has other literals.
-mod bucket;
+// To compare each image with each clause would be the square of m. Clauses with the same literals have the same key (document 02, CR 5), so an image is compared in full
+// with the clauses that have its key and no others, and those are found by an index of the keys. Keys decide nothing: where two clauses share one, the full comparison
+// tells them apart. A row sends different literals to different literals, so the key of an image is the clause's own sum by a table of the images' numbers, which is made
+// once for a row.
+mod index;
 
 ghost use mathlib.Core.Path.{_≡_};
 ghost use mathlib.Core.Bool.{true};
-ghost use Prim.Native.Nat.{_≤_};
-ghost use lib.ListN.{length, replicate};
+ghost use Prim.Native.Nat.{_≤_, _<_};
+ghost use lib.ListN.{length};
 ghost use Rattle.lists.specs.Tests.{has};
 ghost use Rattle.store.specs.Literals.{isLiteral};
-ghost use Rattle.store.specs.Stores.{clausesIn, FormedClauses, maxClauses};
+ghost use Rattle.store.specs.Stores.{clausesIn, clauseAt, isRow, maxVariables};
+ghost use Rattle.keys.specs.Keys.{keyOf};
 ghost use Rattle.symmetry.specs.Sets.{within, sameSet};
 ghost use Rattle.symmetry.specs.Symmetry.{imageOf, clauseImage, hasImage, firstMissing};
-ghost use Rattle.symmetry.specs.Fitting.{Fitting, RowFits};
-ghost use Rattle.symmetry.specs.Bucket.{bucketCount, Indexed};
+ghost use Rattle.symmetry.specs.Fitting.{Fitting, KeyedImage, RightClauses, RowFits, ImageNumbers};
+ghost use Rattle.symmetry.specs.Index.{Indexed};
 use store::clauses;
 use store::literal;
 use store::record::Record;
 
 // The number, from 1, of the first of m clauses whose image under a row is missing among them; 0 where none is.
-pub fn first_missing(literals: &[u16], ends: &[u16], m: usize, row: &[u16]) -> usize
-    requires { ⌜ RowFits m (now literals) (now ends) (now row) ⌝ }
+pub fn first_missing(literals: &[u16], ends: &[u16], keys: &[u64], m: usize, row: &[u16]) -> usize
+    requires { ⌜ RowFits m (now literals) (now ends) (now keys) (now row) ⌝ }
     ensures { λ r. ⌜ r ≡ firstMissing (now (row .entry)) (clausesIn m (now (literals .entry)) (now (ends .entry))) ⌝ }
 {
-    let mut heads = [0u16; bucket::COUNT];
+    let numbers = image_numbers(row);
+    let mut heads = [0u16; index::BUCKETS];
     let mut nexts = [0u16; Record::MAX_CLAUSES];
-    index_clauses(literals, ends, m, &mut heads, &mut nexts);
-    first_missing_by(literals, ends, m, row, &heads, &nexts)
+    index::of_keys(keys, m, &mut heads, &mut nexts);
+    first_missing_by(literals, ends, keys, m, row, &numbers, &heads, &nexts)
 }
 
-// Puts the clauses in an empty index.
-fn index_clauses(literals: &[u16], ends: &[u16], m: usize, heads: &mut [u16], nexts: &mut [u16])
-    requires { ⌜ FormedClauses m (now literals) (now ends)
-        × (m ≤ maxClauses)
-        × (now heads ≡ replicate bucketCount 0)
-        × (m ≤ length (now nexts)) ⌝ }
-    ensures { λ _. ⌜ Indexed (clausesIn m (now (literals .entry)) (now (ends .entry))) (now (heads .exit)) (now (nexts .exit)) ⌝ }
+// A table of the numbers of the images of the row's literals.
+fn image_numbers(row: &[u16]) -> [u64; numbers::COUNT]
+    requires { ⌜ (length (now row) ≤ maxVariables) × (isRow (length (now row)) (now row) ≡ true) ⌝ }
+    ensures { λ r. ⌜ ImageNumbers (now (row .entry)) r ⌝ }
 {
-    for c in 0..m {
-        let clause = clauses::clause(literals, ends, m, c);
-        buckets::put(heads, nexts, bucket::of_clause(clause), c);
+    let own = numbers::numbers();
+    let mut moved = [0u64; numbers::COUNT];
+    let mut code = 2;
+    while literal::variable(code) <= row.len() {
+        moved[keys::place(code)] = own[keys::place(image(row, code))];
+        code += 1;
     }
+    moved
 }
 
-// The number of the first clause whose image is missing, by an index of the clauses.
+// The number of the first clause whose image is missing, by the numbers of the images and an index of the keys.
 fn first_missing_by(
     literals: &[u16],
     ends: &[u16],
+    keys: &[u64],
     m: usize,
     row: &[u16],
+    moved: &[u64; numbers::COUNT],
     heads: &[u16],
     nexts: &[u16],
 ) -> usize
-    requires { ⌜ RowFits m (now literals) (now ends) (now row)
-        × Indexed (clausesIn m (now literals) (now ends)) (now heads) (now nexts) ⌝ }
+    requires { ⌜ RowFits m (now literals) (now ends) (now keys) (now row)
+        × ImageNumbers (now row) (now moved)
+        × Indexed m (now keys) (now heads) (now nexts) ⌝ }
     ensures { λ r. ⌜ r ≡ firstMissing (now (row .entry)) (clausesIn m (now (literals .entry)) (now (ends .entry))) ⌝ }
 {
+    let mut marks = [0u16; numbers::COUNT];
     let mut c = 0;
     while c < m {
+        let key = keys::key_at(literals, ends, m, c, moved, &mut marks);
         let clause = clauses::clause(literals, ends, m, c);
-        if !has_image(clause, row, literals, ends, m, heads, nexts) {
+        if !has_image(clause, row, key, literals, ends, keys, m, heads, nexts) {
             return c + 1;
         }
         c += 1;
@@ -75,26 +85,28 @@ fn first_missing_by(
     0
 }
 
-// Whether the image of a clause is, as a set, one of the m clauses: one of those in the image's bucket, then.
+// Whether the image of a clause, whose key is lent, is, as a set, one of the m clauses: one of those in the key's bucket, then.
 fn has_image(
     clause: &[u16],
     row: &[u16],
+    key: u64,
     literals: &[u16],
     ends: &[u16],
+    keys: &[u64],
     m: usize,
     heads: &[u16],
     nexts: &[u16],
 ) -> bool
-    requires { ⌜ Fitting (now clause) (now row)
-        × FormedClauses m (now literals) (now ends)
-        × Indexed (clausesIn m (now literals) (now ends)) (now heads) (now nexts) ⌝ }
+    requires { ⌜ KeyedImage (now clause) (now row) key
+        × RightClauses m (now literals) (now ends) (now keys)
+        × Indexed m (now keys) (now heads) (now nexts) ⌝ }
     ensures { λ r. let formula = clausesIn m (now (literals .entry)) (now (ends .entry)) in
         ⌜ r ≡ hasImage (now (row .entry)) formula (now (clause .entry)) ⌝ }
 {
-    let mut number = buckets::head(heads, bucket::of_image(clause, row));
+    let mut number = buckets::head(heads, index::bucket(key));
     while number != 0 {
         let c = number - 1;
-        if is_image(clause, row, clauses::clause(literals, ends, m, c)) {
+        if is_image_at(clause, row, key, literals, ends, keys, m, c) {
             return true;
         }
         number = buckets::next(nexts, c);
@@ -102,9 +114,32 @@ fn has_image(
     false
 }
 
-// Whether the image of a clause is, as a set, another. No other function compares clauses.
+// Whether the image of a clause is clause c of m as a set: they are compared in full only where their keys agree.
+fn is_image_at(
+    clause: &[u16],
+    row: &[u16],
+    key: u64,
+    literals: &[u16],
+    ends: &[u16],
+    keys: &[u64],
+    m: usize,
+    c: usize,
+) -> bool
+    requires { ⌜ KeyedImage (now clause) (now row) key
+        × RightClauses m (now literals) (now ends) (now keys)
+        × (c < m) ⌝ }
+    ensures { λ r. let other = clauseAt (now (literals .entry)) (now (ends .entry)) c in
+        ⌜ r ≡ sameSet (clauseImage (now (row .entry)) (now (clause .entry))) other ⌝ }
+{
+    if keys[c] != key {
+        return false;
+    }
+    is_image(clause, row, clauses::clause(literals, ends, m, c))
+}
+
+// Whether the image of a clause is, as a set, another that has the image's key. No other function compares clauses in full.
 fn is_image(clause: &[u16], row: &[u16], other: &[u16]) -> bool
-    requires { ⌜ Fitting (now clause) (now row) ⌝ }
+    requires { ⌜ Fitting (now clause) (now row) × (keyOf (now other) ≡ keyOf (clauseImage (now row) (now clause))) ⌝ }
     ensures { λ r. ⌜ r ≡ sameSet (clauseImage (now (row .entry)) (now (clause .entry))) (now (other .entry)) ⌝ }
 {
     if !images_within(clause, row, other) {

@@ -8,7 +8,7 @@ use Rattle.store.specs.Literals.{isLiteral}
 use Rattle.store.specs.Stores.{maxVariables}
 use Rattle.store.proofs.FormLaws.{literal-low}
 use Rattle.keys.specs.Keys.{keyBy}
-use Rattle.keys.proofs.KeyLaws.{key-none, key-again, key-more}
+use Rattle.keys.proofs.KeyLaws.{Hand, key-none, key-again, key-more}
 use Rattle.keys.proofs.MarkLaws.{Marked, came, is-new, marked-none, marked-again, marked-more}
 use borrow.Author.Needs.{needs}
 use native.Mathlib.Omega.{arith}
@@ -30,48 +30,47 @@ loop-holds c =
     (sym (key-none (s .args .numbers .now) clause (length clause) end), marked-none (s .args .mark) clause (s .args .marks .now) (length clause) end (s .pre .1), end)
 
 -- the literal at hand is one of the clause's
-good : (c : tie.After-shared-slice-known2 Inv-loop μ-loop) → let at = c .before .before in
-    isLiteral maxVariables (getD (at .before .before .before .args .clause .now) (at .loop .i - 1) 0) ≡ true
-good c = let at = c .before .before in let s = at .before .before .before in all-at (isLiteral maxVariables) (s .args .clause .now) 0 (s .pre .0) (at .loop .i - 1) (omega (arith, at .loop .inv .2))
+good : (c : tie.After-wide Inv-loop μ-loop) → isLiteral maxVariables (c .wide .result) ≡ true
+good c =
+    let at = c .before .before .before in
+    let s = at .before .before .before in
+    rw (c .wide .ensures .0) (all-at (isLiteral maxVariables) (s .args .clause .now) 0 (s .pre .0) (at .loop .i - 1) (omega (arith, at .loop .inv .2)))
 
-low : (c : tie.After-shared-slice-known2 Inv-loop μ-loop) → let at = c .before .before in
-    2 ≤ getD (at .before .before .before .args .clause .now) (at .loop .i - 1) 0
-low c = omega (arith, literal-low maxVariables _ (good c))
+hand : (c : tie.After-place Inv-loop μ-loop) → let at = c .before .before .before .before in
+    Hand (at .before .before .before .args .clause .now) (at .loop .i - 1) (at .loop .i) (c .before .wide .result) (c .place .result)
+hand c =
+    let at = c .before .before .before .before in
+    record {
+      next = omega arith;
+      inside = omega (arith, at .loop .inv .2);
+      is = c .before .wide .ensures .0;
+      low = omega (arith, literal-low maxVariables _ (good (c .before)));
+      placed = c .place .ensures .0;
+    }
 
 -- it has a mark
 slice-read-if1 : tie.Need-slice-read-if1 Inv-loop μ-loop
-slice-read-if1 c = omega (arith, c .before .place .ensures .1, c .before .before .before .before .loop .inv .1 .most .room)
-
-slice-write-marks : tie.Need-slice-write-marks Inv-loop μ-loop
-slice-write-marks c = slice-read-if1 (c .before)
+slice-read-if1 c = omega (arith, c .before .place .ensures .1, c .before .before .before .before .before .loop .inv .1 .most .room)
 
 loop-again : tie.Need-loop-again Inv-loop μ-loop
 loop-again c =
     let placed = c .before .before .before .before in
-    let at = placed .before .before .before in
+    let at = placed .before .before .before .before in
     let s = at .before .before .before in
-    let clause = s .args .clause .now in
-    let inside : at .loop .i - 1 < length clause = omega (arith, at .loop .inv .2) in
-    let next : at .loop .i ≡ at .loop .i - 1 + 1 = omega arith in
-    let e = placed .place .ensures .0 in
-    let new = is-new (s .args .mark) clause (at .loop .marks) (at .loop .i - 1) (at .loop .i) _ _ next inside refl (low (placed .before)) e (at .loop .inv .1) (c .before .before .if1 .taken) in (
-      c .wrapping-add-u64 .ensures ∙ key-more (s .args .numbers .now) clause (at .loop .i - 1) (at .loop .i) _ next inside refl new _ _ (ap (λ (k : ℕ). getD (s .args .numbers .now) k 0) e) (at .loop .inv .0),
-      marked-more (s .args .mark) clause (at .loop .marks) (at .loop .i - 1) (at .loop .i) _ _ next inside refl (low (placed .before)) e (at .loop .inv .1) (placed .place .ensures .1),
+    let new = is-new (s .args .mark) (s .args .clause .now) (at .loop .marks) _ _ _ _ (hand placed) (at .loop .inv .1) (c .before .before .if1 .taken) in (
+      c .wrapping-add-u64 .ensures ∙ key-more (s .args .numbers .now) (s .args .clause .now) _ _ _ _ (hand placed) new _ (at .loop .inv .0),
+      marked-more (s .args .mark) (s .args .clause .now) (at .loop .marks) _ _ _ _ (hand placed) (at .loop .inv .1) (placed .place .ensures .1),
       omega (arith, at .loop .inv .2),
     )
 
 loop-again-2 : tie.Need-loop-again-2 Inv-loop μ-loop
 loop-again-2 c =
     let placed = c .before .before in
-    let at = placed .before .before .before in
+    let at = placed .before .before .before .before in
     let s = at .before .before .before in
-    let clause = s .args .clause .now in
-    let inside : at .loop .i - 1 < length clause = omega (arith, at .loop .inv .2) in
-    let next : at .loop .i ≡ at .loop .i - 1 + 1 = omega arith in
-    let e = placed .place .ensures .0 in
-    let seen = came (s .args .mark) clause (at .loop .marks) (at .loop .i - 1) (at .loop .i) _ _ next inside refl (low (placed .before)) e (at .loop .inv .1) (c .if1 .left) in (
-      at .loop .inv .0 ∙ key-again (s .args .numbers .now) clause (at .loop .i - 1) (at .loop .i) _ next inside refl seen,
-      marked-again (s .args .mark) clause (at .loop .marks) (at .loop .i - 1) (at .loop .i) _ _ next inside refl (low (placed .before)) e (at .loop .inv .1) seen,
+    let seen = came (s .args .mark) (s .args .clause .now) (at .loop .marks) _ _ _ _ (hand placed) (at .loop .inv .1) (c .if1 .left) in (
+      at .loop .inv .0 ∙ key-again (s .args .numbers .now) (s .args .clause .now) _ _ _ _ (hand placed) seen,
+      marked-again (s .args .mark) (s .args .clause .now) (at .loop .marks) _ _ _ _ (hand placed) (at .loop .inv .1) seen,
       omega (arith, at .loop .inv .2),
     )
 
@@ -84,5 +83,5 @@ same-length c = let at = c .before in at .loop .inv .1 .most .room ∙ sym (at .
 pub key-spec : {M : Type 1} → statement M
 key-spec =
     tie.close
-    (tie.spec Inv-loop μ-loop loop-holds (search needs) (search needs) (search needs) (λ c κs. good c) (search needs) slice-read-if1 (search needs) slice-write-marks (search needs) (search needs) (search needs)
+    (tie.spec Inv-loop μ-loop loop-holds (search needs) (search needs) (search needs) (search needs) (λ c κs. good c) (search needs) slice-read-if1 (search needs) (λ c. slice-read-if1 (c .before)) (search needs) (search needs) (search needs)
     (search needs) loop-again (search needs) loop-again-2 same-length returns)

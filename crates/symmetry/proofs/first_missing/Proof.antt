@@ -1,29 +1,28 @@
--- `symmetry::first_missing` meets its contract: an index of the clauses is made in scratch memory, and the clauses are gone through by it. Assumes nothing.
+-- `symmetry::first_missing` meets its contract: the images' numbers and an index of the keys are made in scratch memory, and the clauses are gone through by them.
+-- Assumes nothing.
 use mathlib.Core.Path.{refl, sym}
+use Rattle.store.proofs.Cuts.{clauses-count}
+use Rattle.keys.proofs.RightLaws.{right-long}
 use borrow.Author.Needs.{needs}
+use native.Mathlib.Omega.{arith}
 use Rattle.symmetry.proofs.first_missing.Statement.{statement}
 use Rattle.symmetry.proofs.first_missing.Tie as tie
 
-index-clauses-requires : tie.Need-index-clauses-requires
-index-clauses-requires c κs = let s = c .before .before .before .before .before in (s .pre .clauses, s .pre .clauses-fit, refl, s .pre .clauses-fit)
-
-slice-aggregate-first-missing-by : tie.Need-slice-aggregate-first-missing-by
-slice-aggregate-first-missing-by c = sym (c .before .before .before .index-clauses .kept .1 .1 .1 .0)
-
-slice-aggregate-first-missing-by-2 : tie.Need-slice-aggregate-first-missing-by-2
-slice-aggregate-first-missing-by-2 c = sym (c .before .before .before .before .index-clauses .kept .1 .1 .1 .1 .0)
-
-first-missing-by-requires : tie.Need-first-missing-by-requires
-first-missing-by-requires c κs =
-    let made = c .before .before .before .before in
-    let s = made .before .before .before .before .before .before in
-    (s .pre, made .index-clauses .ensures)
-
-returns : tie.Need-returns
-returns c = c .first-missing-by .ensures
+of-keys-requires : tie.Need-of-keys-requires
+of-keys-requires c κs =
+    let s = c .before .before .before .before .before .before .before in
+    let count = clauses-count (s .args .literals .now) (s .args .ends .now) (s .args .m) (s .pre .formula .clauses .known) in
+    (omega (arith, count, right-long _ _ (s .pre .keys-right)), s .pre .formula .clauses-fit, refl, s .pre .formula .clauses-fit)
 
 pub first-missing-spec : {M : Type 1} → statement M
 first-missing-spec =
     tie.close
-    (tie.spec (search needs) (search needs) index-clauses-requires slice-aggregate-first-missing-by slice-aggregate-first-missing-by-2
-    first-missing-by-requires returns)
+    (tie.spec
+    (λ c κs. let s = c .before .before .before .before in (s .pre .variables-fit, s .pre .is-row))
+    (search needs)
+    (search needs)
+    of-keys-requires
+    (λ c. sym (c .before .before .before .before .of-keys .kept .1 .1 .0))
+    (λ c. sym (c .before .before .before .before .before .of-keys .kept .1 .1 .1 .0))
+    (λ c κs. let made = c .before .before .before .before .before in let s = made .before .before .before .before .before .before .before .before in (s .pre, made .before .before .before .image-numbers .ensures, made .of-keys .ensures))
+    (λ c. c .first-missing-by .ensures))

@@ -6,7 +6,8 @@ use store::refusal::Refusal;
 ghost use mathlib.Core.Path.{_≡_};
 ghost use mathlib.Core.Bool.{true};
 ghost use Prim.Native.Nat.{_<_};
-ghost use Rattle.store.specs.Stores.{stored, isFormed, maxRows};
+ghost use Rattle.store.specs.Stores.{stored, plainOf, isFormed, maxRows};
+ghost use Rattle.keys.specs.Keys.{rightKeys};
 ghost use Rattle.offering.specs.Offering.{offeredBy, imagesAfter, rowFor};
 
 pub enum Offered {
@@ -19,11 +20,13 @@ pub fn offer(
     counts: Record,
     literals: &[u16],
     ends: &[u16],
+    keys: &[u64],
     images: &mut [u16],
     names: &[u8],
     values: &[u8],
 ) -> Offered
-    requires { ⌜ (isFormed (stored counts literals ends images) ≡ true) × (counts .rows < maxRows) ⌝ }
+    requires { let s = stored counts literals ends images in
+        ⌜ (isFormed s ≡ true) × (rightKeys (plainOf s) (now keys) ≡ true) × (counts .rows < maxRows) ⌝ }
     ensures answer { λ r. let s = stored counts (literals .entry) (ends .entry) (images .entry) in
         ⌜ r ≡ offeredBy s (now (names .entry)) (now (values .entry)) ⌝ }
     ensures images { λ r. let s = stored counts (literals .entry) (ends .entry) (images .entry) in
@@ -37,7 +40,7 @@ pub fn offer(
     }
     let mut row = [0u16; Record::MAX_VARIABLES];
     permutation::fill_row(names, values, n, &mut row);
-    let missing = symmetry::first_missing(literals, ends, counts.clauses, &row[..n]);
+    let missing = symmetry::first_missing(literals, ends, keys, counts.clauses, &row[..n]);
     if missing != 0 {
         return Offered::Refused(Refusal::NoSymmetry(missing));
     }

@@ -11,7 +11,7 @@ use lib.Seq.{getD-set-same, getD-set-other}
 use lib.Dec.{eqb}
 use Rattle.lists.specs.Tests.{anyOf, has, distinct}
 use Rattle.lists.proofs.Cases.{never, and-l, and-r, or-cases, not-so}
-use Rattle.lists.proofs.Members.{place}
+use Rattle.lists.proofs.Members.{place, has-head, has-rest}
 
 module _ (x : ℕ) (l : List ℕ) where
   -- no number stands twice: not the head, and not in the rest

@@ -10,6 +10,7 @@ use Rattle.store.specs.Stores.{Store, lent, plainOf, appended}
 use Rattle.store.proofs.Formed.{Formed, formed}
 use Rattle.permutation.specs.Stated.{statedBy}
 use Rattle.permutation.specs.declared.Stated.{Stated}
+use Rattle.permutation.proofs.Theorem.{stated-row}
 use Rattle.symmetry.specs.Symmetry.{firstMissing}
 use Rattle.symmetry.proofs.Facts.{row-fits}
 use Rattle.offering.specs.Offering.{rowFor}
@@ -30,13 +31,13 @@ abbrev R : tie.Start → List ℕ
 R c = rowFor (S c) (c .args .names .now) (c .args .values .now)
 
 -- the two lines state a permutation
-stated : (c : tie.After-enum-told) → let s = c .before .before .before .before .before .before .before .before in
+stated : (c : tie.After-enum-told) → let s = c .before .before .before .before .before .before .before .before .before in
     statedBy (s .args .counts .variables) (s .args .names .now) (s .args .values .now) ≡ Stated.Permutation
 stated c = sym (c .before .before .check .ensures) ∙ c .enum-told .given .1
 
 -- the start, from where the row has been filled
 abbrev begun : tie.After-fill-row → tie.Start
-begun c = c .before .before .before .before .before .before .before .before .before .before
+begun c = c .before .before .before .before .before .before .before .before .before .before .before
 
 -- the row that was filled
 abbrev filled : tie.After-fill-row → List ℕ
@@ -62,15 +63,15 @@ missing-is c =
     c .first-missing .ensures ∙ ap (λ (row : List ℕ). firstMissing row (plainOf (S s))) (filled-is (c .before .before .before))
 
 check-requires : tie.Need-check-requires
-check-requires c κs = facts (c .before .before .before .before .before) .variables-fit
+check-requires c κs = facts (c .before .before .before .before .before .before) .variables-fit
 
 returns : tie.Need-returns
 returns c =
     let told = c .before .before .before in
-    (sym (not-stated (S (told .before .before .before .before .before .before)) _ _ _ (sym (told .check .ensures) ∙ c .before .stated .given .1)), refl)
+    (sym (not-stated (S (told .before .before .before .before .before .before .before)) _ _ _ (sym (told .check .ensures) ∙ c .before .stated .given .1)), refl)
 
 fill-row-requires : tie.Need-fill-row-requires
-fill-row-requires c κs = let small = facts (c .before .before .before .before .before .before .before .before .before) .variables-fit in (small, small, stated (c .before))
+fill-row-requires c κs = let small = facts (c .before .before .before .before .before .before .before .before .before .before) .variables-fit in (small, small, stated (c .before))
 
 array-share-prefix-row : tie.Need-array-share-prefix-row
 array-share-prefix-row c = filled-size (c .before)
@@ -81,7 +82,8 @@ slice-aggregate-first-missing c = sym (filled-prefix (c .before .before))
 first-missing-requires : tie.Need-first-missing-requires
 first-missing-requires c κs =
     let s = begun (c .before .before) in
-    row-fits (S s) _ (facts s) (filled-prefix (c .before .before))
+    let row = c .before .before in
+    row-fits (S s) (s .args .keys .now) _ (s .pre .0) (s .pre .1) (filled-prefix row) (rw (filled-is row) (stated-row _ _ _ (stated (row .before .before))))
 
 returns-2 : tie.Need-returns-2
 returns-2 c =
@@ -92,7 +94,7 @@ returns-2 c =
 mul-needed : tie.Need-mul-needed
 mul-needed c =
     let s = begun (c .before .before .before .before) in
-    let few : s .args .counts .rows + 1 ≤ 64 = omega (arith, s .pre .1) in
+    let few : s .args .counts .rows + 1 ≤ 64 = omega (arith, s .pre .2) in
     let most : (s .args .counts .rows + 1) * s .args .counts .variables ≤ 64 * 512 = mul-le-mul few (facts s .variables-fit) in
     omega arith
 

@@ -24,7 +24,7 @@ listing = problem (51 ∷ 32 ∷ 50 ∷ 10 ∷ 49 ∷ 32 ∷ 50 ∷ 32 ∷ 48 �
 
 -- the listing, `p cnf 0 0` and `p cnf 512 0`
 opened :
-    map (λ text. openedBy text 4 2) (listing ∷ problem (48 ∷ 32 ∷ 48 ∷ []) ∷ problem (53 ∷ 49 ∷ 50 ∷ 32 ∷ 48 ∷ []) ∷ [])
+    map (λ text. openedBy text 4 2 2) (listing ∷ problem (48 ∷ 32 ∷ 48 ∷ []) ∷ problem (53 ∷ 49 ∷ 50 ∷ 32 ∷ 48 ∷ []) ∷ [])
     ≡ Opened.Open 3 2 ∷ Opened.Open 0 0 ∷ Opened.Open 512 0 ∷ []
 unfolding listing problem allOf isBlank run wordsFrom linesFrom isDigit decimalFrom digitsOf sizeOf numeralOf codeIn afterComments wordsIn sameBytes fourWords sizesOf problemIn problemOf scanFrom bodyOf openedBy
 opened = refl
@@ -36,7 +36,7 @@ written = refl
 
 -- a comment line alone; ` p cnf 0 0`; `p cnf 513 0`; `p cnf 513 x`; then `p cnf 1 1` with the line `-0 0`, with `2 0` and with `1`; `p cnf 1 0` with `x`
 refused :
-    map (λ text. openedBy text 4 2)
+    map (λ text. openedBy text 4 2 2)
     ((99 ∷ 32 ∷ 120 ∷ 10 ∷ [])
     ∷ (32 ∷ problem (48 ∷ 32 ∷ 48 ∷ []))
     ∷ problem (53 ∷ 49 ∷ 51 ∷ 32 ∷ 48 ∷ [])
@@ -61,7 +61,7 @@ refused = refl
 
 -- `p cnf 1 1`, then comments: `1`, `c 0`, `0`; and `c`, `1 0`, `c`; then what is refused: ` c`; `1 c`; `c`, `2 0`; `c` alone; `1 0`, ` c`
 commented :
-    map (λ rest. openedBy (problem (49 ∷ 32 ∷ 49 ∷ 10 ∷ rest)) 4 2)
+    map (λ rest. openedBy (problem (49 ∷ 32 ∷ 49 ∷ 10 ∷ rest)) 4 2 2)
     ((49 ∷ 10 ∷ 99 ∷ 32 ∷ 48 ∷ 10 ∷ 48 ∷ [])
     ∷ (99 ∷ 10 ∷ 49 ∷ 32 ∷ 48 ∷ 10 ∷ 99 ∷ [])
     ∷ (32 ∷ 99 ∷ [])
@@ -77,6 +77,6 @@ unfolding problem allOf isBlank run wordsFrom linesFrom isDigit decimalFrom digi
 commented = refl
 
 -- the listing where literals and ends are both too short, and where only the ends are
-short : map (λ literals. openedBy listing literals 1) (3 ∷ 4 ∷ []) ≡ map Opened.Refused (Refusal.TooShort 4 ∷ Refusal.TooShort 2 ∷ [])
+short : map (λ literals. openedBy listing literals 1 2) (3 ∷ 4 ∷ []) ≡ map Opened.Refused (Refusal.TooShort 4 ∷ Refusal.TooShort 2 ∷ [])
 unfolding listing problem allOf isBlank run wordsFrom linesFrom isDigit decimalFrom digitsOf sizeOf numeralOf codeIn afterComments wordsIn sameBytes fourWords sizesOf problemIn problemOf scanFrom bodyOf openedBy
 short = refl

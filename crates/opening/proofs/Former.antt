@@ -155,17 +155,17 @@ module _ (text : List ℕ) where
 -- ---- the theorems
 
 -- whatever is lent: the former answer is the new one, or it was 3 or 6 where a comment starts
-pub data FormerAnswer (text : List ℕ) (literals ends : ℕ) : Type 0 where
-  same-answer : formerlyOpenedBy text literals ends ≡ openedBy text literals ends → FormerAnswer text literals ends
+pub data FormerAnswer (text : List ℕ) (literals ends keys : ℕ) : Type 0 where
+  same-answer : formerlyOpenedBy text literals ends keys ≡ openedBy text literals ends keys → FormerAnswer text literals ends keys
   met-comment : (place : ℕ) → startsComment text place ≡ true
-      → (formerlyOpenedBy text literals ends ≡ Opened.Refused (Refusal.NotNumber place)) ⊎ (formerlyOpenedBy text literals ends ≡ Opened.Refused (Refusal.ClauseCount place))
-      → FormerAnswer text literals ends
+      → (formerlyOpenedBy text literals ends keys ≡ Opened.Refused (Refusal.NotNumber place)) ⊎ (formerlyOpenedBy text literals ends keys ≡ Opened.Refused (Refusal.ClauseCount place))
+      → FormerAnswer text literals ends keys
 
 -- "Texts that opened before open to the same store": what `open` answers and what it leaves in the slices, by its contract, is what the former rule gives
-pub record SameStore (text literals ends : List ℕ) (former : Opened) : Type 0 where
-  pub answer : openedBy text (length literals) (length ends) ≡ former
-  pub literals-left : written (openedBy text (length literals) (length ends)) (literalsIn (bodyOf text)) literals ≡ written former (literalsIn (formerBodyOf text)) literals
-  pub ends-left : written (openedBy text (length literals) (length ends)) (endsFrom 0 (bodyOf text)) ends ≡ written former (endsFrom 0 (formerBodyOf text)) ends
+pub record SameStore (text literals ends keys : List ℕ) (former : Opened) : Type 0 where
+  pub answer : openedBy text (length literals) (length ends) (length keys) ≡ former
+  pub literals-left : written (openedBy text (length literals) (length ends) (length keys)) (literalsIn (bodyOf text)) literals ≡ written former (literalsIn (formerBodyOf text)) literals
+  pub ends-left : written (openedBy text (length literals) (length ends) (length keys)) (endsFrom 0 (bodyOf text)) ends ≡ written former (endsFrom 0 (formerBodyOf text)) ends
 
 module _ (text : List ℕ) where
   -- by what the problem line says
@@ -174,58 +174,58 @@ module _ (text : List ℕ) where
     unfolding formerBodyOf
     former-body = rw line
 
-    former-scan : (literals ends : ℕ) → formerlyOpenedBy text literals ends ≡ openedIf (scanFrom (length text) n m 0 0 (wordsAt text end)) n m literals ends
+    former-scan : (literals ends keys : ℕ) → formerlyOpenedBy text literals ends keys ≡ openedIf (scanFrom (length text) n m 0 0 (wordsAt text end)) n m literals ends keys
     unfolding formerlyOpenedBy
-    former-scan literals ends = rw (line, former-body)
+    former-scan literals ends keys = rw (line, former-body)
 
-  pub former-answer : (literals ends : ℕ) → FormerAnswer text literals ends
+  pub former-answer : (literals ends keys : ℕ) → FormerAnswer text literals ends keys
   unfolding formerlyOpenedBy openedBy
-  former-answer literals ends = by (problemOf text) refl
+  former-answer literals ends keys = by (problemOf text) refl
     where
-      by : (p : Problem) → problemOf text ≡ p → FormerAnswer text literals ends
+      by : (p : Problem) → problemOf text ≡ p → FormerAnswer text literals ends keys
       by (Problem.Refused r) e = same-answer (rw e)
       by (Problem.Line n m end) e = go (alike text n m end)
         where
           go : Alike text (scanFrom (length text) n m 0 0 (wordsAt text end)) (scanFrom (length text) n m 0 0 (wordsPast text end)) (wordsAt text end) (wordsPast text end)
-              → FormerAnswer text literals ends
-          go (Alike.same q words) = same-answer (former-scan n m end e literals ends ∙ rw q (sym (opened-past text n m end e literals ends)))
+              → FormerAnswer text literals ends keys
+          go (Alike.same q words) = same-answer (former-scan n m end e literals ends keys ∙ rw q (sym (opened-past text n m end e literals ends keys)))
           go (Alike.stopped place c q) =
               met-comment place c
               (⊎-elim
-              (λ k. inl (former-scan n m end e literals ends ∙ rw k))
-              (λ k. inr (former-scan n m end e literals ends ∙ rw k))
+              (λ k. inl (former-scan n m end e literals ends keys ∙ rw k))
+              (λ k. inr (former-scan n m end e literals ends keys ∙ rw k))
               q)
 
-  record SameWords (literals ends n m : ℕ) : Type 0 where
-    answer : openedBy text literals ends ≡ Opened.Open n m
+  record SameWords (literals ends keys n m : ℕ) : Type 0 where
+    answer : openedBy text literals ends keys ≡ Opened.Open n m
     body : bodyOf text ≡ formerBodyOf text
 
-  same-words : (literals ends n m : ℕ) → formerlyOpenedBy text literals ends ≡ Opened.Open n m → SameWords literals ends n m
+  same-words : (literals ends keys n m : ℕ) → formerlyOpenedBy text literals ends keys ≡ Opened.Open n m → SameWords literals ends keys n m
   unfolding formerlyOpenedBy
-  same-words literals ends n m opened = by (problemOf text) refl opened
+  same-words literals ends keys n m opened = by (problemOf text) refl opened
     where
-      by : (p : Problem) → problemOf text ≡ p → openedAfter p (formerBodyOf text) (length text) literals ends ≡ Opened.Open n m → SameWords literals ends n m
+      by : (p : Problem) → problemOf text ≡ p → openedAfter p (formerBodyOf text) (length text) literals ends keys ≡ Opened.Open n m → SameWords literals ends keys n m
       by (Problem.Refused r) e q = never (cc)
       by (Problem.Line a b end) e q = go (alike text a b end)
         where
-          was : openedIf (scanFrom (length text) a b 0 0 (wordsAt text end)) a b literals ends ≡ Opened.Open n m
+          was : openedIf (scanFrom (length text) a b 0 0 (wordsAt text end)) a b literals ends keys ≡ Opened.Open n m
           was = rw (former-body a b end e) at q
 
-          done : SlicesFit (scanFrom (length text) a b 0 0 (wordsAt text end)) b literals ends
-          done = room (scanFrom (length text) a b 0 0 (wordsAt text end)) a b literals ends n m was .0
+          done : SlicesFit (scanFrom (length text) a b 0 0 (wordsAt text end)) b literals ends keys
+          done = room (scanFrom (length text) a b 0 0 (wordsAt text end)) a b literals ends keys n m was .0
 
           go : Alike text (scanFrom (length text) a b 0 0 (wordsAt text end)) (scanFrom (length text) a b 0 0 (wordsPast text end)) (wordsAt text end) (wordsPast text end)
-              → SameWords literals ends n m
+              → SameWords literals ends keys n m
           go (Alike.same k words) =
               record {
-                answer = opened-past text a b end e literals ends ∙ rw (← k) was;
+                answer = opened-past text a b end e literals ends keys ∙ rw (← k) was;
                 body = body-past text a b end e ∙ sym (words (done .count) (done .done)) ∙ sym (former-body a b end e);
               }
           go (Alike.stopped place c k) = ⊎-elim (λ r. never (cc (r, done .done))) (λ r. never (cc (r, done .done))) k
 
-pub same-store : (text literals ends : List ℕ) (n m : ℕ) → formerlyOpenedBy text (length literals) (length ends) ≡ Opened.Open n m
-    → SameStore text literals ends (formerlyOpenedBy text (length literals) (length ends))
-same-store text literals ends n m opened =
-    let s = same-words text (length literals) (length ends) n m opened in
+pub same-store : (text literals ends keys : List ℕ) (n m : ℕ) → formerlyOpenedBy text (length literals) (length ends) (length keys) ≡ Opened.Open n m
+    → SameStore text literals ends keys (formerlyOpenedBy text (length literals) (length ends) (length keys))
+same-store text literals ends keys n m opened =
+    let s = same-words text (length literals) (length ends) (length keys) n m opened in
     let answer = s .answer ∙ sym opened in
     record { answer = answer; literals-left = rw (answer, s .body); ends-left = rw (answer, s .body) }

@@ -7,8 +7,10 @@ use native.Mathlib.Omega.{arith}
 use lib.ListN.{length, take, drop, length-append}
 use lib.Seq.{take-at}
 use Rattle.lists.specs.Tests.{allOf}
-use Rattle.store.specs.Stores.{Store, lent, literalCount, rowsOf, plainOf, isFormed, heldRows}
+use Rattle.store.specs.Stores.{Store, lent, literalCount, rowsOf, plainOf, isFormed, heldRows, FormedFormula, maxVariables}
 use Rattle.store.proofs.Demands.{OtherDemands, rows-decide}
+use Rattle.store.proofs.Formed.{formed}
+use Rattle.store.proofs.Within.{formed-formula, formula-within}
 use Rattle.opening.specs.Clauses.{literalsIn, endsFrom}
 use Rattle.opening.specs.Opening.{bodyOf, openedBy, written, formulaOf}
 use Rattle.opening.specs.declared.Opened.{Opened}
@@ -25,9 +27,9 @@ openedStore text literals ends images n m =
     (written (Opened.Open n m) (endsFrom 0 (bodyOf text)) ends)
     images
 
-module _ (text literals ends images : List ℕ) (n m : ℕ) (e : openedBy text (length literals) (length ends) ≡ Opened.Open n m) where
-  facts : Opens text (length literals) (length ends) n m
-  facts = opens text (length literals) (length ends) n m e
+module _ (text literals ends keys images : List ℕ) (n m : ℕ) (e : openedBy text (length literals) (length ends) (length keys) ≡ Opened.Open n m) where
+  facts : Opens text (length literals) (length ends) (length keys) n m
+  facts = opens text (length literals) (length ends) (length keys) n m e
 
   all : Counted n m (facts .fits .count) 0 0 (bodyOf text)
   all = counted (length text) n m (facts .fits .count) (bodyOf text) 0 0 (facts .fits .done)
@@ -71,3 +73,10 @@ module _ (text literals ends images : List ℕ) (n m : ℕ) (e : openedBy text (
   pub opened-plain : plainOf (openedStore text literals ends images n m) ≡ formulaOf text
   unfolding plainOf formulaOf
   opened-plain = rw front-ends (cut-clauses (bodyOf text) (codes ++ drop (length codes) literals) (drop (length codes) literals) 0 0 (omega arith) refl)
+
+  -- its clauses with their literals, of as many variables as there may be
+  pub opened-formula : FormedFormula maxVariables m (openedStore text literals ends images n m .literals) (openedStore text literals ends images n m .ends)
+  opened-formula =
+      let s = openedStore text literals ends images n m in
+      let f = formed s opened-formed in
+      formula-within n maxVariables m (s .literals) (s .ends) (f .variables-fit) (formed-formula s f)

@@ -16,5 +16,5 @@ allWordsAfter (Problem.Refused r) text = []
 unfoldable pub formerBodyOf : List ℕ → List Piece
 formerBodyOf text = allWordsAfter (problemOf text) text
 
-unfoldable pub formerlyOpenedBy : List ℕ → ℕ → ℕ → Opened
-formerlyOpenedBy text literals ends = openedAfter (problemOf text) (formerBodyOf text) (length text) literals ends
+unfoldable pub formerlyOpenedBy : List ℕ → ℕ → ℕ → ℕ → Opened
+formerlyOpenedBy text literals ends keys = openedAfter (problemOf text) (formerBodyOf text) (length text) literals ends keys

@@ -1,4 +1,4 @@
-// Opening: a text into the store (document 01, "Plain formula", refusals 1 to 6 and 23; CR 1). The text is judged whole before anything is
+// Opening: a text into the store (document 01, "Plain formula", refusals 1 to 6 and 23; CR 1, CR 5). The text is judged whole before anything is
 // written, so that a refused opening changes nothing. What carries the proofs: a text is a list of lines up to the problem line and a list
 // of words after it, and each pass is a walk through such a list.
 use dimacs::Reading;
@@ -15,11 +15,11 @@ ghost use Rattle.dimacs.specs.Words.{Piece, wordsAt};
 ghost use Rattle.dimacs.specs.Numbers.{wordAt};
 ghost use Rattle.comments.specs.Comments.{wordsPast, Between};
 ghost use Rattle.store.specs.Stores.{maxVariables};
+ghost use Rattle.keys.specs.Keys.{keysOf};
 ghost use Rattle.opening.specs.Problem.{sameBytes, fourWords, sizesOf, problemOf};
 ghost use Rattle.opening.specs.Clauses.{scanFrom, literalsIn, endsFrom};
-ghost use Rattle.opening.specs.Opening.{bodyOf, openedAfter, openedBy, written};
-ghost use Rattle.opening.specs.declared.Problem.{Problem};
-ghost use Rattle.opening.specs.declared.Opened.{Opened};
+ghost use Rattle.opening.specs.Opening.{bodyOf, formulaOf, openedBy, written};
+ghost use Rattle.opening.specs.declared.Scanned.{Scanned};
 
 // What a line says if it is a problem line.
 pub enum Sizes {
@@ -45,11 +45,13 @@ pub enum Opened {
     Refused(Refusal),
 }
 
-// Opens a text: literals and ends are written over from their start, and not at all where the text is refused.
-pub fn open(text: &[u8], literals: &mut [u16], ends: &mut [u16]) -> Opened
-    ensures answer { λ r. ⌜ r ≡ openedBy (now (text .entry)) (length (now (literals .entry))) (length (now (ends .entry))) ⌝ }
+// Opens a text: literals, ends and keys are written over from their start, and not at all where the text is refused.
+pub fn open(text: &[u8], literals: &mut [u16], ends: &mut [u16], keys: &mut [u64]) -> Opened
+    ensures answer { λ r. let room = length (now (keys .entry)) in
+        ⌜ r ≡ openedBy (now (text .entry)) (length (now (literals .entry))) (length (now (ends .entry))) room ⌝ }
     ensures literals { λ r. ⌜ now (literals .exit) ≡ written r (literalsIn (bodyOf (now (text .entry)))) (now (literals .entry)) ⌝ }
     ensures ends { λ r. ⌜ now (ends .exit) ≡ written r (endsFrom 0 (bodyOf (now (text .entry)))) (now (ends .entry)) ⌝ }
+    ensures keys { λ r. ⌜ now (keys .exit) ≡ written r (keysOf (formulaOf (now (text .entry)))) (now (keys .entry)) ⌝ }
 {
     match problem_of(text) {
         Problem::Refused(refusal) => {
@@ -66,7 +68,11 @@ pub fn open(text: &[u8], literals: &mut [u16], ends: &mut [u16]) -> Opened
                 if ends.len() < m {
                     return Opened::Refused(Refusal::TooShort(m));
                 }
+                if keys.len() < m {
+                    return Opened::Refused(Refusal::TooShort(m));
+                }
                 fill(text, end, literals, ends);
+                keys::write(literals, ends, m, keys);
                 return Opened::Open(n, m);
             }
         },
@@ -201,12 +207,14 @@ fn scan(text: &[u8], start: usize, n: usize, m: usize) -> Scanned
     }
 }
 
-// Writes the codes of the literals and the ends of the clauses, of words that open as some n and m where there is room for all.
+// Writes the codes of the literals and the ends of the clauses, of words that make m clauses of `count` literals where there is room for all.
 fn fill(text: &[u8], start: usize, literals: &mut [u16], ends: &mut [u16])
     requires { let words = wordsPast (now text) start in
         ⌜ (Between (now text) start)
-        × ((n : ℕ) × (m : ℕ) × (n ≤ maxVariables)
-        × (openedAfter (Problem.Line n m start) words (length (now text)) (length (now literals)) (length (now ends)) ≡ Opened.Open n m)) ⌝ }
+        × ((n : ℕ) × (m : ℕ) × (count : ℕ) × (n ≤ maxVariables)
+        × (scanFrom (length (now text)) n m 0 0 words ≡ Scanned.Done count)
+        × (count ≤ length (now literals))
+        × (m ≤ length (now ends))) ⌝ }
     ensures literals { λ _. let words = wordsPast (now (text .entry)) start in
         ⌜ now (literals .exit) ≡ overwritten (literalsIn words) (now (literals .entry)) ⌝ }
     ensures ends { λ _. let words = wordsPast (now (text .entry)) start in

@@ -14,7 +14,6 @@ use Rattle.opening.specs.declared.Scanned.{Scanned}
 use Rattle.opening.proofs.NextNumber.{NextNumber, body-found, body-missing}
 use Rattle.opening.proofs.DoneLaws.{counted, ZeroTurn, zero-turn, LiteralTurn, literal-turn, none-left}
 use Rattle.lists.proofs.Writing.{stored, sets-front}
-use Rattle.opening.proofs.OpeningLaws.{room}
 use borrow.Author.Needs.{needs}
 use native.Mathlib.Omega.{arith}
 use Rattle.opening.proofs.fill.Statement.{statement}
@@ -67,17 +66,17 @@ loop-holds c =
     let n = start .pre .1 .0 in
     let m = start .pre .1 .1 in
     let words = wordsPast (start .args .text .now) (start .args .start) in
-    let fits = room (scanFrom (length (start .args .text .now)) n m 0 0 words) n m _ _ n m (start .pre .1 .3) .0 in
-    let all = counted _ n m (fits .count) words 0 0 (fits .done) in
+    let fits = start .pre .1 in
+    let all = counted _ n m (fits .2) words 0 0 (fits .4) in
     record {
-      judged = record { n = n; m = m; total = fits .count; small = start .pre .1 .2; literals-room = fits .literals-fit; ends-room = fits .ends-fit };
+      judged = record { n = n; m = m; total = fits .2; small = fits .3; literals-room = fits .5; ends-room = fits .6 };
       between = start .pre .0;
       used-within = omega arith;
       literals-length = refl;
       ends-length = refl;
-      done = fits .done;
-      codes = sets-front (start .args .literals .now) (literalsIn words) (omega (arith, all .literals, fits .literals-fit));
-      clauses = sets-front (start .args .ends .now) (endsFrom 0 words) (omega (arith, all .ends, fits .ends-fit));
+      done = fits .4;
+      codes = sets-front (start .args .literals .now) (literalsIn words) (omega (arith, all .literals, fits .5));
+      clauses = sets-front (start .args .ends .now) (endsFrom 0 words) (omega (arith, all .ends, fits .6));
     }
 
 next-word-requires : tie.Need-next-word-requires Inv-loop μ-loop

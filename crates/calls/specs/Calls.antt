@@ -9,11 +9,13 @@ use Rattle.packed.specs.Words.{maxWords, bitsOf, wordCount, isAssignment}
 use Rattle.packed.specs.Order.{allBits, firstDifference}
 use Rattle.quality.specs.Efficiency.{hasEfficiency, efficiencyOf}
 use Rattle.store.specs.Refusals.{Said, done, refused, saidRefused, unlessRefused, bufferLeft}
-use Rattle.store.specs.Stores.{Store, lent, withRow, withoutRow, heldRows, standingOf, maxRows}
-use Rattle.store.specs.declared.form.Standing.{Standing}
+use Rattle.store.specs.Stores.{lent, withRow, withoutRow, heldRows, maxRows}
 use Rattle.store.specs.declared.record.Record.{Record}
+use Rattle.keys.specs.Keys.{keysOf}
+use Rattle.standing.specs.Keyed.{Keyed, withKeys, standingOf}
+use Rattle.standing.specs.declared.Standing.{Standing}
 use Rattle.opening.specs.Clauses.{literalsIn, endsFrom}
-use Rattle.opening.specs.Opening.{bodyOf, openedBy, written}
+use Rattle.opening.specs.Opening.{bodyOf, formulaOf, openedBy, written}
 use Rattle.opening.specs.declared.Opened.{Opened}
 use Rattle.offering.specs.Offering.{rowFor, offeredBy}
 use Rattle.offering.specs.declared.Offered.{Offered}
@@ -32,7 +34,7 @@ abbrev pub onStore : {Values : Type 0} → Standing → Said Values → Said Val
 onStore Standing.Ready said = said
 onStore (Standing.Refused r) said = saidRefused r
 
--- ---- open: 1 to 6 by place, then 23. It looks at no old store, replaces it and drops its rows; a refused opening changes nothing.
+-- ---- open: 1 to 6 by place, then 23. It looks at no old store, replaces it with its keys and drops its rows; a refused opening changes nothing.
 
 -- n and m
 pub record Dimensions : Type 0 where
@@ -43,17 +45,23 @@ abbrev pub saidOpened : Opened → Said Dimensions
 saidOpened (Opened.Open n m) = done (record { variables = n; clauses = m })
 saidOpened (Opened.Refused r) = saidRefused r
 
-unfoldable pub openSays : Store → List ℕ → Said Dimensions
-openSays s text = saidOpened (openedBy text (length (s .literals)) (length (s .ends)))
+-- by the room in what is lent
+abbrev pub openedIn : Keyed → List ℕ → Opened
+openedIn s text = openedBy text (length (s .store .literals)) (length (s .store .ends)) (length (s .keys))
+
+unfoldable pub openSays : Keyed → List ℕ → Said Dimensions
+openSays s text = saidOpened (openedIn s text)
 
 abbrev pub countsOpened : Opened → Record → Record
 countsOpened (Opened.Open n m) old = record { variables = n; clauses = m; rows = 0; is_open = true }
 countsOpened (Opened.Refused r) old = old
 
-unfoldable pub openStore : Store → List ℕ → Store
+unfoldable pub openStore : Keyed → List ℕ → Keyed
 openStore s text =
-    let answer = openedBy text (length (s .literals)) (length (s .ends)) in
-    lent (countsOpened answer (s .counts)) (written answer (literalsIn (bodyOf text)) (s .literals)) (written answer (endsFrom 0 (bodyOf text)) (s .ends)) (s .images)
+    let answer = openedIn s text in
+    let literals = written answer (literalsIn (bodyOf text)) (s .store .literals) in
+    let ends = written answer (endsFrom 0 (bodyOf text)) (s .store .ends) in
+    withKeys (lent (countsOpened answer (s .store .counts)) literals ends (s .store .images)) (written answer (keysOf (formulaOf text)) (s .keys))
 
 -- ---- offer: 20, 21, 22, then 7, 8, 9, 10, 11, 23
 
@@ -65,12 +73,12 @@ abbrev pub saidOffered : Offered → Said Accepted
 saidOffered Offered.Accepted = done accepted
 saidOffered (Offered.Refused r) = saidRefused r
 
-unfoldable pub offerSays : Store → List ℕ → List ℕ → Said Accepted
-offerSays s names values = onStore (standingOf s) (cond (eqb (s .counts .rows) maxRows) (refused 22 0) (saidOffered (offeredBy s names values)))
+unfoldable pub offerSays : Keyed → List ℕ → List ℕ → Said Accepted
+offerSays s names values = onStore (standingOf s) (cond (eqb (s .store .counts .rows) maxRows) (refused 22 0) (saidOffered (offeredBy (s .store) names values)))
 
--- the store with one row more
-unfoldable pub offerStore : Store → List ℕ → List ℕ → Store
-offerStore s names values = unlessRefused (offerSays s names values) (withRow s (rowFor s names values)) s
+-- the store with one row more; the keys stay
+unfoldable pub offerStore : Keyed → List ℕ → List ℕ → Keyed
+offerStore s names values = unlessRefused (offerSays s names values) (withKeys (withRow (s .store) (rowFor (s .store) names values)) (s .keys)) s
 
 -- ---- withdraw (document 02, CR 3): 20, 21, then 30 where no row is held
 
@@ -82,26 +90,26 @@ abbrev pub saidWithdrawn : Withdrawn → Said TakenBack
 saidWithdrawn Withdrawn.TakenBack = done takenBack
 saidWithdrawn (Withdrawn.Refused r) = saidRefused r
 
-unfoldable pub withdrawSays : Store → Said TakenBack
-withdrawSays s = onStore (standingOf s) (cond (eqb (s .counts .rows) 0) (refused 30 0) (done takenBack))
+unfoldable pub withdrawSays : Keyed → Said TakenBack
+withdrawSays s = onStore (standingOf s) (cond (eqb (s .store .counts .rows) 0) (refused 30 0) (done takenBack))
 
 -- only the count of rows falls: the row's entries are then past those in use, and stay
-unfoldable pub withdrawStore : Store → Store
-withdrawStore s = unlessRefused (withdrawSays s) (withoutRow s) s
+unfoldable pub withdrawStore : Keyed → Keyed
+withdrawStore s = unlessRefused (withdrawSays s) (withKeys (withoutRow (s .store)) (s .keys)) s
 
 -- ---- header and clause q: "each returning its byte length; bytes past it stay". 20, 21, then 13 for a clause, then 23
 
-unfoldable pub headerSays : Store → ℕ → Said ℕ
-headerSays s room = onStore (standingOf s) (headerBy s room)
+unfoldable pub headerSays : Keyed → ℕ → Said ℕ
+headerSays s room = onStore (standingOf s) (headerBy (s .store) room)
 
-unfoldable pub headerLeaves : Store → List ℕ → List ℕ
-headerLeaves s out = bufferLeft (headerSays s (length out)) (headerOf s) out
+unfoldable pub headerLeaves : Keyed → List ℕ → List ℕ
+headerLeaves s out = bufferLeft (headerSays s (length out)) (headerOf (s .store)) out
 
-unfoldable pub clauseSays : Store → ℕ → ℕ → Said ℕ
-clauseSays s q room = onStore (standingOf s) (clauseBy s q room)
+unfoldable pub clauseSays : Keyed → ℕ → ℕ → Said ℕ
+clauseSays s q room = onStore (standingOf s) (clauseBy (s .store) q room)
 
-unfoldable pub clauseLeaves : Store → ℕ → List ℕ → List ℕ
-clauseLeaves s q out = bufferLeft (clauseSays s q (length out)) (lineOf s q) out
+unfoldable pub clauseLeaves : Keyed → ℕ → List ℕ → List ℕ
+clauseLeaves s q out = bufferLeft (clauseSays s q (length out)) (lineOf (s .store) q) out
 
 -- ---- compare: "one call gives that variable, or 0 when equal, and refuses unequal lengths or more than 519 words .. with 12", place 0
 
@@ -111,13 +119,13 @@ compareSays a b =
 
 -- ---- fill in: 20, 21, 12, 23. It answers how many words it wrote; "Words after it stay."
 
-unfoldable pub fillSays : Store → List ℕ → ℕ → Said ℕ
+unfoldable pub fillSays : Keyed → List ℕ → ℕ → Said ℕ
 fillSays s a room =
-    let needed = wordCount (variablesOf s) in
-    onStore (standingOf s) (cond (isAssignment (s .counts .variables) a) (cond (leb needed room) (done needed) (refused 23 needed)) (refused 12 0))
+    let needed = wordCount (variablesOf (s .store)) in
+    onStore (standingOf s) (cond (isAssignment (s .store .counts .variables) a) (cond (leb needed room) (done needed) (refused 23 needed)) (refused 12 0))
 
-unfoldable pub fillLeaves : Store → List ℕ → List ℕ → List ℕ
-fillLeaves s a out = bufferLeft (fillSays s a (length out)) (filledWords (s .counts .variables) (heldRows s) a) out
+unfoldable pub fillLeaves : Keyed → List ℕ → List ℕ → List ℕ
+fillLeaves s a out = bufferLeft (fillSays s a (length out)) (filledWords (s .store .counts .variables) (heldRows (s .store)) a) out
 
 -- ---- check: 20, 21, 12. It "answers yes, or the first clause of the made formula that an assignment of 1..N makes false"
 
@@ -125,8 +133,8 @@ abbrev pub saidFinding : Finding → Said Verdict
 saidFinding (Finding.Found found) = done (verdictOf found)
 saidFinding (Finding.Refused r) = saidRefused r
 
-unfoldable pub checkSays : Store → List ℕ → Said Verdict
-checkSays s a = onStore (standingOf s) (cond (isAssignment (variablesOf s) a) (done (firstFalse s a)) (refused 12 0))
+unfoldable pub checkSays : Keyed → List ℕ → Said Verdict
+checkSays s a = onStore (standingOf s) (cond (isAssignment (variablesOf (s .store)) a) (done (firstFalse (s .store) a)) (refused 12 0))
 
 -- ---- descend: 20, 21, 12. It answers settled or spent with the count of moves, and leaves the assignment reached
 
@@ -134,13 +142,13 @@ abbrev pub saidDescent : Descent → Said Outcome
 saidDescent (Descent.Ended ending) = done (outcomeOf ending)
 saidDescent (Descent.Refused r) = saidRefused r
 
-unfoldable pub descendSays : Store → List ℕ → ℕ → Said Outcome
+unfoldable pub descendSays : Keyed → List ℕ → ℕ → Said Outcome
 descendSays s a limit =
-    let n = s .counts .variables in
-    onStore (standingOf s) (cond (isAssignment n a) (done (answerOf (descend limit (heldRows s) (bitsOf n a)))) (refused 12 0))
+    let n = s .store .counts .variables in
+    onStore (standingOf s) (cond (isAssignment n a) (done (answerOf (descend limit (heldRows (s .store)) (bitsOf n a)))) (refused 12 0))
 
-unfoldable pub descendLeaves : Store → List ℕ → ℕ → List ℕ
-descendLeaves s a limit = unlessRefused (descendSays s a limit) (descended (s .counts .variables) limit (heldRows s) a) a
+unfoldable pub descendLeaves : Keyed → List ℕ → ℕ → List ℕ
+descendLeaves s a limit = unlessRefused (descendSays s a limit) (descended (s .store .counts .variables) limit (heldRows (s .store)) a) a
 
 -- ---- efficiency: 14, place 0
 

@@ -4,15 +4,16 @@ use checking::Checked;
 use descent::Descended;
 use offering::Offered;
 use opening::Opened;
+use standing::Standing;
 use store::answer::Answer;
-use store::form::Standing;
 use store::record::Record;
 use store::refusal::Refusal;
 ghost use mathlib.Core.Path.{_≡_};
 ghost use mathlib.Core.List.{[]};
 ghost use lib.ListN.{length};
 ghost use Rattle.store.specs.Refusals.{said};
-ghost use Rattle.store.specs.Stores.{lent, stored, closedRecord};
+ghost use Rattle.store.specs.Stores.{lent, closedRecord};
+ghost use Rattle.standing.specs.Keyed.{keyed, withKeys};
 ghost use Rattle.packed.specs.Order.{part, lesserOf};
 ghost use Rattle.calls.specs.Calls.{saidOpened, openSays, openStore, saidOffered, offerSays, offerStore};
 ghost use Rattle.calls.specs.Calls.{saidWithdrawn, withdrawSays, withdrawStore};
@@ -64,14 +65,21 @@ pub fn new_record() -> Record
     Record::closed()
 }
 
-// Opens a formula: the text replaces what the store held, and its rows are dropped.
-pub fn open(counts: Record, text: &[u8], literals: &mut [u16], ends: &mut [u16]) -> Opening
-    ensures says { λ r. let s = lent counts (now (literals .entry)) (now (ends .entry)) [] in
+// Opens a formula: the text replaces what the store held, its keys are written, and its rows are dropped.
+pub fn open(
+    counts: Record,
+    text: &[u8],
+    literals: &mut [u16],
+    ends: &mut [u16],
+    keys: &mut [u64],
+) -> Opening
+    ensures says { λ r. let s = withKeys (lent counts (now (literals .entry)) (now (ends .entry)) []) (now (keys .entry)) in
         ⌜ saidOpened (r .answer) ≡ openSays s (now (text .entry)) ⌝ }
-    ensures leaves { λ r. let s = lent counts (now (literals .entry)) (now (ends .entry)) [] in
-        ⌜ lent (r .counts) (now (literals .exit)) (now (ends .exit)) [] ≡ openStore s (now (text .entry)) ⌝ }
+    ensures leaves { λ r. let s = withKeys (lent counts (now (literals .entry)) (now (ends .entry)) []) (now (keys .entry)) in
+        let left = withKeys (lent (r .counts) (now (literals .exit)) (now (ends .exit)) []) (now (keys .exit)) in
+        ⌜ left ≡ openStore s (now (text .entry)) ⌝ }
 {
-    let answer = opening::open(text, literals, ends);
+    let answer = opening::open(text, literals, ends, keys);
     let Opened::Open(n, m) = answer else {
         return Opening {
             answer: answer,
@@ -94,22 +102,23 @@ pub fn offer(
     counts: Record,
     literals: &[u16],
     ends: &[u16],
+    keys: &[u64],
     images: &mut [u16],
     names: &[u8],
     values: &[u8],
 ) -> Offering
-    ensures says { λ r. let s = stored counts (literals .entry) (ends .entry) (images .entry) in
+    ensures says { λ r. let s = keyed counts (literals .entry) (ends .entry) (keys .entry) (images .entry) in
         ⌜ saidOffered (r .answer) ≡ offerSays s (now (names .entry)) (now (values .entry)) ⌝ }
-    ensures leaves { λ r. let s = stored counts (literals .entry) (ends .entry) (images .entry) in
-        ⌜ stored (r .counts) (literals .entry) (ends .entry) (images .exit) ≡ offerStore s (now (names .entry)) (now (values .entry)) ⌝ }
+    ensures leaves { λ r. let s = keyed counts (literals .entry) (ends .entry) (keys .entry) (images .entry) in
+        ⌜ keyed (r .counts) (literals .entry) (ends .entry) (keys .entry) (images .exit) ≡ offerStore s (now (names .entry)) (now (values .entry)) ⌝ }
 {
-    if let Standing::Refused(refusal) = store::form::admit(counts, literals, ends, images) {
+    if let Standing::Refused(refusal) = standing::admit(counts, literals, ends, keys, images) {
         return turned_back(refusal, counts);
     }
     if counts.rows == Record::MAX_ROWS {
         return turned_back(Refusal::RowsFull, counts);
     }
-    let answer = offering::offer(counts, literals, ends, images, names, values);
+    let answer = offering::offer(counts, literals, ends, keys, images, names, values);
     let Offered::Accepted = answer else {
         return Offering {
             answer: answer,
@@ -137,13 +146,19 @@ fn turned_back(refusal: Refusal, counts: Record) -> Offering
 }
 
 // Takes the newest row back: one row fewer is counted, and no slice is written.
-pub fn withdraw(counts: Record, literals: &[u16], ends: &[u16], images: &[u16]) -> Withdrawal
-    ensures says { λ r. let s = stored counts (literals .entry) (ends .entry) (images .entry) in
+pub fn withdraw(
+    counts: Record,
+    literals: &[u16],
+    ends: &[u16],
+    keys: &[u64],
+    images: &[u16],
+) -> Withdrawal
+    ensures says { λ r. let s = keyed counts (literals .entry) (ends .entry) (keys .entry) (images .entry) in
         ⌜ saidWithdrawn (r .answer) ≡ withdrawSays s ⌝ }
-    ensures leaves { λ r. let s = stored counts (literals .entry) (ends .entry) (images .entry) in
-        ⌜ stored (r .counts) (literals .entry) (ends .entry) (images .entry) ≡ withdrawStore s ⌝ }
+    ensures leaves { λ r. let s = keyed counts (literals .entry) (ends .entry) (keys .entry) (images .entry) in
+        ⌜ keyed (r .counts) (literals .entry) (ends .entry) (keys .entry) (images .entry) ≡ withdrawStore s ⌝ }
 {
-    if let Standing::Refused(refusal) = store::form::admit(counts, literals, ends, images) {
+    if let Standing::Refused(refusal) = standing::admit(counts, literals, ends, keys, images) {
         return Withdrawal {
             answer: Withdrawn::Refused(refusal),
             counts: counts,
@@ -173,15 +188,16 @@ pub fn header(
     counts: Record,
     literals: &[u16],
     ends: &[u16],
+    keys: &[u64],
     images: &[u16],
     out: &mut [u8],
 ) -> Answer
-    ensures says { λ r. let s = stored counts (literals .entry) (ends .entry) (images .entry) in
+    ensures says { λ r. let s = keyed counts (literals .entry) (ends .entry) (keys .entry) (images .entry) in
         ⌜ said r ≡ headerSays s (length (now (out .entry))) ⌝ }
-    ensures leaves { λ _. let s = stored counts (literals .entry) (ends .entry) (images .entry) in
+    ensures leaves { λ _. let s = keyed counts (literals .entry) (ends .entry) (keys .entry) (images .entry) in
         ⌜ now (out .exit) ≡ headerLeaves s (now (out .entry)) ⌝ }
 {
-    if let Standing::Refused(refusal) = store::form::admit(counts, literals, ends, images) {
+    if let Standing::Refused(refusal) = standing::admit(counts, literals, ends, keys, images) {
         return Answer::Refused(refusal);
     }
     emit::header(lexleader::counting::totals_of(counts, images), out)
@@ -192,16 +208,17 @@ pub fn clause(
     counts: Record,
     literals: &[u16],
     ends: &[u16],
+    keys: &[u64],
     images: &[u16],
     q: usize,
     out: &mut [u8],
 ) -> Answer
-    ensures says { λ r. let s = stored counts (literals .entry) (ends .entry) (images .entry) in
+    ensures says { λ r. let s = keyed counts (literals .entry) (ends .entry) (keys .entry) (images .entry) in
         ⌜ said r ≡ clauseSays s q (length (now (out .entry))) ⌝ }
-    ensures leaves { λ _. let s = stored counts (literals .entry) (ends .entry) (images .entry) in
+    ensures leaves { λ _. let s = keyed counts (literals .entry) (ends .entry) (keys .entry) (images .entry) in
         ⌜ now (out .exit) ≡ clauseLeaves s q (now (out .entry)) ⌝ }
 {
-    if let Standing::Refused(refusal) = store::form::admit(counts, literals, ends, images) {
+    if let Standing::Refused(refusal) = standing::admit(counts, literals, ends, keys, images) {
         return Answer::Refused(refusal);
     }
     emit::clause(counts, literals, ends, images, q, out)
@@ -214,16 +231,17 @@ pub fn fill_in(
     counts: Record,
     literals: &[u16],
     ends: &[u16],
+    keys: &[u64],
     images: &[u16],
     a: &[u64],
     out: &mut [u64],
 ) -> Answer
-    ensures says { λ r. let s = stored counts (literals .entry) (ends .entry) (images .entry) in
+    ensures says { λ r. let s = keyed counts (literals .entry) (ends .entry) (keys .entry) (images .entry) in
         ⌜ said r ≡ fillSays s (now (a .entry)) (length (now (out .entry))) ⌝ }
-    ensures leaves { λ _. let s = stored counts (literals .entry) (ends .entry) (images .entry) in
+    ensures leaves { λ _. let s = keyed counts (literals .entry) (ends .entry) (keys .entry) (images .entry) in
         ⌜ now (out .exit) ≡ fillLeaves s (now (a .entry)) (now (out .entry)) ⌝ }
 {
-    if let Standing::Refused(refusal) = store::form::admit(counts, literals, ends, images) {
+    if let Standing::Refused(refusal) = standing::admit(counts, literals, ends, keys, images) {
         return Answer::Refused(refusal);
     }
     if !packed::is_assignment(a, counts.variables) {
@@ -238,11 +256,18 @@ pub fn fill_in(
 }
 
 // Whether an assignment of 1..N satisfies the made formula, or its first clause that is false.
-pub fn check(counts: Record, literals: &[u16], ends: &[u16], images: &[u16], a: &[u64]) -> Finding
-    ensures { λ r. let s = stored counts (literals .entry) (ends .entry) (images .entry) in
+pub fn check(
+    counts: Record,
+    literals: &[u16],
+    ends: &[u16],
+    keys: &[u64],
+    images: &[u16],
+    a: &[u64],
+) -> Finding
+    ensures { λ r. let s = keyed counts (literals .entry) (ends .entry) (keys .entry) (images .entry) in
         ⌜ saidFinding r ≡ checkSays s (now (a .entry)) ⌝ }
 {
-    if let Standing::Refused(refusal) = store::form::admit(counts, literals, ends, images) {
+    if let Standing::Refused(refusal) = standing::admit(counts, literals, ends, keys, images) {
         return Finding::Refused(refusal);
     }
     let total = lexleader::counting::totals_of(counts, images);
@@ -257,16 +282,17 @@ pub fn descend(
     counts: Record,
     literals: &[u16],
     ends: &[u16],
+    keys: &[u64],
     images: &[u16],
     a: &mut [u64],
     limit: u64,
 ) -> Descent
-    ensures says { λ r. let s = stored counts (literals .entry) (ends .entry) (images .entry) in
+    ensures says { λ r. let s = keyed counts (literals .entry) (ends .entry) (keys .entry) (images .entry) in
         ⌜ saidDescent r ≡ descendSays s (now (a .entry)) limit ⌝ }
-    ensures leaves { λ _. let s = stored counts (literals .entry) (ends .entry) (images .entry) in
+    ensures leaves { λ _. let s = keyed counts (literals .entry) (ends .entry) (keys .entry) (images .entry) in
         ⌜ now (a .exit) ≡ descendLeaves s (now (a .entry)) limit ⌝ }
 {
-    if let Standing::Refused(refusal) = store::form::admit(counts, literals, ends, images) {
+    if let Standing::Refused(refusal) = standing::admit(counts, literals, ends, keys, images) {
         return Descent::Refused(refusal);
     }
     if !packed::is_assignment(a, counts.variables) {

@@ -58,3 +58,6 @@ module _ (s : Keyed) where
       go true p true q k = (p, q)
       go true p false q k = let z : _≡_ {A = ℕ} 0 1 = cc in absurd (omega arith)
       go false p b q k = let z : _≡_ {A = ℕ} 0 1 = cc in absurd (omega arith)
+
+  pub ready-form : standingOf s ≡ Standing.Ready → isFormed (s .store) ≡ true
+  ready-form e = its-form (ready e .1)

@@ -1,10 +1,11 @@
 -- `calls::check` meets its contract: 20, 21 and 12 are tried, and then the clauses. Assumes nothing.
 use mathlib.Core.Path.{_≡_, sym, ap, _∙_}
 use borrow.Author.Tests.{not-true, not-false}
-use Rattle.store.specs.Stores.{Store, lent, standingOf}
-use Rattle.store.specs.declared.form.Standing.{Standing}
+use Rattle.store.specs.Stores.{lent}
+use Rattle.standing.specs.Keyed.{Keyed, withKeys, standingOf}
+use Rattle.standing.specs.declared.Standing.{Standing}
 use Rattle.store.proofs.Formed.{formed, formed-rows}
-use Rattle.store.proofs.StandingLaws.{ready}
+use Rattle.standing.proofs.StandingLaws.{ready-form}
 use mathlib.Core.Bool.{true}
 use Prim.Native.Nat.{ℕ}
 use Rattle.packed.specs.Words.{isAssignment}
@@ -15,10 +16,10 @@ use borrow.Author.Needs.{needs}
 use Rattle.calls.proofs.check.Statement.{statement}
 use Rattle.calls.proofs.check.Tie as tie
 
-abbrev S : tie.Start → Store
-S c = lent (c .args .counts) (c .args .literals .now) (c .args .ends .now) (c .args .images .now)
+abbrev S : tie.Start → Keyed
+S c = withKeys (lent (c .args .counts) (c .args .literals .now) (c .args .ends .now) (c .args .images .now)) (c .args .keys .now)
 
-admitted : (c : tie.After-enum-told) → standingOf (S (c .before .before .before .before .before .before .before)) ≡ Standing.Ready
+admitted : (c : tie.After-enum-told) → standingOf (S (c .before .before .before .before .before .before .before .before)) ≡ Standing.Ready
 admitted c = sym (c .before .before .admit .ensures) ∙ c .enum-told .given .1
 
 -- past the test of the form
@@ -26,32 +27,32 @@ abbrev told : tie.Else1 → tie.After-enum-told
 told c = c .before .before .before
 
 abbrev start : tie.Else1 → tie.Start
-start c = told c .before .before .before .before .before .before .before
+start c = told c .before .before .before .before .before .before .before .before
 
-form : (c : tie.Else1) → isAssignment (variablesOf (S (start c))) (start c .args .a .now) ≡ true
+form : (c : tie.Else1) → isAssignment (variablesOf (S (start c) .store)) (start c .args .a .now) ≡ true
 form c =
     let t = c .before .before in
-    sym (ap (λ (n : ℕ). isAssignment n (start c .args .a .now)) (counted-variables (S (start c)) (t .totals-of .ensures))) ∙ sym (c .before .is-assignment .ensures) ∙ not-false _ (c .if1 .left)
+    sym (ap (λ (n : ℕ). isAssignment n (start c .args .a .now)) (counted-variables (S (start c) .store) (t .totals-of .ensures))) ∙ sym (c .before .is-assignment .ensures) ∙ not-false _ (c .if1 .left)
 
 returns : tie.Need-returns
-returns c = let s = c .before .before .before .before .before .before .before .before in check-unready (S s) (s .args .a .now) _ (sym (c .before .before .before .admit .ensures) ∙ c .before .refusal .given .1)
+returns c = let s = c .before .before .before .before .before .before .before .before .before in check-unready (S s) (s .args .a .now) _ (sym (c .before .before .before .admit .ensures) ∙ c .before .refusal .given .1)
 
 totals-of-requires : tie.Need-totals-of-requires
 totals-of-requires c κs =
-    let s = S (c .before .before .before .before .before .before .before) in
-    let well = ready s (admitted c) .1 in
-    (formed s well .clauses-fit, formed-rows s well)
+    let s = S (c .before .before .before .before .before .before .before .before) in
+    let well = ready-form s (admitted c) in
+    (formed (s .store) well .clauses-fit, formed-rows (s .store) well)
 
 returns-2 : tie.Need-returns-2
 returns-2 c =
     let i = c .before in
     let t = i .before in
-    let s = t .before .before .before .before .before .before .before .before in
-    let same = ap (λ (n : ℕ). isAssignment n (s .args .a .now)) (counted-variables (S s) (t .totals-of .ensures)) in
+    let s = t .before .before .before .before .before .before .before .before .before in
+    let same = ap (λ (n : ℕ). isAssignment n (s .args .a .now)) (counted-variables (S s .store) (t .totals-of .ensures)) in
     check-misformed (S s) (s .args .a .now) (admitted (t .before)) (sym same ∙ sym (i .is-assignment .ensures) ∙ not-true _ (c .if1 .taken))
 
 first-false-requires : tie.Need-first-false-requires
-first-false-requires c κs = let s = start c in (ready (S s) (admitted (told c)) .1, form c)
+first-false-requires c κs = let s = start c in (ready-form (S s) (admitted (told c)), form c)
 
 returns-3 : tie.Need-returns-3
 returns-3 c =

@@ -2,10 +2,11 @@
 use mathlib.Core.Path.{_≡_, sym, ap, _∙_}
 use native.Mathlib.Omega.{arith}
 use borrow.Author.Tests.{not-true, not-false}
-use Rattle.store.specs.Stores.{Store, lent, heldRows, standingOf}
-use Rattle.store.specs.declared.form.Standing.{Standing}
+use Rattle.store.specs.Stores.{lent, heldRows}
+use Rattle.standing.specs.Keyed.{Keyed, withKeys, standingOf}
+use Rattle.standing.specs.declared.Standing.{Standing}
 use Rattle.store.proofs.Formed.{formed, formed-rows}
-use Rattle.store.proofs.StandingLaws.{ready}
+use Rattle.standing.proofs.StandingLaws.{ready-form}
 use mathlib.Core.Bool.{true}
 use Rattle.packed.specs.Words.{wordCount, isAssignment}
 use Rattle.lexleader.specs.Store.{variablesOf}
@@ -15,10 +16,10 @@ use borrow.Author.Needs.{needs}
 use Rattle.calls.proofs.fill_in.Statement.{statement}
 use Rattle.calls.proofs.fill_in.Tie as tie
 
-abbrev S : tie.Start → Store
-S c = lent (c .args .counts) (c .args .literals .now) (c .args .ends .now) (c .args .images .now)
+abbrev S : tie.Start → Keyed
+S c = withKeys (lent (c .args .counts) (c .args .literals .now) (c .args .ends .now) (c .args .images .now)) (c .args .keys .now)
 
-admitted : (c : tie.After-enum-told) → standingOf (S (c .before .before .before .before .before .before .before .before)) ≡ Standing.Ready
+admitted : (c : tie.After-enum-told) → standingOf (S (c .before .before .before .before .before .before .before .before .before)) ≡ Standing.Ready
 admitted c = sym (c .before .before .admit .ensures) ∙ c .enum-told .given .1
 
 -- past the test of the form
@@ -26,31 +27,31 @@ abbrev told : tie.Else1 → tie.After-enum-told
 told c = c .before .before
 
 abbrev start : tie.Else1 → tie.Start
-start c = told c .before .before .before .before .before .before .before .before
+start c = told c .before .before .before .before .before .before .before .before .before
 
 form : (c : tie.Else1) → isAssignment (start c .args .counts .variables) (start c .args .a .now) ≡ true
 form c = sym (c .before .is-assignment .ensures) ∙ not-false _ (c .if1 .left)
 
 -- the words that are needed
-needed : (c : tie.After-word-count) → c .word-count .result ≡ wordCount (variablesOf (S (start (c .before .before))))
-needed c = c .word-count .ensures ∙ ap wordCount (counted-variables (S (start (c .before .before))) (c .before .totals-of .ensures))
+needed : (c : tie.After-word-count) → c .word-count .result ≡ wordCount (variablesOf (S (start (c .before .before)) .store))
+needed c = c .word-count .ensures ∙ ap wordCount (counted-variables (S (start (c .before .before)) .store) (c .before .totals-of .ensures))
 
 returns : tie.Need-returns
-returns c = let s = c .before .before .before .before .before .before .before .before .before in fill-unready (S s) (s .args .a .now) (s .args .out .now) _ (sym (c .before .before .before .admit .ensures) ∙ c .before .refusal .given .1)
+returns c = let s = c .before .before .before .before .before .before .before .before .before .before in fill-unready (S s) (s .args .a .now) (s .args .out .now) _ (sym (c .before .before .before .admit .ensures) ∙ c .before .refusal .given .1)
 
 returns-2 : tie.Need-returns-2
 returns-2 c =
     let i = c .before in
     let t = i .before in
-    let s = t .before .before .before .before .before .before .before .before in
+    let s = t .before .before .before .before .before .before .before .before .before in
     fill-misformed (S s) (s .args .a .now) (s .args .out .now) (admitted t) (sym (i .is-assignment .ensures) ∙ not-true _ (c .if1 .taken))
 
 totals-of-requires : tie.Need-totals-of-requires
 totals-of-requires c κs =
     let t = c .before .before in
-    let s = S (t .before .before .before .before .before .before .before .before) in
-    let well = ready s (admitted t) .1 in
-    (formed s well .clauses-fit, formed-rows s well)
+    let s = S (t .before .before .before .before .before .before .before .before .before) in
+    let well = ready-form s (admitted t) in
+    (formed (s .store) well .clauses-fit, formed-rows (s .store) well)
 
 word-count-requires : tie.Need-word-count-requires
 word-count-requires c κs = omega (arith, c .totals-of .ensures .few-variables)
@@ -69,7 +70,7 @@ fill-requires c κs =
     let e = w .before .before in
     let s = start e in
     let room = needed w in
-    (formed-rows (S s) (ready (S s) (admitted (told e)) .1), form e, omega (arith, room, c .before .if2 .left))
+    (formed-rows (S s .store) (ready-form (S s) (admitted (told e))), form e, omega (arith, room, c .before .if2 .left))
 
 returns-4 : tie.Need-returns-4
 unfolding variablesOf heldRows

@@ -14,7 +14,8 @@ ghost use mathlib.Core.Bool.{cond};
 ghost use mathlib.Core.List.{[]};
 ghost use lib.ListN.{length};
 ghost use Rattle.store.specs.Refusals.{done, numberOf, placeOf, said};
-ghost use Rattle.store.specs.Stores.{lent, stored, closedRecord};
+ghost use Rattle.store.specs.Stores.{lent, closedRecord};
+ghost use Rattle.standing.specs.Keyed.{keyed, withKeys};
 ghost use Rattle.checking.specs.Checking.{verdictOf};
 ghost use Rattle.descent.specs.Words.{outcomeOf};
 ghost use Rattle.calls.specs.Calls.{openSays, openStore, offerSays, offerStore, withdrawSays, withdrawStore};
@@ -71,16 +72,19 @@ pub extern "C" fn symbreak_open(
     text: &[u8],
     literals: &mut [u16],
     ends: &mut [u16],
+    keys: &mut [u64],
 ) -> CStored
-    ensures says { λ r. let s = lent (recordOf variables clauses rows flag) (now (literals .entry)) (now (ends .entry)) [] in
-        ⌜ r ≡ cStored (openSays s (now (text .entry))) (openStore s (now (text .entry)) .counts) ⌝ }
-    ensures literals { λ _. let s = lent (recordOf variables clauses rows flag) (now (literals .entry)) (now (ends .entry)) [] in
-        ⌜ now (literals .exit) ≡ openStore s (now (text .entry)) .literals ⌝ }
-    ensures ends { λ _. let s = lent (recordOf variables clauses rows flag) (now (literals .entry)) (now (ends .entry)) [] in
-        ⌜ now (ends .exit) ≡ openStore s (now (text .entry)) .ends ⌝ }
+    ensures says { λ r. let s = withKeys (lent (recordOf variables clauses rows flag) (now (literals .entry)) (now (ends .entry)) []) (now (keys .entry)) in
+        ⌜ r ≡ cStored (openSays s (now (text .entry))) (openStore s (now (text .entry)) .store .counts) ⌝ }
+    ensures literals { λ _. let s = withKeys (lent (recordOf variables clauses rows flag) (now (literals .entry)) (now (ends .entry)) []) (now (keys .entry)) in
+        ⌜ now (literals .exit) ≡ openStore s (now (text .entry)) .store .literals ⌝ }
+    ensures ends { λ _. let s = withKeys (lent (recordOf variables clauses rows flag) (now (literals .entry)) (now (ends .entry)) []) (now (keys .entry)) in
+        ⌜ now (ends .exit) ≡ openStore s (now (text .entry)) .store .ends ⌝ }
+    ensures keys { λ _. let s = withKeys (lent (recordOf variables clauses rows flag) (now (literals .entry)) (now (ends .entry)) []) (now (keys .entry)) in
+        ⌜ now (keys .exit) ≡ openStore s (now (text .entry)) .keys ⌝ }
 {
     let counts = record_of(variables, clauses, rows, flag);
-    let r = calls::open(counts, text, literals, ends);
+    let r = calls::open(counts, text, literals, ends, keys);
     let answer = r.answer;
     let after = r.counts;
     match answer {
@@ -97,18 +101,19 @@ pub extern "C" fn symbreak_offer(
     flag: u64,
     literals: &[u16],
     ends: &[u16],
+    keys: &[u64],
     images: &mut [u16],
     names: &[u8],
     values: &[u8],
 ) -> CStored
-    ensures says { λ r. let s = stored (recordOf variables clauses rows flag) (literals .entry) (ends .entry) (images .entry) in
+    ensures says { λ r. let s = keyed (recordOf variables clauses rows flag) (literals .entry) (ends .entry) (keys .entry) (images .entry) in
         let left = offerStore s (now (names .entry)) (now (values .entry)) in
-        ⌜ r ≡ cStored (offerSays s (now (names .entry)) (now (values .entry))) (left .counts) ⌝ }
-    ensures images { λ _. let s = stored (recordOf variables clauses rows flag) (literals .entry) (ends .entry) (images .entry) in
-        ⌜ now (images .exit) ≡ offerStore s (now (names .entry)) (now (values .entry)) .images ⌝ }
+        ⌜ r ≡ cStored (offerSays s (now (names .entry)) (now (values .entry))) (left .store .counts) ⌝ }
+    ensures images { λ _. let s = keyed (recordOf variables clauses rows flag) (literals .entry) (ends .entry) (keys .entry) (images .entry) in
+        ⌜ now (images .exit) ≡ offerStore s (now (names .entry)) (now (values .entry)) .store .images ⌝ }
 {
     let counts = record_of(variables, clauses, rows, flag);
-    let r = calls::offer(counts, literals, ends, images, names, values);
+    let r = calls::offer(counts, literals, ends, keys, images, names, values);
     let answer = r.answer;
     let after = r.counts;
     match answer {
@@ -125,13 +130,14 @@ pub extern "C" fn symbreak_withdraw(
     flag: u64,
     literals: &[u16],
     ends: &[u16],
+    keys: &[u64],
     images: &[u16],
 ) -> CStored
-    ensures { λ r. let s = stored (recordOf variables clauses rows flag) (literals .entry) (ends .entry) (images .entry) in
-        ⌜ r ≡ cStored (withdrawSays s) (withdrawStore s .counts) ⌝ }
+    ensures { λ r. let s = keyed (recordOf variables clauses rows flag) (literals .entry) (ends .entry) (keys .entry) (images .entry) in
+        ⌜ r ≡ cStored (withdrawSays s) (withdrawStore s .store .counts) ⌝ }
 {
     let counts = record_of(variables, clauses, rows, flag);
-    let r = calls::withdraw(counts, literals, ends, images);
+    let r = calls::withdraw(counts, literals, ends, keys, images);
     let answer = r.answer;
     let after = r.counts;
     match answer {
@@ -148,16 +154,17 @@ pub extern "C" fn symbreak_header(
     flag: u64,
     literals: &[u16],
     ends: &[u16],
+    keys: &[u64],
     images: &[u16],
     out: &mut [u8],
 ) -> CAnswer
-    ensures says { λ r. let s = stored (recordOf variables clauses rows flag) (literals .entry) (ends .entry) (images .entry) in
+    ensures says { λ r. let s = keyed (recordOf variables clauses rows flag) (literals .entry) (ends .entry) (keys .entry) (images .entry) in
         ⌜ r ≡ cAnswer (headerSays s (length (now (out .entry)))) ⌝ }
-    ensures leaves { λ _. let s = stored (recordOf variables clauses rows flag) (literals .entry) (ends .entry) (images .entry) in
+    ensures leaves { λ _. let s = keyed (recordOf variables clauses rows flag) (literals .entry) (ends .entry) (keys .entry) (images .entry) in
         ⌜ now (out .exit) ≡ headerLeaves s (now (out .entry)) ⌝ }
 {
     let counts = record_of(variables, clauses, rows, flag);
-    c_answer(calls::header(counts, literals, ends, images, out))
+    c_answer(calls::header(counts, literals, ends, keys, images, out))
 }
 
 #[no_mangle]
@@ -168,17 +175,18 @@ pub extern "C" fn symbreak_clause(
     flag: u64,
     literals: &[u16],
     ends: &[u16],
+    keys: &[u64],
     images: &[u16],
     q: u64,
     out: &mut [u8],
 ) -> CAnswer
-    ensures says { λ r. let s = stored (recordOf variables clauses rows flag) (literals .entry) (ends .entry) (images .entry) in
+    ensures says { λ r. let s = keyed (recordOf variables clauses rows flag) (literals .entry) (ends .entry) (keys .entry) (images .entry) in
         ⌜ r ≡ cAnswer (clauseSays s q (length (now (out .entry)))) ⌝ }
-    ensures leaves { λ _. let s = stored (recordOf variables clauses rows flag) (literals .entry) (ends .entry) (images .entry) in
+    ensures leaves { λ _. let s = keyed (recordOf variables clauses rows flag) (literals .entry) (ends .entry) (keys .entry) (images .entry) in
         ⌜ now (out .exit) ≡ clauseLeaves s q (now (out .entry)) ⌝ }
 {
     let counts = record_of(variables, clauses, rows, flag);
-    c_answer(calls::clause(counts, literals, ends, images, q as usize, out))
+    c_answer(calls::clause(counts, literals, ends, keys, images, q as usize, out))
 }
 
 #[no_mangle]
@@ -189,17 +197,18 @@ pub extern "C" fn symbreak_fill_in(
     flag: u64,
     literals: &[u16],
     ends: &[u16],
+    keys: &[u64],
     images: &[u16],
     a: &[u64],
     out: &mut [u64],
 ) -> CAnswer
-    ensures says { λ r. let s = stored (recordOf variables clauses rows flag) (literals .entry) (ends .entry) (images .entry) in
+    ensures says { λ r. let s = keyed (recordOf variables clauses rows flag) (literals .entry) (ends .entry) (keys .entry) (images .entry) in
         ⌜ r ≡ cAnswer (fillSays s (now (a .entry)) (length (now (out .entry)))) ⌝ }
-    ensures leaves { λ _. let s = stored (recordOf variables clauses rows flag) (literals .entry) (ends .entry) (images .entry) in
+    ensures leaves { λ _. let s = keyed (recordOf variables clauses rows flag) (literals .entry) (ends .entry) (keys .entry) (images .entry) in
         ⌜ now (out .exit) ≡ fillLeaves s (now (a .entry)) (now (out .entry)) ⌝ }
 {
     let counts = record_of(variables, clauses, rows, flag);
-    c_answer(calls::fill_in(counts, literals, ends, images, a, out))
+    c_answer(calls::fill_in(counts, literals, ends, keys, images, a, out))
 }
 
 #[no_mangle]
@@ -210,14 +219,15 @@ pub extern "C" fn symbreak_check(
     flag: u64,
     literals: &[u16],
     ends: &[u16],
+    keys: &[u64],
     images: &[u16],
     a: &[u64],
 ) -> CAnswer
-    ensures { λ r. let s = stored (recordOf variables clauses rows flag) (literals .entry) (ends .entry) (images .entry) in
+    ensures { λ r. let s = keyed (recordOf variables clauses rows flag) (literals .entry) (ends .entry) (keys .entry) (images .entry) in
         ⌜ r ≡ cChecked (checkSays s (now (a .entry))) ⌝ }
 {
     let counts = record_of(variables, clauses, rows, flag);
-    match calls::check(counts, literals, ends, images, a) {
+    match calls::check(counts, literals, ends, keys, images, a) {
         Finding::Found(found) => c_checked(found),
         Finding::Refused(r) => c_answer(Answer::Refused(r)),
     }
@@ -231,17 +241,18 @@ pub extern "C" fn symbreak_descend(
     flag: u64,
     literals: &[u16],
     ends: &[u16],
+    keys: &[u64],
     images: &[u16],
     a: &mut [u64],
     limit: u64,
 ) -> CDescent
-    ensures says { λ r. let s = stored (recordOf variables clauses rows flag) (literals .entry) (ends .entry) (images .entry) in
+    ensures says { λ r. let s = keyed (recordOf variables clauses rows flag) (literals .entry) (ends .entry) (keys .entry) (images .entry) in
         ⌜ r ≡ cDescent (descendSays s (now (a .entry)) limit) ⌝ }
-    ensures leaves { λ _. let s = stored (recordOf variables clauses rows flag) (literals .entry) (ends .entry) (images .entry) in
+    ensures leaves { λ _. let s = keyed (recordOf variables clauses rows flag) (literals .entry) (ends .entry) (keys .entry) (images .entry) in
         ⌜ now (a .exit) ≡ descendLeaves s (now (a .entry)) limit ⌝ }
 {
     let counts = record_of(variables, clauses, rows, flag);
-    match calls::descend(counts, literals, ends, images, a, limit) {
+    match calls::descend(counts, literals, ends, keys, images, a, limit) {
         Descent::Ended(ending) => c_descent(ending),
         Descent::Refused(r) => CDescent {
             refusal: r.number(),

@@ -8,7 +8,8 @@ use mathlib.Core.List.{List, [], _∷_, _++_}
 use lib.ListN.{length, getD, take}
 use Rattle.lists.specs.Tests.{has}
 use Rattle.store.specs.Refusals.{Said, done, refused}
-use Rattle.store.specs.Stores.{Store, plainOf, heldRows, wellFormed, maxRows}
+use Rattle.store.specs.Stores.{plainOf, heldRows, maxRows}
+use Rattle.standing.specs.Keyed.{Keyed, wellFormed}
 use Rattle.permutation.specs.Lines.{namesOn, valuesOn}
 use Rattle.permutation.specs.Stated.{statedBy}
 use Rattle.permutation.specs.declared.Stated.{Stated}
@@ -25,14 +26,14 @@ abbrev pub writtenBy : Said ℕ → List ℕ → List ℕ
 writtenBy (done bytes) buffer = take bytes buffer
 writtenBy (refused number place) buffer = []
 
-module _ (s : Store) where
+module _ (s : Keyed) where
   -- "the input rules and limits permitting": the store is open, well formed and not full, the two lines state a permutation (7 to 10), and there is room
   pub record Permitted (names values : List ℕ) : Type 0 where
-    pub opened : s .counts .is_open ≡ true
+    pub opened : s .store .counts .is_open ≡ true
     pub formed : wellFormed s ≡ true
-    pub not-full : s .counts .rows < maxRows
-    pub stated : statedBy (s .counts .variables) names values ≡ Stated.Permutation
-    pub room : imagesNeeded s ≤ length (s .images)
+    pub not-full : s .store .counts .rows < maxRows
+    pub stated : statedBy (s .store .counts .variables) names values ≡ Stated.Permutation
+    pub room : imagesNeeded (s .store) ≤ length (s .store .images)
 
   -- what the clause call writes for `count` clauses, from number q on, one after another; clause q goes into a buffer of its own
   unfoldable pub clausesWritten : (ℕ → List ℕ) → ℕ → ℕ → List ℕ
@@ -42,21 +43,21 @@ module _ (s : Store) where
 
   -- what is written by the header call and then by the clause call for clauses 1 to M
   unfoldable pub textWritten : List ℕ → (ℕ → List ℕ) → List ℕ
-  textWritten buffer buffers = writtenBy (headerSays s (length buffer)) (headerLeaves s buffer) ++ clausesWritten buffers 1 (clausesOf s)
+  textWritten buffer buffers = writtenBy (headerSays s (length buffer)) (headerLeaves s buffer) ++ clausesWritten buffers 1 (clausesOf (s .store))
 
   pub record Demand2 : Type 0 where
     -- "A permutation is accepted exactly when it turns the formula's set of clauses into itself, the input rules and limits permitting,"
     pub accepts : (names values : List ℕ)
-        → (offerSays s names values ≡ done accepted) ↔ (Permitted names values × IsSymmetry (rowFor s names values) (plainOf s))
+        → (offerSays s names values ≡ done accepted) ↔ (Permitted names values × IsSymmetry (rowFor (s .store) names values) (plainOf (s .store)))
     -- the row held from then on is that permutation: "Name i goes to its value p(i); variables not named stay" (document 01)
     pub holds : (names values : List ℕ) → offerSays s names values ≡ done accepted
-        → heldRows (offerStore s names values) ≡ heldRows s ++ (rowFor s names values ∷ [])
+        → heldRows (offerStore s names values .store) ≡ heldRows (s .store) ++ (rowFor (s .store) names values ∷ [])
     pub named : (names values : List ℕ) → offerSays s names values ≡ done accepted → (k : ℕ) → k < length (namesOn names)
-        → getD (rowFor s names values) (getD (namesOn names) k 0 - 1) 0 ≡ getD (valuesOn values) k 0
-    pub others : (names values : List ℕ) → offerSays s names values ≡ done accepted → (i : ℕ) → 1 ≤ i → i ≤ s .counts .variables → has (namesOn names) i ≡ false
-        → getD (rowFor s names values) (i - 1) 0 ≡ 2 * i
+        → getD (rowFor (s .store) names values) (getD (namesOn names) k 0 - 1) 0 ≡ getD (valuesOn values) k 0
+    pub others : (names values : List ℕ) → offerSays s names values ≡ done accepted → (i : ℕ) → 1 ≤ i → i ≤ s .store .counts .variables → has (namesOn names) i ≡ false
+        → getD (rowFor (s .store) names values) (i - 1) 0 ≡ 2 * i
     -- "and the text written is exactly the plain formula followed by the documented clauses"; buffers that long have room for every line
-    pub text : s .counts .is_open ≡ true → wellFormed s ≡ true → (buffer : List ℕ) → maxHeader ≤ length buffer
+    pub text : s .store .counts .is_open ≡ true → wellFormed s ≡ true → (buffer : List ℕ) → maxHeader ≤ length buffer
         → (buffers : ℕ → List ℕ) → ((q : ℕ) → maxLine ≤ length (buffers q))
         → textWritten buffer buffers
-        ≡ headerLine (variablesOf s) (clausesOf s) ++ linesOf (plainOf s ++ rowsClauses (s .counts .variables + 1) (heldRows s))
+        ≡ headerLine (variablesOf (s .store)) (clausesOf (s .store)) ++ linesOf (plainOf (s .store) ++ rowsClauses (s .store .counts .variables + 1) (heldRows (s .store)))

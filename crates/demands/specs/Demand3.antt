@@ -8,7 +8,8 @@ use mathlib.Core.List.{List, _++_}
 use lib.ListN.{length, take}
 use Rattle.packed.specs.Words.{bitsOf, wordsOf}
 use Rattle.store.specs.Refusals.{done}
-use Rattle.store.specs.Stores.{Store, plainOf, heldRows}
+use Rattle.store.specs.Stores.{plainOf, heldRows}
+use Rattle.standing.specs.Keyed.{Keyed}
 use Rattle.opening.specs.Opening.{formulaOf}
 use Rattle.lexleader.specs.Models.{Model, Satisfiable}
 use Rattle.lexleader.specs.Made.{made, madeVariables}
@@ -20,9 +21,9 @@ use Rattle.calls.specs.Calls.{openStore, fillSays, fillLeaves, checkSays, desce
 use Rattle.demands.specs.Lists.{Call, after, accepted}
 
 -- n, F and ps: the variables and the clauses of the text, and the accepted permutations of the list, those left at its end; and the store after the list
-module _ (s : Store) (text : List ℕ) (calls : List Call) where
+module _ (s : Keyed) (text : List ℕ) (calls : List Call) where
   abbrev pub variables : ℕ
-  variables = openStore s text .counts .variables
+  variables = openStore s text .store .counts .variables
 
   abbrev pub formula : List (List ℕ)
   formula = formulaOf text
@@ -30,7 +31,7 @@ module _ (s : Store) (text : List ℕ) (calls : List Call) where
   abbrev pub permutations : List (List ℕ)
   permutations = accepted (openStore s text) calls
 
-  abbrev pub left : Store
+  abbrev pub left : Keyed
   left = after (openStore s text) calls
 
   -- an assignment is a plain model, or a kept one
@@ -42,12 +43,12 @@ module _ (s : Store) (text : List ℕ) (calls : List Call) where
 
   pub record Demand3 : Type 0 where
     -- "After the list the store holds exactly these as its rows, and the made formula is the one that they give" (document 01)
-    pub rows : heldRows left ≡ permutations
-    pub plain : plainOf left ≡ formula
-    pub makes : madeOf left ≡ made variables formula permutations
-    pub numbers : variablesOf left ≡ madeVariables variables permutations
+    pub rows : heldRows (left .store) ≡ permutations
+    pub plain : plainOf (left .store) ≡ formula
+    pub makes : madeOf (left .store) ≡ made variables formula permutations
+    pub numbers : variablesOf (left .store) ≡ madeVariables variables permutations
     -- "After the list the made formula has a model exactly when the plain one has."
-    pub satisfiable : Satisfiable variables formula ↔ Satisfiable (variablesOf left) (madeOf left)
+    pub satisfiable : Satisfiable variables formula ↔ Satisfiable (variablesOf (left .store)) (madeOf (left .store))
     -- "Every plain model is carried by accepted permutations, one after another, as often as needed or not at all, to a kept one."
     pub carried : (a : List Bool) → Plain a → (b : List Bool) × Carried permutations a b × IsKept b
     -- "Every descent that starts at a plain model and answers settled, whatever its limit, ends on a kept one."

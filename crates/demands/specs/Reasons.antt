@@ -15,7 +15,8 @@ use Rattle.dimacs.specs.declared.Number.{Number}
 use Rattle.comments.specs.Comments.{isComment}
 use Rattle.packed.specs.Words.{maxWords, wordCount, isAssignment}
 use Rattle.quality.specs.Efficiency.{maxLabelled}
-use Rattle.store.specs.Stores.{Store, wellFormed, plainOf, maxVariables, maxClauses, maxLiterals, maxRows}
+use Rattle.store.specs.Stores.{Store, plainOf, maxVariables, maxClauses, maxLiterals, maxRows}
+use Rattle.standing.specs.Keyed.{Keyed, wellFormed}
 use Rattle.opening.specs.Problem.{sizesOf, problemOf}
 use Rattle.opening.specs.Opening.{bodyOf}
 use Rattle.opening.specs.declared.Sizes.{Sizes}
@@ -186,8 +187,9 @@ noFigure labelled unlabelled allowed =
 abbrev pub notOpen : Store → Reason
 notOpen s = reason 20 (s .counts .is_open ≡ false) 0
 
--- "21. Badly formed: a slice too short for the counts, ends that fall or pass the literals, .." The whole list is `demands` (store/specs/Stores.antt).
-abbrev pub badlyFormed : Store → Reason
+-- "21. Badly formed: a slice too short for the counts, ends that fall or pass the literals, .." The whole list is `demands` (store/specs/Stores.antt). "A stored key that
+-- isn't its clause's sum counts as badly formed" (document 02, CR 5): `rightKeys` (keys/specs/Keys.antt).
+abbrev pub badlyFormed : Keyed → Reason
 badlyFormed s = reason 21 (wellFormed s ≡ false) 0
 
 -- "22. An offer with 64 rows held."
@@ -202,7 +204,8 @@ tooShort needed room = reason 23 (room < needed) needed
 abbrev pub noRow : Store → Reason
 noRow s = reason 30 (s .counts .rows ≡ 0) 0
 
--- ---- open: "the first fault from the left counts, and at one word the lower number, but 6 goes before 3, 4 and 5"; 23 "tried last; opening tries literals before ends"
+-- ---- open: "the first fault from the left counts, and at one word the lower number, but 6 goes before 3, 4 and 5"; 23 "tried last; opening tries literals before ends", and
+-- "also needs the keys slice, tried last under 23" (document 02, CR 5)
 
 -- the words after the problem line, comments left out, from the left
 unfoldable pub wordReasons : ℕ → ℕ → List Piece → List Piece → List Reason
@@ -210,54 +213,55 @@ wordReasons n m before [] = []
 wordReasons n m before (w ∷ words) =
     clauseOver m before w ∷ notNumber w ∷ literalBeyond n w ∷ tooManyLiterals before w ∷ wordReasons n m (before ++ (w ∷ [])) words
 
--- what comes after all words, where the literals and ends slices have these lengths and the text has this one
-abbrev pub endReasons : ℕ → List Piece → ℕ → ℕ → ℕ → List Reason
-endReasons m words end literals ends = clauseMissing m words end ∷ tooShort (literalsBy words) literals ∷ tooShort m ends ∷ []
+-- what comes after all words, where the slices of literals, ends and keys have these lengths and the text has this one
+abbrev pub endReasons : ℕ → List Piece → ℕ → ℕ → ℕ → ℕ → List Reason
+endReasons m words end literals ends keys = clauseMissing m words end ∷ tooShort (literalsBy words) literals ∷ tooShort m ends ∷ tooShort m keys ∷ []
 
 -- what comes after a problem line of n and m that ends there: n, m and the end are those of the first line that is no comment (`problem-line`,
 -- proofs/OpenRefusals.antt), and where there are none, 1 or 2 holds
-abbrev pub bodyReasons : Problem → List ℕ → ℕ → ℕ → List Reason
-bodyReasons (Problem.Line n m end) text literals ends = wordReasons n m [] (bodyOf text) ++ endReasons m (bodyOf text) (length text) literals ends
-bodyReasons (Problem.Refused r) text literals ends = []
+abbrev pub bodyReasons : Problem → List ℕ → ℕ → ℕ → ℕ → List Reason
+bodyReasons (Problem.Line n m end) text literals ends keys = wordReasons n m [] (bodyOf text) ++ endReasons m (bodyOf text) (length text) literals ends keys
+bodyReasons (Problem.Refused r) text literals ends keys = []
 
-abbrev pub openReasons : Store → List ℕ → List Reason
-openReasons s text = noProblemLine text ∷ sizeOverLimit text ∷ bodyReasons (problemOf text) text (length (s .literals)) (length (s .ends))
+abbrev pub openReasons : Keyed → List ℕ → List Reason
+openReasons s text =
+    noProblemLine text ∷ sizeOverLimit text ∷ bodyReasons (problemOf text) text (length (s .store .literals)) (length (s .store .ends)) (length (s .keys))
 
 -- ---- the calls that need an open store: 20 and 21 "come first, in this order"
 
-abbrev pub onStoreReasons : Store → List Reason → List Reason
-onStoreReasons s reasons = notOpen s ∷ badlyFormed s ∷ reasons
+abbrev pub onStoreReasons : Keyed → List Reason → List Reason
+onStoreReasons s reasons = notOpen (s .store) ∷ badlyFormed s ∷ reasons
 
 -- "An offer tries 7, 8, 9, 10, 11 in that order, each over its whole line."
-abbrev pub offerReasons : Store → List ℕ → List ℕ → List Reason
+abbrev pub offerReasons : Keyed → List ℕ → List ℕ → List Reason
 offerReasons s names values =
     onStoreReasons s
-    (rowsFull s
+    (rowsFull (s .store)
     ∷ wordNotNumber 7 names
-    ∷ badName (s .counts .variables) names
+    ∷ badName (s .store .counts .variables) names
     ∷ wordNotNumber 9 values
     ∷ badValue (wordsAt names 0) values
-    ∷ noSymmetry (rowFor s names values) (plainOf s)
-    ∷ tooShort (imagesNeeded s) (length (s .images))
+    ∷ noSymmetry (rowFor (s .store) names values) (plainOf (s .store))
+    ∷ tooShort (imagesNeeded (s .store)) (length (s .store .images))
     ∷ [])
 
-abbrev pub withdrawReasons : Store → List Reason
-withdrawReasons s = onStoreReasons s (noRow s ∷ [])
+abbrev pub withdrawReasons : Keyed → List Reason
+withdrawReasons s = onStoreReasons s (noRow (s .store) ∷ [])
 
-abbrev pub headerReasons : Store → ℕ → List Reason
-headerReasons s room = onStoreReasons s (tooShort (length (headerOf s)) room ∷ [])
+abbrev pub headerReasons : Keyed → ℕ → List Reason
+headerReasons s room = onStoreReasons s (tooShort (length (headerOf (s .store))) room ∷ [])
 
-abbrev pub clauseReasons : Store → ℕ → ℕ → List Reason
-clauseReasons s q room = onStoreReasons s (noSuchClause s q ∷ tooShort (length (lineOf s q)) room ∷ [])
+abbrev pub clauseReasons : Keyed → ℕ → ℕ → List Reason
+clauseReasons s q room = onStoreReasons s (noSuchClause (s .store) q ∷ tooShort (length (lineOf (s .store) q)) room ∷ [])
 
-abbrev pub fillReasons : Store → List ℕ → ℕ → List Reason
-fillReasons s a room = onStoreReasons s (badAssignment (s .counts .variables) a ∷ tooShort (wordCount (variablesOf s)) room ∷ [])
+abbrev pub fillReasons : Keyed → List ℕ → ℕ → List Reason
+fillReasons s a room = onStoreReasons s (badAssignment (s .store .counts .variables) a ∷ tooShort (wordCount (variablesOf (s .store))) room ∷ [])
 
-abbrev pub checkReasons : Store → List ℕ → List Reason
-checkReasons s a = onStoreReasons s (badAssignment (variablesOf s) a ∷ [])
+abbrev pub checkReasons : Keyed → List ℕ → List Reason
+checkReasons s a = onStoreReasons s (badAssignment (variablesOf (s .store)) a ∷ [])
 
-abbrev pub descendReasons : Store → List ℕ → List Reason
-descendReasons s a = onStoreReasons s (badAssignment (s .counts .variables) a ∷ [])
+abbrev pub descendReasons : Keyed → List ℕ → List Reason
+descendReasons s a = onStoreReasons s (badAssignment (s .store .counts .variables) a ∷ [])
 
 -- ---- the calls that need none
 

@@ -8,7 +8,8 @@ use Prim.Native.Nat.{ℕ, _+_, _*_, _≤_}
 use lib.ListN.{length}
 use Rattle.lists.specs.Tests.{allOf}
 use Rattle.store.specs.Refusals.{done}
-use Rattle.store.specs.Stores.{Store, heldRows, withoutRow}
+use Rattle.store.specs.Stores.{heldRows, withoutRow}
+use Rattle.standing.specs.Keyed.{Keyed, withKeys}
 use Rattle.lexleader.specs.Made.{rowClauses, auxiliaries}
 use Rattle.lexleader.specs.Store.{madeOf, variablesOf}
 use Rattle.calls.specs.Calls.{accepted, takenBack, openStore, offerSays, withdrawSays, withdrawStore}
@@ -16,21 +17,21 @@ use Rattle.demands.specs.Lists.{Call, offer, withdraw, lend, lentAnew, a
 use Rattle.demands.specs.Demand3.{left}
 
 -- "Add a call that drops the newest row, with its clauses and auxiliaries."
-pub record Drops (s : Store) : Type 0 where
+pub record Drops (s : Keyed) : Type 0 where
   pub newest : List ℕ
-  pub rows : heldRows s ≡ heldRows (withdrawStore s) ++ (newest ∷ [])
-  pub clauses : madeOf s ≡ madeOf (withdrawStore s) ++ rowClauses (variablesOf (withdrawStore s) + 1) newest
-  pub numbers : variablesOf s ≡ variablesOf (withdrawStore s) + auxiliaries newest
+  pub rows : heldRows (s .store) ≡ heldRows (withdrawStore s .store) ++ (newest ∷ [])
+  pub clauses : madeOf (s .store) ≡ madeOf (withdrawStore s .store) ++ rowClauses (variablesOf (withdrawStore s .store) + 1) newest
+  pub numbers : variablesOf (s .store) ≡ variablesOf (withdrawStore s .store) + auxiliaries newest
   -- only the count falls: it "leaves entries past those then in use unchanged", and all others
-  pub leaves : withdrawStore s ≡ withoutRow s
+  pub leaves : withdrawStore s ≡ withKeys (withoutRow (s .store)) (s .keys)
 
 -- a call is not refused (lending is no call of ours), and none of a list is
-abbrev pub Answers : Store → Call → Type 0
+abbrev pub Answers : Keyed → Call → Type 0
 Answers s (offer names values) = offerSays s names values ≡ done accepted
 Answers s withdraw = withdrawSays s ≡ done takenBack
 Answers s (lend past) = Unit {0}
 
-unfoldable pub NoneRefused : Store → List Call → Type 0
+unfoldable pub NoneRefused : Keyed → List Call → Type 0
 NoneRefused s [] = Unit {0}
 NoneRefused s (call ∷ calls) = Answers s call × NoneRefused (afterCall s call) calls
 
@@ -40,19 +41,19 @@ lendsNone (offer names values) = true
 lendsNone withdraw = true
 lendsNone (lend past) = false
 
-module _ (s : Store) (text : List ℕ) (calls : List Call) where
+module _ (s : Keyed) (text : List ℕ) (calls : List Call) where
   -- the shorter list: "only the accepted offers not taken back"
   abbrev pub offers : List Call
   offers = offersLeft (openStore s text) calls
 
   -- a store that gets these accepts each, and its "record and rows in use are those" after the longer list
-  pub record GetsOnly (t : Store) : Type 0 where
+  pub record GetsOnly (t : Keyed) : Type 0 where
     pub none-refused : NoneRefused t offers
-    pub counts : after t offers .counts ≡ left s text calls .counts
-    pub rows : heldRows (after t offers) ≡ heldRows (left s text calls)
+    pub counts : after t offers .store .counts ≡ left s text calls .store .counts
+    pub rows : heldRows (after t offers .store) ≡ heldRows (left s text calls .store)
 
   pub record TakesBack : Type 0 where
     -- "After every list of offers and withdrawals from a fresh opening": the store as it was opened
     pub itself : allOf lendsNone calls ≡ true → GetsOnly (openStore s text)
     -- after every list, other images slices in between included: the same with any images slice that has room for the rows left
-    pub anew : (images : List ℕ) → left s text calls .counts .rows * left s text calls .counts .variables ≤ length images → GetsOnly (lentAnew (openStore s text) images)
+    pub anew : (images : List ℕ) → left s text calls .store .counts .rows * left s text calls .store .counts .variables ≤ length images → GetsOnly (lentAnew (openStore s text) images)

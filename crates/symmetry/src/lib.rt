@@ -20,6 +20,7 @@ ghost use lib.ListN.{length};
 ghost use Rattle.lists.specs.Tests.{has};
 ghost use Rattle.store.specs.Literals.{isLiteral};
 ghost use Rattle.store.specs.Stores.{clausesIn, clauseAt, isRow, maxVariables};
+ghost use Rattle.numbers.specs.Numbers.{numberCount};
 ghost use Rattle.keys.specs.Keys.{keyOf};
 ghost use Rattle.symmetry.specs.Sets.{within, sameSet};
 ghost use Rattle.symmetry.specs.Symmetry.{imageOf, clauseImage, hasImage, firstMissing};
@@ -34,26 +35,25 @@ pub fn first_missing(literals: &[u16], ends: &[u16], keys: &[u64], m: usize, row
     requires { ⌜ RowFits m (now literals) (now ends) (now keys) (now row) ⌝ }
     ensures { λ r. ⌜ r ≡ firstMissing (now (row .entry)) (clausesIn m (now (literals .entry)) (now (ends .entry))) ⌝ }
 {
-    let numbers = image_numbers(row);
+    let mut moved = [0u64; numbers::COUNT];
+    image_numbers(row, &mut moved);
     let mut heads = [0u16; index::BUCKETS];
     let mut nexts = [0u16; Record::MAX_CLAUSES];
     index::of_keys(keys, m, &mut heads, &mut nexts);
-    first_missing_by(literals, ends, keys, m, row, &numbers, &heads, &nexts)
+    first_missing_by(literals, ends, keys, m, row, &moved, &heads, &nexts)
 }
 
-// A table of the numbers of the images of the row's literals.
-fn image_numbers(row: &[u16]) -> [u64; numbers::COUNT]
-    requires { ⌜ (length (now row) ≤ maxVariables) × (isRow (length (now row)) (now row) ≡ true) ⌝ }
-    ensures { λ r. ⌜ ImageNumbers (now (row .entry)) r ⌝ }
+// Fills a table with the numbers of the images of the row's literals.
+fn image_numbers(row: &[u16], moved: &mut [u64])
+    requires { ⌜ (length (now row) ≤ maxVariables) × (isRow (length (now row)) (now row) ≡ true) × (length (now moved) ≡ numberCount) ⌝ }
+    ensures { λ _. ⌜ ImageNumbers (now (row .entry)) (now (moved .exit)) ⌝ }
 {
     let own = numbers::numbers();
-    let mut moved = [0u64; numbers::COUNT];
     let mut code = 2;
     while literal::variable(code) <= row.len() {
         moved[keys::place(code)] = own[keys::place(image(row, code))];
         code += 1;
     }
-    moved
 }
 
 // The number of the first clause whose image is missing, by the numbers of the images and an index of the keys.

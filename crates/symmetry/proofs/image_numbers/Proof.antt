@@ -1,10 +1,10 @@
 -- `symmetry::image_numbers` meets its contract. The invariant: the table is right for the literals below `code`. Assumes nothing.
-use mathlib.Core.Path.{_≡_, ap, ap₂, _∙_}
+use mathlib.Core.Path.{_≡_, sym, ap, ap₂, _∙_}
 use mathlib.Core.Bool.{true}
 use mathlib.Core.List.{List}
 use mathlib.Core.Logic.{⊎-elim}
 use Prim.Native.Nat.{ℕ, _+_, _-_, _*_, _≤_, _<_}
-use lib.ListN.{length, getD, set, length-set, length-replicate}
+use lib.ListN.{length, getD, set, length-set}
 use lib.Seq.{getD-set-same, getD-set-other}
 use Rattle.lists.proofs.Cases.{eq-or-ne}
 use Rattle.store.specs.Literals.{isLiteral}
@@ -32,7 +32,7 @@ abbrev μ-loop : tie.MeasureT-loop
 μ-loop row own moved₀ code₀ moved code = 2 * length row + 2 - code
 
 loop-holds : tie.Need-loop-holds Inv-loop μ-loop
-loop-holds c = record { low = omega arith; room = length-replicate {A = ℕ} numberCount 0; numbered = λ x g h. absurd (omega (arith, literal-low _ x g)) }
+loop-holds c = record { low = omega arith; room = c .before .before .before .pre .2; numbered = λ x g h. absurd (omega (arith, literal-low _ x g)) }
 
 -- a number more
 filled-more : (row table : List ℕ) (code : ℕ) → Filled row table code → (place : ℕ) → place ≡ code - 2 → place < numberCount → (number : ℕ) → number ≡ numberIn numbers (imageOf row code)
@@ -52,7 +52,7 @@ filled-more row table code f place e h number is = record { low = omega (arith, 
 
 -- the code at hand is a literal of the row's variables, and so is its image
 literal : (c : tie.Then1 Inv-loop μ-loop) → let at = c .before .before in
-    isLiteral (length (at .before .before .before .args .row .now)) (at .loop .code) ≡ true
+    isLiteral (length (at .before .before .before .before .args .row .now)) (at .loop .code) ≡ true
 literal c =
     let at = c .before .before in
     literal-within _ (at .loop .code) (omega (arith, at .loop .inv .low)) (omega (arith, c .before .variable .ensures, c .if1 .taken))
@@ -63,14 +63,14 @@ widened n code h g = literal-within maxVariables code (literal-low n code g) (om
 place-requires : tie.Need-place-requires Inv-loop μ-loop
 place-requires c κs =
     let at = c .before .before .before in
-    let s = at .before .before .before in
+    let s = at .before .before .before .before in
     rw (c .image .ensures) (widened _ _ (s .pre .0) (image-good _ (s .args .row .now) (row-of _ (s .args .row .now) (s .pre .1)) (at .loop .code) (literal (c .before))))
 
 place-requires-2 : tie.Need-place-requires-2 Inv-loop μ-loop
-place-requires-2 c κs = let s = c .before .before .before .before .before .before .before in widened _ _ (s .pre .0) (literal (c .before .before))
+place-requires-2 c κs = let s = c .before .before .before .before .before .before .before .before in widened _ _ (s .pre .0) (literal (c .before .before))
 
 below : tie.Need-add-code Inv-loop μ-loop
-below c = let at = c .before .before .before .before .before in omega (arith, literal-high _ _ (literal (c .before .before .before)), at .before .before .before .pre .0)
+below c = let at = c .before .before .before .before .before in omega (arith, literal-high _ _ (literal (c .before .before .before)), at .before .before .before .before .pre .0)
 
 falls : tie.Need-loop-less Inv-loop μ-loop
 falls c = omega (arith, literal-high _ _ (literal (c .before .before .before)))
@@ -78,7 +78,7 @@ falls c = omega (arith, literal-high _ _ (literal (c .before .before .before)))
 loop-again : tie.Need-loop-again Inv-loop μ-loop
 loop-again c =
     let at = c .before .before .before .before .before in
-    let s = at .before .before .before in
+    let s = at .before .before .before .before in
     let row = s .args .row .now in
     let inv = at .loop .inv in
     let here = c .place2 .ensures in
@@ -106,8 +106,9 @@ image-numbers-spec =
     (search needs)
     place-requires-2
     (search needs)
-    (search needs)
-    (λ c. below c)
-    (λ c. falls c)
+    (λ c. omega (arith, c .place2 .ensures .1, c .before .before .before .before .before .loop .inv .room))
+    below
+    falls
     loop-again
+    (λ c. let at = c .before .before in at .loop .inv .room ∙ sym (at .before .before .before .before .pre .2))
     returns)

@@ -9,18 +9,21 @@ use native.Mathlib.Omega.{arith}
 use lib.ListN.{length, take, length-append}
 use lib.Seq.{length-take-le}
 use Rattle.store.specs.Refusals.{Said, done, refused}
-use Rattle.store.specs.Stores.{Store, withRows, wellFormed, plainOf, rowsOf, heldRows}
+use Rattle.store.specs.Stores.{withRows, withoutRow, plainOf, rowsOf, heldRows}
+use Rattle.keys.proofs.RightLaws.{written-right}
+use Rattle.standing.specs.Keyed.{Keyed, withKeys, wellFormed}
+use Rattle.standing.proofs.StandingLaws.{well-formed, its-form, same-clauses}
 use Rattle.store.proofs.RowLaws.{rows-append, rows-take}
 use Rattle.store.proofs.Demands.{rest-of, rows-of}
 use Rattle.store.proofs.RowChanges.{with-rows-formed, without-row-formed}
 use Rattle.permutation.specs.Stated.{statedBy, rowStated}
 use Rattle.permutation.specs.declared.Stated.{Stated}
 use Rattle.symmetry.specs.Symmetry.{IsSymmetry}
-use Rattle.opening.specs.Opening.{openedBy, formulaOf}
+use Rattle.opening.specs.Opening.{formulaOf}
 use Rattle.opening.specs.declared.Opened.{Opened}
 use Rattle.opening.proofs.Theorem.{opened-formed, opened-plain}
 use Rattle.offering.specs.Offering.{rowFor}
-use Rattle.calls.specs.Calls.{accepted as yes, Dimensions, saidOpened, openSays, openStore, offerSays, offerStore, takenBack, withdrawSays, withdrawStore}
+use Rattle.calls.specs.Calls.{accepted as yes, Dimensions, saidOpened, openedIn, openSays, openStore, offerSays, offerStore, takenBack, withdrawSays, withdrawStore}
 use Rattle.demands.specs.Lists.{Call, offer, withdraw, lend, lentAnew, afterCall, after, butLast, heldAfter, heldFrom, accepted, offersLeft}
 use Rattle.demands.proofs.ButLast.{but-last-more}
 use Rattle.demands.proofs.Acceptance.{accepts-of, store-refused, store-accepted, accepted-symmetry, accepted-held, accepted-formed}
@@ -28,37 +31,37 @@ use Rattle.demands.proofs.Withdrawal.{withdrawn-refused, withdrawn-row,
 
 -- ---- what every call keeps: all of the store but its rows
 
-pub record Keeps (s t : Store) : Type 0 where
-  pub but-rows : t ≡ withRows s (t .counts .rows) (t .images)
+pub record Keeps (s t : Keyed) : Type 0 where
+  pub but-rows : t ≡ withKeys (withRows (s .store) (t .store .counts .rows) (t .store .images)) (s .keys)
 
-module _ {s t : Store} (k : Keeps s t) where
-  pub same-plain : plainOf t ≡ plainOf s
+module _ {s t : Keyed} (k : Keeps s t) where
+  pub same-plain : plainOf (t .store) ≡ plainOf (s .store)
   unfolding plainOf
-  same-plain = ap plainOf (k .but-rows)
+  same-plain = ap (λ (u : Keyed). plainOf (u .store)) (k .but-rows)
 
-  pub same-variables : t .counts .variables ≡ s .counts .variables
-  same-variables = ap (λ (u : Store). u .counts .variables) (k .but-rows)
+  pub same-variables : t .store .counts .variables ≡ s .store .counts .variables
+  same-variables = ap (λ (u : Keyed). u .store .counts .variables) (k .but-rows)
 
-  pub same-open : t .counts .is_open ≡ s .counts .is_open
-  same-open = ap (λ (u : Store). u .counts .is_open) (k .but-rows)
+  pub same-open : t .store .counts .is_open ≡ s .store .counts .is_open
+  same-open = ap (λ (u : Keyed). u .store .counts .is_open) (k .but-rows)
 
-  pub keeps-trans : {r : Store} → Keeps r s → Keeps r t
-  keeps-trans l = record { but-rows = k .but-rows ∙ ap (λ (u : Store). withRows u (t .counts .rows) (t .images)) (l .but-rows) }
+  pub keeps-trans : {r : Keyed} → Keeps r s → Keeps r t
+  keeps-trans l = record { but-rows = k .but-rows ∙ ap (λ (u : Keyed). withKeys (withRows (u .store) (t .store .counts .rows) (t .store .images)) (u .keys)) (l .but-rows) }
 
-pub keeps-self : (s : Store) → Keeps s s
+pub keeps-self : (s : Keyed) → Keeps s s
 keeps-self s = record { but-rows = refl }
 
-pub accepted-keeps : (s : Store) (names values : List ℕ) → offerSays s names values ≡ done yes → Keeps s (offerStore s names values)
+pub accepted-keeps : (s : Keyed) (names values : List ℕ) → offerSays s names values ≡ done yes → Keeps s (offerStore s names values)
 accepted-keeps s names values e = rw (store-accepted s names values e) (record { but-rows = refl })
 
 -- ---- the offers held and the rows held
 
 -- what an offer's acceptance asks of the lines and the formula
-pub record Acceptable (s : Store) (names values : List ℕ) : Type 0 where
-  pub stated : statedBy (s .counts .variables) names values ≡ Stated.Permutation
-  pub symmetry : IsSymmetry (rowFor s names values) (plainOf s)
+pub record Acceptable (s : Keyed) (names values : List ℕ) : Type 0 where
+  pub stated : statedBy (s .store .counts .variables) names values ≡ Stated.Permutation
+  pub symmetry : IsSymmetry (rowFor (s .store) names values) (plainOf (s .store))
 
-pub acceptable-alike : (s t : Store) (names values : List ℕ) → s .counts .variables ≡ t .counts .variables → plainOf s ≡ plainOf t
+pub acceptable-alike : (s t : Keyed) (names values : List ℕ) → s .store .counts .variables ≡ t .store .counts .variables → plainOf (s .store) ≡ plainOf (t .store)
     → Acceptable s names values → Acceptable t names values
 acceptable-alike s t names values e f a = record {
   stated = rw e at (a .stated);
@@ -66,56 +69,62 @@ acceptable-alike s t names values e f a = record {
 }
 
 -- of a store just opened: each offer held is acceptable, and these state the rows held
-pub data Held (o : Store) : List (List ℕ) → List Call → Type 0 where
+pub data Held (o : Keyed) : List (List ℕ) → List Call → Type 0 where
   none : Held o [] []
   newest : (rows : List (List ℕ)) (offers : List Call) → Held o rows offers → (names values : List ℕ) → Acceptable o names values
-      → (more : List (List ℕ)) → more ≡ rows ++ (rowFor o names values ∷ []) → (longer : List Call) → longer ≡ offers ++ (offer names values ∷ []) → Held o more longer
+      → (more : List (List ℕ)) → more ≡ rows ++ (rowFor (o .store) names values ∷ []) → (longer : List Call) → longer ≡ offers ++ (offer names values ∷ []) → Held o more longer
 
-held-but-last : (o : Store) (rows : List (List ℕ)) (offers : List Call) → Held o rows offers → Held o (butLast rows) (butLast offers)
+held-but-last : (o : Keyed) (rows : List (List ℕ)) (offers : List Call) → Held o rows offers → Held o (butLast rows) (butLast offers)
 held-but-last o _ _ none = none
 held-but-last o _ _ (newest rows offers h names values a more e longer f) =
-    rw (e, f, but-last-more rows (rowFor o names values), but-last-more offers (offer names values)) h
+    rw (e, f, but-last-more rows (rowFor (o .store) names values), but-last-more offers (offer names values)) h
 
-held-symmetries : (o : Store) (rows : List (List ℕ)) (offers : List Call) → Held o rows offers → (row : List ℕ) → List·Memᴰ row rows → IsSymmetry row (plainOf o)
+held-symmetries : (o : Keyed) (rows : List (List ℕ)) (offers : List Call) → Held o rows offers → (row : List ℕ) → List·Memᴰ row rows → IsSymmetry row (plainOf (o .store))
 held-symmetries o _ _ none row m = absurd (List·Memᴰ·not-nil m)
 held-symmetries o _ _ (newest rows offers h names values a more e longer f) row m =
     ⊎-elim
     (λ (q : List·Memᴰ row rows). held-symmetries o rows offers h row q)
-    (λ (q : List·Memᴰ row (rowFor o names values ∷ [])). rw (List·Memᴰ·eq-of-singleton q) (a .symmetry))
+    (λ (q : List·Memᴰ row (rowFor (o .store) names values ∷ [])). rw (List·Memᴰ·eq-of-singleton q) (a .symmetry))
     (List·Memᴰ·append-cases rows (rw e at m))
 
 -- ---- another images slice
 
-module _ (s : Store) (past : List ℕ) (e : wellFormed s ≡ true) where
+module _ (s : Keyed) (past : List ℕ) (e : wellFormed s ≡ true) where
   abbrev entries : ℕ
-  entries = s .counts .rows * s .counts .variables
+  entries = s .store .counts .rows * s .store .counts .variables
 
-  in-use : length (take entries (s .images)) ≡ entries
-  in-use = length-take-le entries (s .images) (rest-of s e .images-long)
+  in-use : length (take entries (s .store .images)) ≡ entries
+  in-use = length-take-le entries (s .store .images) (rest-of (s .store) (its-form s e) .images-long)
 
-  anew-held : heldRows (lentAnew s past) ≡ heldRows s
+  anew-held : heldRows (lentAnew s past .store) ≡ heldRows (s .store)
   unfolding heldRows lentAnew
   anew-held =
-      rows-append (s .counts .variables) (s .counts .rows) (take entries (s .images)) past in-use
-      ∙ rows-take (s .counts .variables) (s .counts .rows) (s .images) (rest-of s e .images-long)
+      rows-append (s .store .counts .variables) (s .store .counts .rows) (take entries (s .store .images)) past in-use
+      ∙ rows-take (s .store .counts .variables) (s .store .counts .rows) (s .store .images) (rest-of (s .store) (its-form s e) .images-long)
 
   anew-formed : wellFormed (lentAnew s past) ≡ true
-  unfolding lentAnew heldRows
+  unfolding lentAnew heldRows plainOf
   anew-formed =
-      let r = rest-of s e in
-      with-rows-formed s (s .counts .rows) (take entries (s .images) ++ past) e (r .rows-fit) (omega (arith, length-append (take entries (s .images)) past, in-use))
-      (rw anew-held (rows-of s e))
+      let f = its-form s e in
+      let r = rest-of (s .store) f in
+      same-clauses s (lentAnew s past .store) refl e
+      (with-rows-formed (s .store) (s .store .counts .rows) (take entries (s .store .images) ++ past) f (r .rows-fit) (omega (arith, length-append (take entries (s .store .images)) past, in-use))
+      (rw anew-held (rows-of (s .store) f)))
 
 -- ---- a store and what is held
 
 -- a store s after some calls from o, and the rows and the offers held: s is o but for its rows, it is well formed, and its rows are those that the offers state
-pub record Sound (o s : Store) (rows : List (List ℕ)) (offers : List Call) : Type 0 where
+pub record Sound (o s : Keyed) (rows : List (List ℕ)) (offers : List Call) : Type 0 where
   pub keeps : Keeps o s
   pub formed : wellFormed s ≡ true
-  pub are-rows : heldRows s ≡ rows
+  pub are-rows : heldRows (s .store) ≡ rows
   pub held : Held o rows offers
 
-abbrev asOffer : Store → List ℕ → List ℕ → Call
+-- what a call counts as among the rows held, and among the offers
+abbrev asRow : Keyed → List ℕ → List ℕ → List ℕ
+asRow s names values = rowFor (s .store) names values
+
+abbrev asOffer : Keyed → List ℕ → List ℕ → Call
 asOffer s = offer
 
 -- a call answers or is refused
@@ -127,9 +136,9 @@ pub ending : {Values : Type 0} (said : Said Values) → Ending said
 ending (done v) = answered v refl
 ending (refused number place) = turned number place refl
 
-pub sound-call : (o s : Store) (rows : List (List ℕ)) (offers : List Call) (call : Call) → Sound o s rows offers
-    → Sound o (afterCall s call) (heldAfter rowFor rows s call) (heldAfter asOffer offers s call)
-unfolding lentAnew
+pub sound-call : (o s : Keyed) (rows : List (List ℕ)) (offers : List Call) (call : Call) → Sound o s rows offers
+    → Sound o (afterCall s call) (heldAfter asRow rows s call) (heldAfter asOffer offers s call)
+unfolding lentAnew plainOf
 sound-call o s rows offers (lend past) sound = record {
   keeps = keeps-trans (record { but-rows = refl }) (sound .keeps);
   formed = anew-formed s past (sound .formed);
@@ -138,21 +147,21 @@ sound-call o s rows offers (lend past) sound = record {
 }
 sound-call o s rows offers withdraw sound = by (ending (withdrawSays s))
   where
-    by : Ending (withdrawSays s) → Sound o (withdrawStore s) (heldAfter rowFor rows s withdraw) (heldAfter asOffer offers s withdraw)
+    by : Ending (withdrawSays s) → Sound o (withdrawStore s) (heldAfter asRow rows s withdraw) (heldAfter asOffer offers s withdraw)
     by (turned number place e) = rw (withdrawn-refused s number place e, e) sound
     by (answered takenBack e) =
         let gone = withdrawn-row s e in
         rw e
         (record {
           keeps = keeps-trans (rw gone (record { but-rows = refl })) (sound .keeps);
-          formed = ap wellFormed gone ∙ without-row-formed s (sound .formed);
+          formed = ap wellFormed gone ∙ same-clauses s (withoutRow (s .store)) refl (sound .formed) (without-row-formed (s .store) (its-form s (sound .formed)));
           are-rows = withdrawn-held s e ∙ ap butLast (sound .are-rows);
           held = held-but-last o rows offers (sound .held);
         })
 sound-call o s rows offers (offer names values) sound = by (ending (offerSays s names values))
   where
     by : Ending (offerSays s names values)
-        → Sound o (offerStore s names values) (heldAfter rowFor rows s (offer names values)) (heldAfter asOffer offers s (offer names values))
+        → Sound o (offerStore s names values) (heldAfter asRow rows s (offer names values)) (heldAfter asOffer offers s (offer names values))
     by (turned number place e) = rw (store-refused s names values number place e, e) sound
     by (answered yes e) =
         let k = sound .keeps in
@@ -161,52 +170,52 @@ sound-call o s rows offers (offer names values) sound = by (ending (offerSays s 
         (record {
           keeps = keeps-trans (accepted-keeps s names values e) k;
           formed = accepted-formed s names values e;
-          are-rows = accepted-held s names values e ∙ ap (λ (l : List (List ℕ)). l ++ (rowFor s names values ∷ [])) (sound .are-rows);
+          are-rows = accepted-held s names values e ∙ ap (λ (l : List (List ℕ)). l ++ (rowFor (s .store) names values ∷ [])) (sound .are-rows);
           held = newest rows offers (sound .held) names values (acceptable-alike s o names values (same-variables k) (same-plain k) here)
-              (rows ++ (rowFor s names values ∷ [])) (ap (λ (n : ℕ). rows ++ (rowStated n names values ∷ [])) (same-variables k)) (offers ++ (offer names values ∷ [])) refl;
+              (rows ++ (rowFor (s .store) names values ∷ [])) (ap (λ (n : ℕ). rows ++ (rowStated n names values ∷ [])) (same-variables k)) (offers ++ (offer names values ∷ [])) refl;
         })
 
-sound-calls : (o s : Store) (rows : List (List ℕ)) (offers : List Call) (calls : List Call) → Sound o s rows offers
-    → Sound o (after s calls) (heldFrom rowFor rows s calls) (heldFrom asOffer offers s calls)
+sound-calls : (o s : Keyed) (rows : List (List ℕ)) (offers : List Call) (calls : List Call) → Sound o s rows offers
+    → Sound o (after s calls) (heldFrom asRow rows s calls) (heldFrom asOffer offers s calls)
 unfolding after heldFrom
 sound-calls o s rows offers [] sound = sound
 sound-calls o s rows offers (call ∷ calls) sound =
-    sound-calls o (afterCall s call) (heldAfter rowFor rows s call) (heldAfter asOffer offers s call) calls (sound-call o s rows offers call sound)
+    sound-calls o (afterCall s call) (heldAfter asRow rows s call) (heldAfter asOffer offers s call) calls (sound-call o s rows offers call sound)
 
 -- ---- from a fresh opening
 
 -- what an opening that answers leaves: a well-formed open store of the text's formula, without rows
-pub record Fresh (s : Store) (text : List ℕ) : Type 0 where
+pub record Fresh (s : Keyed) (text : List ℕ) : Type 0 where
   pub sound : Sound (openStore s text) (openStore s text) [] []
-  pub opened : openStore s text .counts .is_open ≡ true
-  pub plain : plainOf (openStore s text) ≡ formulaOf text
+  pub opened : openStore s text .store .counts .is_open ≡ true
+  pub plain : plainOf (openStore s text .store) ≡ formulaOf text
 
-pub fresh : (s : Store) (text : List ℕ) (sizes : Dimensions) → openSays s text ≡ done sizes → Fresh s text
+pub fresh : (s : Keyed) (text : List ℕ) (sizes : Dimensions) → openSays s text ≡ done sizes → Fresh s text
 unfolding openSays openStore heldRows rowsOf
-fresh s text sizes said = by (openedBy text (length (s .literals)) (length (s .ends))) refl said
+fresh s text sizes said = by (openedIn s text) refl said
   where
-    by : (a : Opened) → openedBy text (length (s .literals)) (length (s .ends)) ≡ a → saidOpened a ≡ done sizes → Fresh s text
+    by : (a : Opened) → openedIn s text ≡ a → saidOpened a ≡ done sizes → Fresh s text
     by (Opened.Open n m) e q = record {
       sound = record {
         keeps = keeps-self (openStore s text);
-        formed = rw e (opened-formed text (s .literals) (s .ends) (s .images) n m e);
+        formed = rw e (well-formed _ (opened-formed text (s .store .literals) (s .store .ends) (s .keys) (s .store .images) n m e) (rw (opened-plain text (s .store .literals) (s .store .ends) (s .keys) (s .store .images) n m e) (written-right (formulaOf text) _)));
         are-rows = rw e;
         held = none;
       };
       opened = rw e;
-      plain = rw e (opened-plain text (s .literals) (s .ends) (s .images) n m e);
+      plain = rw e (opened-plain text (s .store .literals) (s .store .ends) (s .keys) (s .store .images) n m e);
     }
     by (Opened.Refused r) e q = let z : _≡_ {A = ℕ} 0 1 = cc in absurd (omega arith)
 
 -- For every text and lent store for which opening answers, and every list of calls from there, refused ones included: the store is open and well formed,
 -- its plain formula is the text's, its rows are exactly the accepted permutations of the list, and each of these is a symmetry of the formula.
-pub record AfterOpening (s : Store) (text : List ℕ) (calls : List Call) : Type 0 where
+pub record AfterOpening (s : Keyed) (text : List ℕ) (calls : List Call) : Type 0 where
   pub sound : Sound (openStore s text) (after (openStore s text) calls) (accepted (openStore s text) calls) (offersLeft (openStore s text) calls)
-  pub opened : after (openStore s text) calls .counts .is_open ≡ true
-  pub plain : plainOf (after (openStore s text) calls) ≡ formulaOf text
+  pub opened : after (openStore s text) calls .store .counts .is_open ≡ true
+  pub plain : plainOf (after (openStore s text) calls .store) ≡ formulaOf text
   pub symmetries : (row : List ℕ) → List·Memᴰ row (accepted (openStore s text) calls) → IsSymmetry row (formulaOf text)
 
-pub after-opening : (s : Store) (text : List ℕ) (sizes : Dimensions) (calls : List Call) → openSays s text ≡ done sizes → AfterOpening s text calls
+pub after-opening : (s : Keyed) (text : List ℕ) (sizes : Dimensions) (calls : List Call) → openSays s text ≡ done sizes → AfterOpening s text calls
 after-opening s text sizes calls said =
     let f = fresh s text sizes said in
     let sound = sound-calls (openStore s text) (openStore s text) [] [] calls (f .sound) in

@@ -12,12 +12,11 @@ use Rattle.lists.proofs.Cases.{never}
 use Rattle.packed.specs.Words.{maxWords, wordCount, isAssignment}
 use Rattle.quality.specs.Efficiency.{maxLabelled, hasEfficiency}
 use Rattle.store.specs.Refusals.{Said, done, refused}
-use Rattle.store.specs.Stores.{Store}
+use Rattle.standing.specs.Keyed.{Keyed}
 use Rattle.lexleader.specs.Store.{variablesOf, clausesOf}
 use Rattle.emit.specs.Emit.{headerOf, lineOf, writtenIf, headerBy, clauseBy}
-use Rattle.opening.specs.Opening.{openedBy}
 use Rattle.opening.specs.declared.Opened.{Opened}
-use Rattle.calls.specs.Calls.{takenBack, saidOpened, openSays, openStore, withdrawSays, headerSays, headerLeaves, clauseSays, clauseLeaves, compareSays, fillSays, fillLeaves, checkSays, descendSays, descendLeaves, efficiencySays}
+use Rattle.calls.specs.Calls.{takenBack, saidOpened, openedIn, openSays, openStore, withdrawSays, headerSays, headerLeaves, clauseSays, clauseLeaves, compareSays, fillSays, fillLeaves, checkSays, descendSays, descendLeaves, efficiencySays}
 use Rattle.demands.specs.Reasons.{Reason, badAssignment, noSuchClause, tooShort, withdrawReasons, headerReasons, clauseReasons, fillReasons, checkReasons, descendReasons, compareReasons, efficiencyReasons}
 use Rattle.demands.specs.Demand1.{Unchanged, Demand1}
 use Rattle.demands.proofs.Acceptance.{store-refused}
@@ -33,13 +32,13 @@ wrong-form n a rest = where-false (isAssignment n a) (λ bad. (bad, rw bad)) (λ
 
 -- ---- withdraw
 
-withdraw-exact : (s : Store) → Exact (withdrawReasons s) (withdrawSays s)
+withdraw-exact : (s : Keyed) → Exact (withdrawReasons s) (withdrawSays s)
 unfolding withdrawSays
 withdraw-exact s =
     on-store s
-    (where-true (eqb (s .counts .rows) 0)
-    (λ none. (eqb-true (s .counts .rows) 0 none, rw none))
-    (λ some. (eqb-false (s .counts .rows) 0 some, answers {v = takenBack} (rw some))))
+    (where-true (eqb (s .store .counts .rows) 0)
+    (λ none. (eqb-true (s .store .counts .rows) 0 none, rw none))
+    (λ some. (eqb-false (s .store .counts .rows) 0 some, answers {v = takenBack} (rw some))))
 
 -- ---- header and clause
 
@@ -47,37 +46,37 @@ line-exact : (line : List ℕ) (room : ℕ) → Exact (tooShort (length line) ro
 unfolding writtenIf
 line-exact line room = too-short (length line) (length line) room (λ h. rw (le-leb (length line) room h)) (λ h. rw (lt-leb (length line) room h))
 
-header-exact : (s : Store) (room : ℕ) → Exact (headerReasons s room) (headerSays s room)
+header-exact : (s : Keyed) (room : ℕ) → Exact (headerReasons s room) (headerSays s room)
 unfolding headerSays headerBy
-header-exact s room = on-store s (line-exact (headerOf s) room)
+header-exact s room = on-store s (line-exact (headerOf (s .store)) room)
 
-clause-exact : (s : Store) (q room : ℕ) → Exact (clauseReasons s q room) (clauseSays s q room)
+clause-exact : (s : Keyed) (q room : ℕ) → Exact (clauseReasons s q room) (clauseSays s q room)
 unfolding clauseSays clauseBy
-clause-exact s q room = on-store s (by (eqb q 0) refl (ltb (clausesOf s) q) refl)
+clause-exact s q room = on-store s (by (eqb q 0) refl (ltb (clausesOf (s .store)) q) refl)
   where
-    by : (zero : Bool) → eqb q 0 ≡ zero → (above : Bool) → ltb (clausesOf s) q ≡ above
+    by : (zero : Bool) → eqb q 0 ≡ zero → (above : Bool) → ltb (clausesOf (s .store)) q ≡ above
         → Exact
-        (noSuchClause s q ∷ tooShort (length (lineOf s q)) room ∷ [])
-        (cond zero (refused 13 0) (cond above (refused 13 0) (writtenIf (lineOf s q) room)))
+        (noSuchClause (s .store) q ∷ tooShort (length (lineOf (s .store) q)) room ∷ [])
+        (cond zero (refused 13 0) (cond above (refused 13 0) (writtenIf (lineOf (s .store) q) room)))
     by true e above f = held (inl (eqb-true q 0 e)) refl
-    by false e true f = held (inr (ltb-true (clausesOf s) q f)) refl
-    by false e false f = missed (⊎-elim (eqb-false q 0 e) (λ h. omega (arith, ltb-false (clausesOf s) q f))) (line-exact (lineOf s q) room)
+    by false e true f = held (inr (ltb-true (clausesOf (s .store)) q f)) refl
+    by false e false f = missed (⊎-elim (eqb-false q 0 e) (λ h. omega (arith, ltb-false (clausesOf (s .store)) q f))) (line-exact (lineOf (s .store) q) room)
 
 -- ---- assignments
 
-fill-exact : (s : Store) (a : List ℕ) (room : ℕ) → Exact (fillReasons s a room) (fillSays s a room)
+fill-exact : (s : Keyed) (a : List ℕ) (room : ℕ) → Exact (fillReasons s a room) (fillSays s a room)
 unfolding fillSays
 fill-exact s a room =
-    let needed = wordCount (variablesOf s) in
-    on-store s (wrong-form (s .counts .variables) a (too-short needed needed room (λ h. rw (le-leb needed room h)) (λ h. rw (lt-leb needed room h))))
+    let needed = wordCount (variablesOf (s .store)) in
+    on-store s (wrong-form (s .store .counts .variables) a (too-short needed needed room (λ h. rw (le-leb needed room h)) (λ h. rw (lt-leb needed room h))))
 
-check-exact : (s : Store) (a : List ℕ) → Exact (checkReasons s a) (checkSays s a)
+check-exact : (s : Keyed) (a : List ℕ) → Exact (checkReasons s a) (checkSays s a)
 unfolding checkSays
-check-exact s a = on-store s (wrong-form (variablesOf s) a (answers refl))
+check-exact s a = on-store s (wrong-form (variablesOf (s .store)) a (answers refl))
 
-descend-exact : (s : Store) (a : List ℕ) (limit : ℕ) → Exact (descendReasons s a) (descendSays s a limit)
+descend-exact : (s : Keyed) (a : List ℕ) (limit : ℕ) → Exact (descendReasons s a) (descendSays s a limit)
 unfolding descendSays
-descend-exact s a limit = on-store s (wrong-form (s .counts .variables) a (answers refl))
+descend-exact s a limit = on-store s (wrong-form (s .store .counts .variables) a (answers refl))
 
 compare-exact : (a b : List ℕ) → Exact (compareReasons a b) (compareSays a b)
 unfolding compareSays
@@ -112,11 +111,11 @@ efficiency-exact labelled unlabelled allowed =
 
 -- ---- what a refusal leaves
 
-open-leaves : (s : Store) (text : List ℕ) → Unchanged (openSays s text) s (openStore s text)
+open-leaves : (s : Keyed) (text : List ℕ) → Unchanged (openSays s text) s (openStore s text)
 unfolding openSays openStore
-open-leaves s text number place said = by (openedBy text (length (s .literals)) (length (s .ends))) refl said
+open-leaves s text number place said = by (openedIn s text) refl said
   where
-    by : (a : Opened) → openedBy text (length (s .literals)) (length (s .ends)) ≡ a → saidOpened a ≡ refused number place → openStore s text ≡ s
+    by : (a : Opened) → openedIn s text ≡ a → saidOpened a ≡ refused number place → openStore s text ≡ s
     by (Opened.Open n m) e q = let z : _≡_ {A = ℕ} 0 1 = cc in absurd (omega arith)
     by (Opened.Refused r) e q = rw e
 

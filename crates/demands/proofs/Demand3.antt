@@ -14,8 +14,10 @@ use Rattle.packed.proofs.Form.{form-count}
 use Rattle.packed.proofs.Trips.{bits-words, words-form}
 use Rattle.store.specs.Literals.{isLiteral}
 use Rattle.store.specs.Refusals.{done, refused}
-use Rattle.store.specs.Stores.{Store, heldRows, isRow, standingOf}
-use Rattle.store.specs.declared.form.Standing.{Standing}
+use Rattle.store.specs.Stores.{heldRows, isRow}
+use Rattle.standing.proofs.StandingLaws.{its-form}
+use Rattle.standing.specs.Keyed.{Keyed, standingOf}
+use Rattle.standing.specs.declared.Standing.{Standing}
 use Rattle.store.proofs.Formed.{formed}
 use Rattle.store.proofs.Demands.{rows-of}
 use Rattle.store.proofs.Within.{literals-within}
@@ -38,42 +40,42 @@ use Rattle.demands.proofs.Checks.{yes-is-model}
 -- ---- what a call that answered says of the store and the words
 
 -- filling in answered, so its count of words is that of N
-fill-count : (s : Store) (a : List ℕ) (room k : ℕ) → fillSays s a room ≡ done k → k ≡ wordCount (variablesOf s)
+fill-count : (s : Keyed) (a : List ℕ) (room k : ℕ) → fillSays s a room ≡ done k → k ≡ wordCount (variablesOf (s .store))
 unfolding fillSays
-fill-count s a room k e = by (standingOf s) (isAssignment (s .counts .variables) a) (leb (wordCount (variablesOf s)) room) e
+fill-count s a room k e = by (standingOf s) (isAssignment (s .store .counts .variables) a) (leb (wordCount (variablesOf (s .store))) room) e
   where
     by : (standing : Standing) (form fits : Bool)
-        → onStore standing (cond form (cond fits (done (wordCount (variablesOf s))) (refused 23 (wordCount (variablesOf s)))) (refused 12 0)) ≡ done k
-        → k ≡ wordCount (variablesOf s)
+        → onStore standing (cond form (cond fits (done (wordCount (variablesOf (s .store)))) (refused 23 (wordCount (variablesOf (s .store))))) (refused 12 0)) ≡ done k
+        → k ≡ wordCount (variablesOf (s .store))
     by Standing.Ready true true e = cc
     by Standing.Ready true false e = let z : _≡_ {A = ℕ} 0 1 = cc in absurd (omega arith)
     by Standing.Ready false fits e = let z : _≡_ {A = ℕ} 0 1 = cc in absurd (omega arith)
     by (Standing.Refused r) form fits e = let z : _≡_ {A = ℕ} 0 1 = cc in absurd (omega arith)
 
 -- the words that it wrote
-fill-wrote : (s : Store) (a out : List ℕ) (k : ℕ) → fillSays s a (length out) ≡ done k
-    → take k (fillLeaves s a out) ≡ wordsOf (filledIn (heldRows s) (bitsOf (s .counts .variables) a))
+fill-wrote : (s : Keyed) (a out : List ℕ) (k : ℕ) → fillSays s a (length out) ≡ done k
+    → take k (fillLeaves s a out) ≡ wordsOf (filledIn (heldRows (s .store)) (bitsOf (s .store .counts .variables) a))
 unfolding fillLeaves filledWords variablesOf
 fill-wrote s a out k e =
-    let bits = filledIn (heldRows s) (bitsOf (s .counts .variables) a) in
-    let size : length (wordsOf bits) ≡ wordCount (variablesOf s) =
-    form-count (length bits) (wordsOf bits) (words-form bits) ∙ ap wordCount (length-filled (s .counts .variables) (heldRows s) a) in
+    let bits = filledIn (heldRows (s .store)) (bitsOf (s .store .counts .variables) a) in
+    let size : length (wordsOf bits) ≡ wordCount (variablesOf (s .store)) =
+    form-count (length bits) (wordsOf bits) (words-form bits) ∙ ap wordCount (length-filled (s .store .counts .variables) (heldRows (s .store)) a) in
     let count : k ≡ length (wordsOf bits) = fill-count s a (length out) k e ∙ sym size in
     rw (e, count) (take-append-seam (wordsOf bits) (drop (length (wordsOf bits)) out))
 
 -- a descent answered settled, so it settled, and left what it reached
-record Settles (s : Store) (a : List ℕ) (limit moves : ℕ) : Type 0 where
+record Settles (s : Keyed) (a : List ℕ) (limit moves : ℕ) : Type 0 where
   reached : List Bool
-  ends : descend limit (heldRows s) (bitsOf (s .counts .variables) a) ≡ settled moves reached
+  ends : descend limit (heldRows (s .store)) (bitsOf (s .store .counts .variables) a) ≡ settled moves reached
   leaves : descendLeaves s a limit ≡ wordsOf reached
 
-descend-settled : (s : Store) (a : List ℕ) (limit moves : ℕ) → descendSays s a limit ≡ done (settledAfter moves) → Settles s a limit moves
+descend-settled : (s : Keyed) (a : List ℕ) (limit moves : ℕ) → descendSays s a limit ≡ done (settledAfter moves) → Settles s a limit moves
 unfolding descendSays descendLeaves descended
 descend-settled s a limit moves e =
-    by (standingOf s) refl (isAssignment (s .counts .variables) a) refl (descend limit (heldRows s) (bitsOf (s .counts .variables) a)) refl e
+    by (standingOf s) refl (isAssignment (s .store .counts .variables) a) refl (descend limit (heldRows (s .store)) (bitsOf (s .store .counts .variables) a)) refl e
   where
-    by : (standing : Standing) → standingOf s ≡ standing → (form : Bool) → isAssignment (s .counts .variables) a ≡ form
-        → (ending : Ending) → descend limit (heldRows s) (bitsOf (s .counts .variables) a) ≡ ending
+    by : (standing : Standing) → standingOf s ≡ standing → (form : Bool) → isAssignment (s .store .counts .variables) a ≡ form
+        → (ending : Ending) → descend limit (heldRows (s .store)) (bitsOf (s .store .counts .variables) a) ≡ ending
         → onStore standing (cond form (done (answerOf ending)) (refused 12 0)) ≡ done (settledAfter moves) → Settles s a limit moves
     by Standing.Ready p true q (settled count b) d e =
         let same : count ≡ moves = cc in
@@ -106,7 +108,7 @@ module _ {m n : ℕ} (e : m ≡ n) where
 
 -- ---- the theorem
 
-module _ (s : Store) (text : List ℕ) (sizes : Dimensions) (calls : List Call) (opens : openSays s text ≡ done sizes) where
+module _ (s : Keyed) (text : List ℕ) (sizes : Dimensions) (calls : List Call) (opens : openSays s text ≡ done sizes) where
   abbrev n : ℕ
   n = variables s text calls
 
@@ -116,10 +118,10 @@ module _ (s : Store) (text : List ℕ) (sizes : Dimensions) (calls : List Call) 
   abbrev ps : List (List ℕ)
   ps = permutations s text calls
 
-  abbrev t : Store
+  abbrev t : Keyed
   t = left s text calls
 
-  variables-kept : t .counts .variables ≡ n
+  variables-kept : t .store .counts .variables ≡ n
   variables-kept = same-variables (after-opening s text sizes calls opens .sound .keeps)
 
   -- the formula and the permutations are those of the store that the list leaves
@@ -127,16 +129,16 @@ module _ (s : Store) (text : List ℕ) (sizes : Dimensions) (calls : List Call) 
   symmetric =
       let a = after-opening s text sizes calls opens in
       record {
-        literals = same-literals variables-kept (a .plain) (literals-within t (formed t (a .sound .formed)));
-        permutations = same-rows variables-kept (a .sound .are-rows) (rows-of t (a .sound .formed));
+        literals = same-literals variables-kept (a .plain) (literals-within (t .store) (formed (t .store) (its-form t (a .sound .formed))));
+        permutations = same-rows variables-kept (a .sound .are-rows) (rows-of (t .store) (its-form t (a .sound .formed)));
         symmetries = a .symmetries;
       }
 
-  made-is : madeOf t ≡ made n F ps
+  made-is : madeOf (t .store) ≡ made n F ps
   unfolding madeOf
   made-is = let a = after-opening s text sizes calls opens in same-made variables-kept (a .plain) (a .sound .are-rows)
 
-  variables-are : variablesOf t ≡ madeVariables n ps
+  variables-are : variablesOf (t .store) ≡ madeVariables n ps
   unfolding variablesOf
   variables-are = let a = after-opening s text sizes calls opens in same-all variables-kept (a .sound .are-rows)
 
@@ -145,10 +147,10 @@ module _ (s : Store) (text : List ℕ) (sizes : Dimensions) (calls : List Call) 
   checked a setting words c e =
       let after = after-opening s text sizes calls opens in
       let bits : List Bool = a ++ setting in
-      let size : length bits ≡ variablesOf t = c .size ∙ sym variables-are in
-      let model : Model (variablesOf t) (madeOf t) bits = rw (variables-are, made-is) c in
-      let form : isAssignment (variablesOf t) (wordsOf bits) ≡ true = rw (← size) (words-form bits) in
-      let same : bitsOf (variablesOf t) (wordsOf bits) ≡ bits = bits-words (variablesOf t) bits size in
+      let size : length bits ≡ variablesOf (t .store) = c .size ∙ sym variables-are in
+      let model : Model (variablesOf (t .store)) (madeOf (t .store)) bits = rw (variables-are, made-is) c in
+      let form : isAssignment (variablesOf (t .store)) (wordsOf bits) ≡ true = rw (← size) (words-form bits) in
+      let same : bitsOf (variablesOf (t .store)) (wordsOf bits) ≡ bits = bits-words (variablesOf (t .store)) bits size in
       rw e (yes-is-model t (wordsOf bits) .1 (record { opened = after .opened; formed = after .sound .formed; form = form }, rw same model))
 
   pub demand-3 : Demand3 s text calls

@@ -11,11 +11,14 @@ use Rattle.dimacs.specs.Numbers.{isDigit, decimalFrom, digitsOf, sizeOf, numera
 use Rattle.store.specs.Literals.{isLiteral}
 use Rattle.store.specs.Numerals.{codeIn}
 use Rattle.store.specs.Refusals.{Said, done, refused}
-use Rattle.store.specs.Stores.{Store, lent, closedRecord, rising, literalCount, rowsOf, cut, plainOf, heldRows, isImage, isRow, demands, wellFormed, standingOf}
+use Rattle.store.specs.Stores.{lent, closedRecord, rising, literalCount, rowsOf, cut, plainOf, heldRows, isImage, isRow, demands, isFormed}
+use Rattle.numbers.specs.Numbers.{numbers}
+use Rattle.keys.specs.Keys.{different, total, keyBy, rightKeys}
+use Rattle.standing.specs.Keyed.{Keyed, withKeys, wellFormed, standingOf}
 use Rattle.comments.specs.Comments.{afterComments, wordsIn}
 use Rattle.opening.specs.Problem.{sameBytes, fourWords, sizesOf, problemIn, problemOf}
-use Rattle.opening.specs.Clauses.{scanFrom, literalsIn, endsFrom}
-use Rattle.opening.specs.Opening.{bodyOf, openedBy}
+use Rattle.opening.specs.Clauses.{scanFrom, literalsIn, endsFrom, clausesFrom}
+use Rattle.opening.specs.Opening.{bodyOf, formulaOf, openedBy}
 use Rattle.permutation.specs.Lines.{notNumber, badNameAfter, badName, badValueAfter, namesOn, valuesOn}
 use Rattle.permutation.specs.Stated.{statedBy, imageAmong, rowStated}
 use Rattle.symmetry.specs.Sets.{within, sameSet}
@@ -28,9 +31,9 @@ use Rattle.calls.specs.Calls.{TakenBack, takenBack, openStore, offerSays, offer
 use Rattle.demands.specs.Lists.{Call, offer, withdraw, after}
 
 -- the formula `1 2 3 0`, opened
-abbrev opened : Store
+abbrev opened : Keyed
 opened =
-    openStore (lent closedRecord (replicate 3 0) (replicate 1 0) (replicate 4 0))
+    openStore (withKeys (lent closedRecord (replicate 3 0) (replicate 1 0) (replicate 4 0)) (replicate 1 0))
     (112 ∷ 32 ∷ 99 ∷ 110 ∷ 102 ∷ 32 ∷ 51 ∷ 32 ∷ 49 ∷ 10 ∷ 49 ∷ 32 ∷ 50 ∷ 32 ∷ 51 ∷ 32 ∷ 48 ∷ 10 ∷ [])
 
 -- `1 2 3`/`2 3 1`, which has the auxiliaries 4 and 5 where it is the first row, and `1 3`/`3 1`, which then has 4
@@ -46,11 +49,11 @@ data Case : Type 0 where
   holding : List (List ℕ) → List ℕ → ℕ → Case
   making : List (List ℕ) → Case
 
-abbrev saying : Store → Case
+abbrev saying : Keyed → Case
 saying s = withdrawing (withdrawSays s)
 
-abbrev held : Store → Case
-held s = holding (heldRows s) (s .images) (variablesOf s)
+abbrev held : Keyed → Case
+held s = holding (heldRows (s .store)) (s .store .images) (variablesOf (s .store))
 
 -- With no row a withdrawal is 30. The turning row is held, and N is 5; taken back, its entries stay and N is 3; a second withdrawal is refused and changes
 -- nothing. The exchange, offered then, has the auxiliary 4 of the row taken back: its clauses are the table's first six, for 4 and the pairs 1, 3 and 3, 1.
@@ -61,7 +64,7 @@ corrected :
     ∷ held (after opened (turning ∷ withdraw ∷ []))
     ∷ saying (after opened (turning ∷ withdraw ∷ []))
     ∷ held (after opened (turning ∷ withdraw ∷ withdraw ∷ exchange ∷ []))
-    ∷ making (madeOf (after opened (turning ∷ withdraw ∷ withdraw ∷ exchange ∷ [])))
+    ∷ making (madeOf (after opened (turning ∷ withdraw ∷ withdraw ∷ exchange ∷ []) .store))
     ∷ []
     ≡ withdrawing (refused 30 0)
     ∷ holding ((4 ∷ 6 ∷ 2 ∷ []) ∷ []) (4 ∷ 6 ∷ 2 ∷ 0 ∷ []) 5
@@ -73,8 +76,8 @@ corrected :
     ∷ []
 unfolding
     openStore offerSays offerStore withdrawSays withdrawStore after anyOf allOf distinct table isBlank run wordsFrom linesFrom isDigit decimalFrom digitsOf sizeOf numeralOf
-    isLiteral codeIn rising literalCount rowsOf cut plainOf heldRows isImage isRow demands wellFormed standingOf afterComments wordsIn sameBytes fourWords sizesOf problemIn
-    problemOf scanFrom literalsIn endsFrom bodyOf openedBy notNumber badNameAfter badName badValueAfter namesOn valuesOn statedBy imageAmong rowStated within sameSet
+    isLiteral codeIn rising literalCount rowsOf cut plainOf heldRows isImage isRow demands isFormed different total keyBy numbers rightKeys wellFormed standingOf afterComments wordsIn sameBytes fourWords sizesOf problemIn
+    problemOf scanFrom literalsIn endsFrom clausesFrom bodyOf formulaOf openedBy notNumber badNameAfter badName badValueAfter namesOn valuesOn statedBy imageAmong rowStated within sameSet
     imageOf clauseImage hasImage missingFrom ifRoom ifSymmetry offeredBy pairsFrom pairsOf laterClauses pairClauses rowClauses rowsClauses made auxiliaries allAuxiliaries
     madeVariables madeOf variablesOf
 corrected = refl

@@ -15,3 +15,4 @@ pub mod Demand1
 pub mod Efficiency
 pub mod Starred
 pub mod Examples
+pub mod Keys

@@ -10,7 +10,8 @@ use lib.ListN.{length}
 use lib.Dec.{eqb, ltb}
 use Rattle.dimacs.specs.Words.{Piece, wordsAt}
 use Rattle.store.specs.Refusals.{Said, refused, saidRefused}
-use Rattle.store.specs.Stores.{Store, plainOf, maxRows}
+use Rattle.store.specs.Stores.{plainOf, maxRows}
+use Rattle.standing.specs.Keyed.{Keyed}
 use Rattle.store.specs.declared.refusal.Refusal.{Refusal}
 use Rattle.permutation.specs.Lines.{notNumber, badName as nameFault, badValueAfter, namesOn}
 use Rattle.permutation.specs.Stated.{statedBy}
@@ -102,33 +103,33 @@ module _ (n : ℕ) (names line : List ℕ) (named : AllPass (Name n) (wordsAt na
           (λ p. ⊎-elim (λ h. never-both Passes all (h .0)) (λ h. omega (arith, h .1, ltb-false (length (wordsAt line 0)) (length (wordsAt names 0)) q)))
           (rest (e ∙ value-end n (length line) names named (wordsAt line 0) ∙ rw q))
 
-module _ (s : Store) (names values : List ℕ) where
+module _ (s : Keyed) (names values : List ℕ) where
   abbrev n : ℕ
-  n = s .counts .variables
+  n = s .store .counts .variables
 
   abbrev said : Said Accepted
-  said = saidOffered (offeredBy s names values)
+  said = saidOffered (offeredBy (s .store) names values)
 
   turned : (r : Refusal) → statedBy n names values ≡ Stated.Refused r → said ≡ saidRefused r
-  turned r e = ap saidOffered (not-stated s names values r e)
+  turned r e = ap saidOffered (not-stated (s .store) names values r e)
 
   pub offer-exact : Exact (offerReasons s names values) (offerSays s names values)
   unfolding offerSays statedBy
   offer-exact =
       on-store s
-      (where-true (eqb (s .counts .rows) maxRows)
-      (λ t. (eqb-true (s .counts .rows) maxRows t, rw t))
+      (where-true (eqb (s .store .counts .rows) maxRows)
+      (λ t. (eqb-true (s .store .counts .rows) maxRows t, rw t))
       (λ t. (
-        eqb-false (s .counts .rows) maxRows t,
+        eqb-false (s .store .counts .rows) maxRows t,
         same-said (rw t)
             (number-exact 7 names (λ p e. turned (Refusal.NameNotNumber p) (rw e)) (λ a.
             name-exact n names (λ p e. turned (Refusal.BadName p) (rw (a, e))) (λ b named.
             number-exact 9 values (λ p e. turned (Refusal.ValueNotNumber p) (rw (a, b, e))) (λ c.
             value-exact n names values named (λ p e. turned (Refusal.BadValue p) (rw (a, b, c, e))) (λ d.
             let stated : statedBy n names values ≡ Stated.Permutation = rw (a, b, c, d) in
-            symmetry-exact (rowFor s names values) (plainOf s)
-            (λ k e. ap saidOffered (not-symmetric s names values stated (k + 1) (sym e) (λ z. omega arith))) (λ e.
-            too-short accepted (imagesNeeded s) (length (s .images))
-            (λ h. ap saidOffered (taken s names values stated 0 (sym e) refl h))
-            (λ h. ap saidOffered (no-room s names values stated 0 (sym e) refl h)))))))),
+            symmetry-exact (rowFor (s .store) names values) (plainOf (s .store))
+            (λ k e. ap saidOffered (not-symmetric (s .store) names values stated (k + 1) (sym e) (λ z. omega arith))) (λ e.
+            too-short accepted (imagesNeeded (s .store)) (length (s .store .images))
+            (λ h. ap saidOffered (taken (s .store) names values stated 0 (sym e) refl h))
+            (λ h. ap saidOffered (no-room (s .store) names values stated 0 (sym e) refl h)))))))),
       )))

@@ -14,7 +14,8 @@ use Rattle.dimacs.specs.Lines.{linesAt}
 use Rattle.dimacs.specs.Numbers.{Numeral, numeralOf}
 use Rattle.dimacs.specs.declared.Number.{Number}
 use Rattle.store.specs.Refusals.{Said, saidRefused}
-use Rattle.store.specs.Stores.{Store, maxVariables, maxClauses, maxLiterals}
+use Rattle.store.specs.Stores.{maxVariables, maxClauses, maxLiterals}
+use Rattle.standing.specs.Keyed.{Keyed}
 use Rattle.store.specs.declared.refusal.Refusal.{Refusal}
 use Rattle.comments.specs.Comments.{isComment, afterComments}
 use Rattle.opening.specs.Problem.{sizesOf, withinLimits, problemIn, problemOf}
@@ -52,13 +53,13 @@ module _ (before : List Piece) (w : Piece) (x : Number) (reads : Reads w x) wher
     count-more isNonzero before w ∙ rw (reads, ne-eqb (x .size) 0 z),
   )
 
--- what is said of the words of a text of a length, after a problem line of n and m, where there is room for so many literals and ends
-module _ (end n m literals ends : ℕ) (all : List Piece) where
+-- what is said of the words of a text of a length, after a problem line of n and m, where there is room for so many literals, ends and keys
+module _ (end n m literals ends keys : ℕ) (all : List Piece) where
   abbrev judged : Scanned → Said Dimensions
-  judged scanned = saidOpened (openedIf scanned n m literals ends)
+  judged scanned = saidOpened (openedIf scanned n m literals ends keys)
 
   abbrev last : List Reason
-  last = endReasons m all end literals ends
+  last = endReasons m all end literals ends keys
 
   last-exact : closedBy all ≤ m → Exact last (judged (scanFrom end n m (closedBy all) (literalsBy all) []))
   unfolding scanFrom
@@ -67,13 +68,18 @@ module _ (end n m literals ends : ℕ) (all : List Piece) where
       (λ t. (omega (arith, eqb-false (closedBy all) m t), rw t))
       (λ t. (λ k. omega (arith, eqb-true (closedBy all) m t), same-said (rw t) fits))
     where
-      fits : Exact (tooShort (literalsBy all) literals ∷ tooShort m ends ∷ []) (judged (Scanned.Done (literalsBy all)))
+      fits : Exact (tooShort (literalsBy all) literals ∷ tooShort m ends ∷ tooShort m keys ∷ []) (judged (Scanned.Done (literalsBy all)))
       fits =
           where-false (leb (literalsBy all) literals)
           (λ t. (leb-false (literalsBy all) literals t, rw t))
           (λ t. (
             λ k. omega (arith, leb-true (literalsBy all) literals t),
-            too-short (record { variables = n; clauses = m }) m ends (λ k. rw (t, le-leb m ends k)) (λ k. rw (t, lt-leb m ends k)),
+            where-false (leb m ends)
+                (λ u. (leb-false m ends u, rw (t, u)))
+                (λ u. (
+                  λ k. omega (arith, leb-true m ends u),
+                  too-short (record { variables = n; clauses = m }) m keys (λ k. rw (t, u, le-leb m keys k)) (λ k. rw (t, u, lt-leb m keys k)),
+                )),
           ))
 
   -- one word, and what is known of the words after it
@@ -163,15 +169,18 @@ problem-here : (text : List ℕ) (f : FirstFailing Comment (linesAt text 0)) →
 unfolding problemOf problemIn
 problem-here text f after = rw after
 
-module _ (s : Store) (text : List ℕ) where
+module _ (s : Keyed) (text : List ℕ) where
   abbrev room-literals : ℕ
-  room-literals = length (s .literals)
+  room-literals = length (s .store .literals)
 
   abbrev room-ends : ℕ
-  room-ends = length (s .ends)
+  room-ends = length (s .store .ends)
+
+  abbrev room-keys : ℕ
+  room-keys = length (s .keys)
 
   abbrev body : List Reason
-  body = bodyReasons (problemOf text) text room-literals room-ends
+  body = bodyReasons (problemOf text) text room-literals room-ends room-keys
 
   refused-head : (r : Refusal) → problemOf text ≡ Problem.Refused r → openSays s text ≡ saidRefused r
   unfolding openSays openedBy
@@ -179,7 +188,7 @@ module _ (s : Store) (text : List ℕ) where
 
   body-exact : (n m end : ℕ) → problemOf text ≡ Problem.Line n m end → Exact body (openSays s text)
   unfolding openSays openedBy countOf
-  body-exact n m end e = rw e (scan-exact (length text) n m room-literals room-ends (bodyOf text) [] (bodyOf text) refl (omega arith))
+  body-exact n m end e = rw e (scan-exact (length text) n m room-literals room-ends room-keys (bodyOf text) [] (bodyOf text) refl (omega arith))
 
   -- a line that is no comment
   module _ (f : FirstFailing Comment (linesAt text 0)) (after : afterComments (linesAt text 0) ≡ f .it ∷ f .after) where

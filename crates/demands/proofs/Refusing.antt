@@ -9,8 +9,8 @@ use borrow.Author.Tests.{leb-true, leb-false}
 use lib.Dec.{leb}
 use Rattle.lists.proofs.Cases.{never}
 use Rattle.store.specs.Refusals.{Said, done, refused}
-use Rattle.store.specs.Stores.{Store, wellFormed, standingOf}
-use Rattle.store.proofs.StandingLaws.{not-open, badly-formed, ready-of}
+use Rattle.standing.specs.Keyed.{Keyed, wellFormed, standingOf}
+use Rattle.standing.proofs.StandingLaws.{not-open, badly-formed, ready-of}
 use Rattle.calls.specs.Calls.{onStore}
 use Rattle.demands.specs.Reasons.{Reason, comesFirst, reason, tooShort, onStoreReasons}
 use Rattle.demands.specs.Demand1.{RefusesBy}
@@ -72,10 +72,10 @@ module _ {Values : Type 0} {said : Said Values} where
     where-false false f g = let h = f refl in held (h .0) (h .1)
 
 -- 20 and 21
-pub on-store : {Values : Type 0} {said : Said Values} {reasons : List Reason} (s : Store) → Exact reasons said
+pub on-store : {Values : Type 0} {said : Said Values} {reasons : List Reason} (s : Keyed) → Exact reasons said
     → Exact (onStoreReasons s reasons) (onStore (standingOf s) said)
 on-store s rest =
-    where-false (s .counts .is_open)
+    where-false (s .store .counts .is_open)
     (λ shut. (shut, rw (not-open s shut)))
     (λ opened. (
       λ shut. never (sym shut ∙ opened),

@@ -16,11 +16,14 @@ use Rattle.quality.specs.Efficiency.{hasEfficiency, efficiencyOf}
 use Rattle.store.specs.Literals.{isLiteral}
 use Rattle.store.specs.Numerals.{codeIn}
 use Rattle.store.specs.Refusals.{Said, done, refused}
-use Rattle.store.specs.Stores.{Store, lent, closedRecord, rising, literalCount, rowsOf, cut, plainOf, heldRows, isImage, isRow, demands, wellFormed, standingOf}
+use Rattle.store.specs.Stores.{lent, closedRecord, rising, literalCount, rowsOf, cut, plainOf, heldRows, isImage, isRow, demands, isFormed}
+use Rattle.numbers.specs.Numbers.{numbers}
+use Rattle.keys.specs.Keys.{different, total, keyBy, rightKeys}
+use Rattle.standing.specs.Keyed.{Keyed, withKeys, wellFormed, standingOf}
 use Rattle.comments.specs.Comments.{afterComments, wordsIn}
 use Rattle.opening.specs.Problem.{sameBytes, fourWords, sizesOf, problemIn, problemOf}
-use Rattle.opening.specs.Clauses.{scanFrom, literalsIn, endsFrom}
-use Rattle.opening.specs.Opening.{bodyOf, openedBy}
+use Rattle.opening.specs.Clauses.{scanFrom, literalsIn, endsFrom, clausesFrom}
+use Rattle.opening.specs.Opening.{bodyOf, formulaOf, openedBy}
 use Rattle.permutation.specs.Lines.{notNumber, badNameAfter, badName, badValueAfter, namesOn, valuesOn}
 use Rattle.permutation.specs.Stated.{statedBy, imageAmong, rowStated}
 use Rattle.symmetry.specs.Sets.{within, sameSet}
@@ -36,20 +39,20 @@ use Rattle.descent.specs.Words.{Outcome, settledAfter, spentAfter, descended}
 use Rattle.calls.specs.Calls.{Accepted, accepted, openStore, offerSays, offerStore, fillSays, fillLeaves, descendSays, descendLeaves, efficiencySays}
 
 -- the listing's formula, opened: `p cnf 3 2`, `1 2 0`, `2 3 0`
-abbrev listing : Store
+abbrev listing : Keyed
 listing =
-    openStore (lent closedRecord (replicate 4 0) (replicate 2 0) (replicate 3 0))
+    openStore (withKeys (lent closedRecord (replicate 4 0) (replicate 2 0) (replicate 3 0)) (replicate 2 0))
     (112 ∷ 32 ∷ 99 ∷ 110 ∷ 102 ∷ 32 ∷ 51 ∷ 32 ∷ 50 ∷ 10 ∷ 49 ∷ 32 ∷ 50 ∷ 32 ∷ 48 ∷ 10 ∷ 50 ∷ 32 ∷ 51 ∷ 32 ∷ 48 ∷ 10 ∷ [])
 
 -- the same with its row, `1 3`/`3 1`
-abbrev exchanged : Store
+abbrev exchanged : Keyed
 exchanged = offerStore listing (49 ∷ 32 ∷ 51 ∷ []) (51 ∷ 32 ∷ 49 ∷ [])
 
 -- the formula `1 2 3 0` with the row `2 3 1`
-abbrev turned : Store
+abbrev turned : Keyed
 turned =
     offerStore
-    (openStore (lent closedRecord (replicate 3 0) (replicate 1 0) (replicate 3 0))
+    (openStore (withKeys (lent closedRecord (replicate 3 0) (replicate 1 0) (replicate 3 0)) (replicate 1 0))
     (112 ∷ 32 ∷ 99 ∷ 110 ∷ 102 ∷ 32 ∷ 51 ∷ 32 ∷ 49 ∷ 10 ∷ 49 ∷ 32 ∷ 50 ∷ 32 ∷ 51 ∷ 32 ∷ 48 ∷ 10 ∷ []))
     (49 ∷ 32 ∷ 50 ∷ 32 ∷ 51 ∷ []) (50 ∷ 32 ∷ 51 ∷ 32 ∷ 49 ∷ [])
 
@@ -60,10 +63,10 @@ data Case : Type 0 where
   came : Said Outcome → List ℕ → Case
   filled : Said ℕ → List ℕ → Case
 
-abbrev descent : Store → ℕ → ℕ → Case
+abbrev descent : Keyed → ℕ → ℕ → Case
 descent s a limit = came (descendSays s (a ∷ []) limit) (descendLeaves s (a ∷ []) limit)
 
-abbrev filling : Store → ℕ → Case
+abbrev filling : Keyed → ℕ → Case
 filling s a = filled (fillSays s (a ∷ []) 1) (fillLeaves s (a ∷ []) (0 ∷ []))
 
 -- The values of three variables stand in the highest bits of a word: 110 is 6 · 2 ^ 61. In the order of the paper: the listing's offers; with its row 110 settles at
@@ -108,7 +111,7 @@ starred :
     ∷ []
 unfolding
     openStore offerSays offerStore anyOf allOf distinct table isBlank run wordsFrom linesFrom isDigit decimalFrom digitsOf sizeOf numeralOf isLiteral codeIn rising literalCount
-    rowsOf cut plainOf isImage isRow demands wellFormed standingOf afterComments wordsIn sameBytes fourWords sizesOf problemIn problemOf scanFrom literalsIn endsFrom bodyOf openedBy notNumber
+    rowsOf cut plainOf isImage isRow demands isFormed different total keyBy numbers rightKeys wellFormed standingOf afterComments wordsIn sameBytes fourWords sizesOf problemIn problemOf scanFrom literalsIn endsFrom clausesFrom bodyOf formulaOf openedBy notNumber
     badNameAfter badName badValueAfter namesOn valuesOn statedBy imageAmong rowStated within sameSet imageOf clauseImage hasImage missingFrom ifRoom ifSymmetry offeredBy
     efficiencySays hasEfficiency efficiencyOf nearestOf descendSays descendLeaves descended descendFrom stepBy lowers moved less literalValue heldRows bitsOf wordsOf binary
     wordCount bitAt bitIn spareBits isAssignment fillSays fillLeaves filledWords variablesOf madeVariables allAuxiliaries auxiliaries pairsOf pairsFrom filledIn settings

@@ -9,7 +9,9 @@ use lib.ListN.{length, take, length-append}
 use Rattle.lists.specs.Tests.{allOf}
 use Rattle.lists.proofs.Cases.{never, and-l, and-r}
 use Rattle.store.specs.Refusals.{done}
-use Rattle.store.specs.Stores.{Store, heldRows, wellFormed, maxRows, withRows}
+use Rattle.store.specs.Stores.{heldRows, maxRows, withRows}
+use Rattle.standing.proofs.StandingLaws.{its-form}
+use Rattle.standing.specs.Keyed.{Keyed, wellFormed}
 use Rattle.store.proofs.Demands.{rest-of}
 use Rattle.store.proofs.RowChanges.{held-count, with-row-images}
 use Rattle.permutation.specs.Stated.{rowStated}
@@ -26,33 +28,33 @@ use Rattle.demands.proofs.AfterCalls.{Held, none, newest, Ending, endin
 
 -- ---- one call more at the end of a list
 
-after-more : (s : Store) (calls : List Call) (call : Call) → after s (calls ++ (call ∷ [])) ≡ afterCall (after s calls) call
+after-more : (s : Keyed) (calls : List Call) (call : Call) → after s (calls ++ (call ∷ [])) ≡ afterCall (after s calls) call
 unfolding after
 after-more s [] call = refl
 after-more s (c ∷ calls) call = after-more (afterCall s c) calls call
 
-none-refused-more : (s : Store) (calls : List Call) (call : Call) → NoneRefused s calls → Answers (after s calls) call → NoneRefused s (calls ++ (call ∷ []))
+none-refused-more : (s : Keyed) (calls : List Call) (call : Call) → NoneRefused s calls → Answers (after s calls) call → NoneRefused s (calls ++ (call ∷ []))
 unfolding after NoneRefused
 none-refused-more s [] call h a = (a, tt)
 none-refused-more s (c ∷ calls) call h a = (h .0, none-refused-more (afterCall s c) calls call (h .1) a)
 
 -- ---- the length of the images slice
 
-images-call : (s : Store) (call : Call) → lendsNone call ≡ true → length (afterCall s call .images) ≡ length (s .images)
+images-call : (s : Keyed) (call : Call) → lendsNone call ≡ true → length (afterCall s call .store .images) ≡ length (s .store .images)
 images-call s (lend past) e = never e
 images-call s withdraw e = by (ending (withdrawSays s))
   where
-    by : Ending (withdrawSays s) → length (withdrawStore s .images) ≡ length (s .images)
+    by : Ending (withdrawSays s) → length (withdrawStore s .store .images) ≡ length (s .store .images)
     by (turned number place q) = rw (withdrawn-refused s number place q)
     by (answered takenBack q) = rw (withdrawn-row s q)
 images-call s (offer names values) e = by (ending (offerSays s names values))
   where
-    by : Ending (offerSays s names values) → length (offerStore s names values .images) ≡ length (s .images)
+    by : Ending (offerSays s names values) → length (offerStore s names values .store .images) ≡ length (s .store .images)
     by (turned number place q) = rw (store-refused s names values number place q)
     by (answered yes q) =
-        rw (store-accepted s names values q) (with-row-images s (rowFor s names values) (row-length (s .counts .variables) names values) (accepts-of s names values q .room))
+        rw (store-accepted s names values q) (with-row-images (s .store) (rowFor (s .store) names values) (row-length (s .store .counts .variables) names values) (accepts-of s names values q .room))
 
-images-calls : (s : Store) (calls : List Call) → allOf lendsNone calls ≡ true → length (after s calls .images) ≡ length (s .images)
+images-calls : (s : Keyed) (calls : List Call) → allOf lendsNone calls ≡ true → length (after s calls .store .images) ≡ length (s .store .images)
 unfolding after allOf
 images-calls s [] e = refl
 images-calls s (call ∷ calls) e =
@@ -60,23 +62,23 @@ images-calls s (call ∷ calls) e =
 
 -- ---- a store that gets the offers held
 
-record Replayed (t : Store) (rows : List (List ℕ)) (offers : List Call) : Type 0 where
+record Replayed (t : Keyed) (rows : List (List ℕ)) (offers : List Call) : Type 0 where
   none-refused : NoneRefused t offers
   keeps : Keeps t (after t offers)
   formed : wellFormed (after t offers) ≡ true
-  are-rows : heldRows (after t offers) ≡ rows
-  images : length (after t offers .images) ≡ length (t .images)
+  are-rows : heldRows (after t offers .store) ≡ rows
+  images : length (after t offers .store .images) ≡ length (t .store .images)
 
 -- from a store like o, open, well formed and without rows
-module _ (o t : Store) (k : Keeps o t) (opened : t .counts .is_open ≡ true) (formed : wellFormed t ≡ true) (no-row : heldRows t ≡ []) where
+module _ (o t : Keyed) (k : Keeps o t) (opened : t .store .counts .is_open ≡ true) (formed : wellFormed t ≡ true) (no-row : heldRows (t .store) ≡ []) where
   -- the next offer held is accepted too
   module _ (rows : List (List ℕ)) (offers : List Call) (r : Replayed t rows offers) (names values : List ℕ) (a : Acceptable o names values)
-      (few : length rows < maxRows) (room : (length rows + 1) * t .counts .variables ≤ length (t .images)) where
-    abbrev u : Store
+      (few : length rows < maxRows) (room : (length rows + 1) * t .store .counts .variables ≤ length (t .store .images)) where
+    abbrev u : Keyed
     u = after t offers
 
-    count : u .counts .rows ≡ length rows
-    count = sym (held-count u) ∙ ap length (r .are-rows)
+    count : u .store .counts .rows ≡ length rows
+    count = sym (held-count (u .store)) ∙ ap length (r .are-rows)
 
     next : offerSays u names values ≡ done yes
     next =
@@ -86,10 +88,10 @@ module _ (o t : Store) (k : Keeps o t) (opened : t .counts .is_open ≡ true) (f
         accepted-iff-symmetry u names values (same-open (r .keeps) ∙ opened) (r .formed) (omega (arith, count))
         (subst₂ (λ (needed given : ℕ). needed ≤ given) needed (sym (r .images)) room) (here .stated) .1 (here .symmetry)
 
-    replayed-more : Replayed t (rows ++ (rowFor o names values ∷ [])) (offers ++ (offer names values ∷ []))
+    replayed-more : Replayed t (rows ++ (rowFor (o .store) names values ∷ [])) (offers ++ (offer names values ∷ []))
     replayed-more =
         let last = after-more t offers (offer names values) in
-        let row : rowFor u names values ≡ rowFor o names values = ap (λ (n : ℕ). rowStated n names values) (same-variables (keeps-trans (r .keeps) k)) in
+        let row : rowFor (u .store) names values ≡ rowFor (o .store) names values = ap (λ (n : ℕ). rowStated n names values) (same-variables (keeps-trans (r .keeps) k)) in
         record {
           none-refused = none-refused-more t offers (offer names values) (r .none-refused) next;
           keeps = rw last (keeps-trans (accepted-keeps u names values next) (r .keeps));
@@ -98,26 +100,26 @@ module _ (o t : Store) (k : Keeps o t) (opened : t .counts .is_open ≡ true) (f
           images = rw last (images-call u (offer names values) refl ∙ r .images);
         }
 
-  replay : (rows : List (List ℕ)) (offers : List Call) → Held o rows offers → length rows ≤ maxRows → length rows * t .counts .variables ≤ length (t .images)
+  replay : (rows : List (List ℕ)) (offers : List Call) → Held o rows offers → length rows ≤ maxRows → length rows * t .store .counts .variables ≤ length (t .store .images)
       → Replayed t rows offers
   unfolding after NoneRefused
   replay _ _ none few fits = record { none-refused = tt; keeps = keeps-self t; formed = formed; are-rows = no-row; images = refl }
   replay _ _ (newest rows offers h names values a more e longer f) few fits =
-      let size : length more ≡ length rows + 1 = ap length e ∙ length-append rows (rowFor o names values ∷ []) in
-      let room : (length rows + 1) * t .counts .variables ≤ length (t .images) = rw size at fits in
+      let size : length more ≡ length rows + 1 = ap length e ∙ length-append rows (rowFor (o .store) names values ∷ []) in
+      let room : (length rows + 1) * t .store .counts .variables ≤ length (t .store .images) = rw size at fits in
       rw (e, f) (replayed-more rows offers (replay rows offers h (omega arith) (omega arith)) names values a (omega arith) room)
 
 -- ---- the theorem
 
-same-counts : {o s t : Store} → Keeps o s → Keeps o t → s .counts .rows ≡ t .counts .rows → s .counts ≡ t .counts
+same-counts : {o s t : Keyed} → Keeps o s → Keeps o t → s .store .counts .rows ≡ t .store .counts .rows → s .store .counts ≡ t .store .counts
 same-counts {o = o} k l e =
-    ap (λ (u : Store). u .counts) (k .but-rows) ∙ ap (λ (r : ℕ). withRows o r [] .counts) e ∙ sym (ap (λ (u : Store). u .counts) (l .but-rows))
+    ap (λ (u : Keyed). u .store .counts) (k .but-rows) ∙ ap (λ (r : ℕ). withRows (o .store) r [] .counts) e ∙ sym (ap (λ (u : Keyed). u .store .counts) (l .but-rows))
 
-module _ (s : Store) (text : List ℕ) (sizes : Dimensions) (calls : List Call) (opens : openSays s text ≡ done sizes) where
-  abbrev o : Store
+module _ (s : Keyed) (text : List ℕ) (sizes : Dimensions) (calls : List Call) (opens : openSays s text ≡ done sizes) where
+  abbrev o : Keyed
   o = openStore s text
 
-  abbrev end : Store
+  abbrev end : Keyed
   end = left s text calls
 
   abbrev rows : List (List ℕ)
@@ -127,17 +129,17 @@ module _ (s : Store) (text : List ℕ) (sizes : Dimensions) (calls : List Call) 
   sound = after-opening s text sizes calls opens .sound
 
   -- any store like the one opened, without rows and with room
-  gets-only : (t : Store) → Sound o t [] [] → end .counts .rows * end .counts .variables ≤ length (t .images) → GetsOnly s text calls t
+  gets-only : (t : Keyed) → Sound o t [] [] → end .store .counts .rows * end .store .counts .variables ≤ length (t .store .images) → GetsOnly s text calls t
   gets-only t empty room =
-      let count : end .counts .rows ≡ length rows = sym (held-count end) ∙ ap length (sound .are-rows) in
-      let same : end .counts .variables ≡ t .counts .variables = same-variables (sound .keeps) ∙ sym (same-variables (empty .keeps)) in
-      let fits : length rows * t .counts .variables ≤ length (t .images) = rw (count, same) at room in
+      let count : end .store .counts .rows ≡ length rows = sym (held-count (end .store)) ∙ ap length (sound .are-rows) in
+      let same : end .store .counts .variables ≡ t .store .counts .variables = same-variables (sound .keeps) ∙ sym (same-variables (empty .keeps)) in
+      let fits : length rows * t .store .counts .variables ≤ length (t .store .images) = rw (count, same) at room in
       let r = replay o t (empty .keeps) (same-open (empty .keeps) ∙ fresh s text sizes opens .opened) (empty .formed) (empty .are-rows) rows (offers s text calls) (sound .held)
-      (omega (arith, rest-of end (sound .formed) .rows-fit, count)) fits in
-      let alike : heldRows (after t (offers s text calls)) ≡ heldRows end = r .are-rows ∙ sym (sound .are-rows) in
+      (omega (arith, rest-of (end .store) (its-form end (sound .formed)) .rows-fit, count)) fits in
+      let alike : heldRows (after t (offers s text calls) .store) ≡ heldRows (end .store) = r .are-rows ∙ sym (sound .are-rows) in
       record {
         none-refused = r .none-refused;
-        counts = same-counts (keeps-trans (r .keeps) (empty .keeps)) (sound .keeps) (sym (held-count (after t (offers s text calls))) ∙ ap length alike ∙ held-count end);
+        counts = same-counts (keeps-trans (r .keeps) (empty .keeps)) (sound .keeps) (sym (held-count (after t (offers s text calls) .store)) ∙ ap length alike ∙ held-count (end .store));
         rows = alike;
       }
 
@@ -146,7 +148,7 @@ module _ (s : Store) (text : List ℕ) (sizes : Dimensions) (calls : List Call) 
   takes-back =
       let f = fresh s text sizes opens in
       record {
-        itself = λ e. gets-only o (f .sound) (omega (arith, images-calls o calls e, rest-of end (sound .formed) .images-long));
+        itself = λ e. gets-only o (f .sound) (omega (arith, images-calls o calls e, rest-of (end .store) (its-form end (sound .formed)) .images-long));
         anew = λ images room. gets-only (lentAnew o images) (sound-call o o [] [] (lend images) (f .sound))
-            (omega (arith, room, length-append (take (o .counts .rows * o .counts .variables) (o .images)) images));
+            (omega (arith, room, length-append (take (o .store .counts .rows * o .store .counts .variables) (o .store .images)) images));
       }

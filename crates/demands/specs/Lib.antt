@@ -5,3 +5,4 @@ pub mod Lists
 pub mod Demand3
 pub mod TakingBack
 pub mod Efficiency
+pub mod Keys

@@ -8,7 +8,7 @@ use native.Mathlib.Omega.{arith}
 use borrow.Author.Tests.{eq-eqb, ne-eqb, eqb-true}
 use lib.ListN.{length, getD, drop, drop-of-length-le}
 use lib.Dec.{eqb}
-use Rattle.lists.proofs.Cases.{never, and-l, and-r}
+use Rattle.lists.proofs.Cases.{never, and-l, and-r, and-both}
 use Rattle.lists.proofs.Steps.{drop-step}
 use Rattle.keys.specs.Keys.{keyOf, keysOf, rightKeys}
 
@@ -50,6 +50,14 @@ right-at [] keys e c h = absurd (not-suc-le-zero h)
 right-at (clause ∷ formula) [] e c h = never e
 right-at (clause ∷ formula) (key ∷ keys) e zero h = eqb-true key (keyOf clause) (and-l (eqb key (keyOf clause)) (rightKeys formula keys) e)
 right-at (clause ∷ formula) (key ∷ keys) e (suc c) h = right-at formula keys (and-r (eqb key (keyOf clause)) (rightKeys formula keys) e) c (le-of-suc-le-suc h)
+
+pub right-all : (formula : List (List ℕ)) (keys : List ℕ) → length formula ≤ length keys → ((c : ℕ) → c < length formula → getD keys c 0 ≡ keyOf (getD formula c []))
+    → rightKeys formula keys ≡ true
+unfolding rightKeys
+right-all [] keys h at = refl
+right-all (clause ∷ formula) [] h at = absurd (not-suc-le-zero h)
+right-all (clause ∷ formula) (key ∷ keys) h at =
+    and-both (eq-eqb key (keyOf clause) (at 0 (suc-le-suc zero-le))) (right-all formula keys (le-of-suc-le-suc h) (λ c l. at (suc c) (suc-le-suc l)))
 
 -- what is written is right
 pub written-right : (formula : List (List ℕ)) (past : List ℕ) → rightKeys formula (keysOf formula ++ past) ≡ true

@@ -4,10 +4,10 @@ use mathlib.Core.Bool.{Bool, true, false, cond, not}
 use Prim.Native.Nat.{ℕ}
 use native.Mathlib.Omega.{arith}
 use Rattle.lists.proofs.Cases.{and-l, and-r, and-both}
-use Rattle.store.specs.Stores.{isFormed, plainOf}
+use Rattle.store.specs.Stores.{Store, isFormed, plainOf}
 use Rattle.store.specs.declared.refusal.Refusal.{Refusal}
 use Rattle.keys.specs.Keys.{rightKeys}
-use Rattle.standing.specs.Keyed.{Keyed, wellFormed, standingOf}
+use Rattle.standing.specs.Keyed.{Keyed, withKeys, wellFormed, standingOf}
 use Rattle.standing.specs.declared.Standing.{Standing}
 
 module _ (s : Keyed) where
@@ -61,3 +61,8 @@ module _ (s : Keyed) where
 
   pub ready-form : standingOf s ≡ Standing.Ready → isFormed (s .store) ≡ true
   ready-form e = its-form (ready e .1)
+
+  -- a formed store with the same clauses is well formed with the same keys
+  pub same-clauses : (t : Store) → plainOf t ≡ plainOf (s .store) → wellFormed s ≡ true → isFormed t ≡ true → wellFormed (withKeys t (s .keys)) ≡ true
+  unfolding wellFormed
+  same-clauses t e well form = and-both form (rw e (its-keys well))

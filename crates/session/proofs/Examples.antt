@@ -11,11 +11,13 @@ use Rattle.dimacs.specs.Numbers.{isDigit, decimalFrom, digitsOf, sizeOf, numera
 use Rattle.store.specs.Literals.{isLiteral}
 use Rattle.store.specs.Numerals.{codeIn}
 use Rattle.store.specs.Refusals.{done, refused}
-use Rattle.store.specs.Stores.{Store, lent, closedRecord, rising, literalCount, rowsOf, cut, plainOf, isImage, demands, wellFormed, standingOf}
+use Rattle.store.specs.Stores.{lent, closedRecord, rising, literalCount, rowsOf, cut, plainOf, isImage, demands, isFormed}
+use Rattle.keys.specs.Keys.{rightKeys}
+use Rattle.standing.specs.Keyed.{Keyed, withKeys, wellFormed, standingOf}
 use Rattle.comments.specs.Comments.{afterComments, wordsIn}
 use Rattle.opening.specs.Problem.{sameBytes, fourWords, sizesOf, problemIn, problemOf}
-use Rattle.opening.specs.Clauses.{scanFrom, literalsIn, endsFrom}
-use Rattle.opening.specs.Opening.{bodyOf, openedBy}
+use Rattle.opening.specs.Clauses.{scanFrom, literalsIn, endsFrom, clausesFrom}
+use Rattle.opening.specs.Opening.{bodyOf, formulaOf, openedBy}
 use Rattle.permutation.specs.Lines.{notNumber, badNameAfter, badName, badValueAfter, namesOn, valuesOn}
 use Rattle.permutation.specs.Stated.{statedBy, imageAmong, rowStated}
 use Rattle.symmetry.specs.Symmetry.{missingFrom}
@@ -25,11 +27,11 @@ use Rattle.session.specs.Input.{fromDivider}
 use Rattle.session.specs.Session.{ended, offerAll, sessionOf}
 
 -- a store with room for one image alone: closed, and open with so many rows
-closed : Store
-closed = lent closedRecord [] [] (0 ∷ [])
+closed : Keyed
+closed = withKeys (lent closedRecord [] [] (0 ∷ [])) []
 
-opened : ℕ → List ℕ → Store
-opened rows images = lent (record { variables = 1; clauses = 0; rows = rows; is_open = true }) [] [] images
+opened : ℕ → List ℕ → Keyed
+opened rows images = withKeys (lent (record { variables = 1; clauses = 0; rows = rows; is_open = true }) [] [] images) []
 
 -- the line `p cnf 1 0`
 problem : List ℕ
@@ -54,7 +56,7 @@ offered :
     ∷ []
 unfolding
     closed opened problem anyOf allOf table isBlank run wordsFrom linesFrom isDigit decimalFrom digitsOf sizeOf numeralOf isLiteral codeIn rising
-    literalCount rowsOf cut plainOf isImage demands wellFormed standingOf afterComments wordsIn sameBytes fourWords sizesOf problemIn problemOf scanFrom
-    literalsIn endsFrom bodyOf openedBy notNumber badNameAfter badName badValueAfter namesOn valuesOn statedBy imageAmong rowStated missingFrom ifRoom
+    literalCount rowsOf cut plainOf isImage demands isFormed rightKeys wellFormed standingOf afterComments wordsIn sameBytes fourWords sizesOf problemIn problemOf scanFrom
+    literalsIn endsFrom clausesFrom bodyOf formulaOf openedBy notNumber badNameAfter badName badValueAfter namesOn valuesOn statedBy imageAmong rowStated missingFrom ifRoom
     ifSymmetry offeredBy openSays openStore offerSays offerStore fromDivider offerAll sessionOf
 offered = refl

@@ -18,12 +18,13 @@ use Rattle.dimacs.specs.Numbers.{numeralOf}
 use Rattle.store.specs.Literals.{variableOf}
 use Rattle.store.specs.Numerals.{isNumeral, codeIn}
 use Rattle.store.specs.Refusals.{Said, done, refused, numberOf}
-use Rattle.store.specs.Stores.{Store, wellFormed, standingOf, plainOf, maxVariables, maxClauses, maxLiterals, maxRows}
-use Rattle.store.specs.declared.form.Standing.{Standing}
+use Rattle.store.specs.Stores.{plainOf, maxVariables, maxClauses, maxLiterals, maxRows}
+use Rattle.standing.specs.Keyed.{Keyed, wellFormed, standingOf}
+use Rattle.standing.specs.declared.Standing.{Standing}
 use Rattle.store.specs.declared.refusal.Refusal.{Refusal}
 use Rattle.store.proofs.Demands.{rest-of}
 use Rattle.store.proofs.RowChanges.{with-row-images}
-use Rattle.store.proofs.StandingLaws.{ready-of}
+use Rattle.standing.proofs.StandingLaws.{ready-of, its-form}
 use Rattle.comments.specs.Comments.{afterComments}
 use Rattle.opening.specs.Problem.{withinLimits, problemIn, problemOf, sizesOf}
 use Rattle.opening.specs.Clauses.{scanFrom}
@@ -122,37 +123,38 @@ scan-number end n m closed count (w ∷ words) =
 abbrev Inner : ℕ → Type 0
 Inner number = (number ≤ 11) ⊎ (20 ≤ number)
 
-open-number : (s : Store) (text : List ℕ) → Inner (saidNumber (openSays s text))
+open-number : (s : Keyed) (text : List ℕ) → Inner (saidNumber (openSays s text))
 unfolding openSays openedBy
 open-number s text = problem (problemOf text) (problem-number text)
   where
-    room : (count n m : ℕ) (a b : Bool)
-        → Inner (saidNumber (saidOpened (cond a (cond b (Opened.Open n m) (Opened.Refused (Refusal.TooShort m))) (Opened.Refused (Refusal.TooShort count)))))
-    room count n m true true = inl (omega arith)
-    room count n m true false = inr (omega arith)
-    room count n m false b = inr (omega arith)
+    room : (count n m : ℕ) (a b c : Bool)
+        → Inner (saidNumber (saidOpened (cond (not a) (Opened.Refused (Refusal.TooShort count)) (cond (not b) (Opened.Refused (Refusal.TooShort m)) (cond (not c) (Opened.Refused (Refusal.TooShort m)) (Opened.Open n m))))))
+    room count n m true true true = inl (omega arith)
+    room count n m true true false = inr (omega arith)
+    room count n m true false c = inr (omega arith)
+    room count n m false b c = inr (omega arith)
 
-    scan : (x : Scanned) → scannedNumber x ≤ 6 → (n m : ℕ) → Inner (saidNumber (saidOpened (openedIf x n m (length (s .literals)) (length (s .ends)))))
-    scan (Scanned.Done count) h n m = room count n m (leb count (length (s .literals))) (leb m (length (s .ends)))
+    scan : (x : Scanned) → scannedNumber x ≤ 6 → (n m : ℕ) → Inner (saidNumber (saidOpened (openedIf x n m (length (s .store .literals)) (length (s .store .ends)) (length (s .keys)))))
+    scan (Scanned.Done count) h n m = room count n m (leb count (length (s .store .literals))) (leb m (length (s .store .ends))) (leb m (length (s .keys)))
     scan (Scanned.Refused r) h n m = inl (omega arith)
 
-    problem : (p : Problem) → problemNumber p ≤ 6 → Inner (saidNumber (saidOpened (openedAfter p (bodyOf text) (length text) (length (s .literals)) (length (s .ends)))))
+    problem : (p : Problem) → problemNumber p ≤ 6 → Inner (saidNumber (saidOpened (openedAfter p (bodyOf text) (length text) (length (s .store .literals)) (length (s .store .ends)) (length (s .keys)))))
     problem (Problem.Line n m end) h = scan (scanFrom (length text) n m 0 0 (bodyOf text)) (scan-number (length text) n m 0 0 (bodyOf text)) n m
     problem (Problem.Refused r) h = inl (omega arith)
 
 -- with slices as long as the limits there is no 23
-open-low : (s : Store) → Ample s → (text : List ℕ) → saidNumber (openSays s text) ≤ 6
+open-low : (s : Keyed) → Ample s → (text : List ℕ) → saidNumber (openSays s text) ≤ 6
 unfolding openSays openedBy
 open-low s ample text = problem (problemOf text) refl (problem-number text)
   where
     scan : (n m : ℕ) → m ≤ maxClauses → (x : Scanned) → scanFrom (length text) n m 0 0 (bodyOf text) ≡ x → scannedNumber x ≤ 6
-        → saidNumber (saidOpened (openedIf x n m (length (s .literals)) (length (s .ends)))) ≤ 6
+        → saidNumber (saidOpened (openedIf x n m (length (s .store .literals)) (length (s .store .ends)) (length (s .keys)))) ≤ 6
     scan n m few (Scanned.Done count) e h =
         let fits = counted (length text) n m count (bodyOf text) 0 0 e .total-within (omega arith) in
-        rw (long-enough n m count (length (s .literals)) (length (s .ends)) (omega (arith, fits, ample .literals)) (omega (arith, ample .ends))) (omega arith)
+        rw (long-enough n m count (length (s .store .literals)) (length (s .store .ends)) (length (s .keys)) (omega (arith, fits, ample .literals)) (omega (arith, ample .ends)) (omega (arith, ample .keys))) (omega arith)
     scan n m few (Scanned.Refused r) e h = h
 
-    problem : (p : Problem) → problemOf text ≡ p → problemNumber p ≤ 6 → saidNumber (saidOpened (openedAfter p (bodyOf text) (length text) (length (s .literals)) (length (s .ends)))) ≤ 6
+    problem : (p : Problem) → problemOf text ≡ p → problemNumber p ≤ 6 → saidNumber (saidOpened (openedAfter p (bodyOf text) (length text) (length (s .store .literals)) (length (s .store .ends)) (length (s .keys)))) ≤ 6
     problem (Problem.Line n m end) e h =
         scan n m (line-limits text n m end e .clauses) (scanFrom (length text) n m 0 0 (bodyOf text)) refl (scan-number (length text) n m 0 0 (bodyOf text))
     problem (Problem.Refused r) e h = h
@@ -173,35 +175,35 @@ stated-number n names values =
     by Fault.Nowhere Fault.Nowhere Fault.Nowhere (Fault.At p) = omega arith
     by Fault.Nowhere Fault.Nowhere Fault.Nowhere Fault.Nowhere = omega arith
 
-module _ (s : Store) (names values : List ℕ) where
+module _ (s : Keyed) (names values : List ℕ) where
   abbrev missing : ℕ
-  missing = firstMissing (rowFor s names values) (plainOf s)
+  missing = firstMissing (rowFor (s .store) names values) (plainOf (s .store))
 
   -- the tests of an offer in turn, by what each finds
-  tests : (P : ℕ → Type 0) → ((number : ℕ) → number ≤ 11 → P number) → (eqb (s .counts .rows) maxRows ≡ true → P 22)
-      → (eqb (s .counts .rows) maxRows ≡ false → leb (imagesNeeded s) (length (s .images)) ≡ false → P 23)
-      → P (saidNumber {Values = Accepted} (cond (eqb (s .counts .rows) maxRows) (refused 22 0) (saidOffered (offeredBy s names values))))
+  tests : (P : ℕ → Type 0) → ((number : ℕ) → number ≤ 11 → P number) → (eqb (s .store .counts .rows) maxRows ≡ true → P 22)
+      → (eqb (s .store .counts .rows) maxRows ≡ false → leb (imagesNeeded (s .store)) (length (s .store .images)) ≡ false → P 23)
+      → P (saidNumber {Values = Accepted} (cond (eqb (s .store .counts .rows) maxRows) (refused 22 0) (saidOffered (offeredBy (s .store) names values))))
   unfolding offeredBy ifSymmetry ifRoom
   tests P low full short =
-      by (eqb (s .counts .rows) maxRows) refl (statedBy (s .counts .variables) names values) (stated-number (s .counts .variables) names values)
+      by (eqb (s .store .counts .rows) maxRows) refl (statedBy (s .store .counts .variables) names values) (stated-number (s .store .counts .variables) names values)
     where
-      found : eqb (s .counts .rows) maxRows ≡ false → (e f : Bool) → leb (imagesNeeded s) (length (s .images)) ≡ f
-          → P (saidNumber (saidOffered (cond e (cond f Offered.Accepted (Offered.Refused (Refusal.TooShort (imagesNeeded s)))) (Offered.Refused (Refusal.NoSymmetry missing)))))
+      found : eqb (s .store .counts .rows) maxRows ≡ false → (e f : Bool) → leb (imagesNeeded (s .store)) (length (s .store .images)) ≡ f
+          → P (saidNumber (saidOffered (cond e (cond f Offered.Accepted (Offered.Refused (Refusal.TooShort (imagesNeeded (s .store))))) (Offered.Refused (Refusal.NoSymmetry missing)))))
       found qa false f qf = low 11 (omega arith)
       found qa true true qf = low 0 (omega arith)
       found qa true false qf = short qa qf
 
-      by : (a : Bool) → eqb (s .counts .rows) maxRows ≡ a → (d : Stated) → statedNumber d ≤ 11
-          → P (saidNumber {Values = Accepted} (cond a (refused 22 0) (saidOffered (ifStated d missing s))))
+      by : (a : Bool) → eqb (s .store .counts .rows) maxRows ≡ a → (d : Stated) → statedNumber d ≤ 11
+          → P (saidNumber {Values = Accepted} (cond a (refused 22 0) (saidOffered (ifStated d missing (s .store)))))
       by true qa d h = full qa
       by false qa (Stated.Refused r) h = low (numberOf r) h
-      by false qa Stated.Permutation h = found qa (eqb missing 0) (leb (imagesNeeded s) (length (s .images))) refl
+      by false qa Stated.Permutation h = found qa (eqb missing 0) (leb (imagesNeeded (s .store)) (length (s .store .images))) refl
 
   -- whatever the store
   offer-number : Inner (saidNumber (offerSays s names values))
   unfolding offerSays standingOf
   offer-number =
-      by (s .counts .is_open) (wellFormed s) _ (tests Inner (λ number h. inl h) (λ _. inr (omega arith)) (λ _ _. inr (omega arith)))
+      by (s .store .counts .is_open) (wellFormed s) _ (tests Inner (λ number h. inl h) (λ _. inr (omega arith)) (λ _ _. inr (omega arith)))
     where
       by : (a b : Bool) (said : Said Accepted) → Inner (saidNumber said)
           → Inner (saidNumber (onStore (cond (not a) (Standing.Refused Refusal.NotOpen) (cond (not b) (Standing.Refused Refusal.BadlyFormed) Standing.Ready)) said))
@@ -210,18 +212,18 @@ module _ (s : Store) (names values : List ℕ) where
       by true true said h = h
 
   -- of an open, well-formed store with an images slice as long as the limits
-  offer-from-input : s .counts .is_open ≡ true → wellFormed s ≡ true → maxRows * maxVariables ≤ length (s .images) → FromInput (saidNumber (offerSays s names values))
+  offer-from-input : s .store .counts .is_open ≡ true → wellFormed s ≡ true → maxRows * maxVariables ≤ length (s .store .images) → FromInput (saidNumber (offerSays s names values))
   unfolding offerSays
   offer-from-input opened formed long =
       rw (ready-of s opened formed)
       (tests FromInput (λ number h. record { opened = λ e. omega arith; formed = λ e. omega arith; roomy = λ e. omega arith })
       (λ _. record { opened = λ e. omega arith; formed = λ e. omega arith; roomy = λ e. omega arith })
       (λ few short.
-      let r = rest-of s formed in
-      let less = lt-of-le-ne (r .rows-fit) (eqb-false (s .counts .rows) maxRows few) in
-      let rows : s .counts .rows + 1 ≤ maxRows = omega (arith, less) in
-      let most = mul-le-mul-right (s .counts .variables) rows in
-      absurd (omega (arith, leb-false (imagesNeeded s) (length (s .images)) short, r .variables-fit, most))))
+      let r = rest-of (s .store) (its-form s formed) in
+      let less = lt-of-le-ne (r .rows-fit) (eqb-false (s .store .counts .rows) maxRows few) in
+      let rows : s .store .counts .rows + 1 ≤ maxRows = omega (arith, less) in
+      let most = mul-le-mul-right (s .store .counts .variables) rows in
+      absurd (omega (arith, leb-false (imagesNeeded (s .store)) (length (s .store .images)) short, r .variables-fit, most))))
 
 -- ---- the value lines
 
@@ -229,10 +231,10 @@ ended-number : {a b : Ended} → a ≡ b → saidNumber (a .said) ≡ saidNumber
 ended-number e = ap saidNumber (said-of e)
 
 -- what the number of every offer meets, the number of the whole does
-offers-number : (P : ℕ → Type 0) → P 0 → (Q : Store → Type 0)
-    → ((s : Store) (names values : List ℕ) → Q s → P (saidNumber (offerSays s names values)))
-    → ((s : Store) (names values : List ℕ) → Q s → offerSays s names values ≡ done accepted → Q (offerStore s names values))
-    → (s : Store) (names : List ℕ) (lines : List Piece) → Q s → P (saidNumber (offerAll s names lines .said))
+offers-number : (P : ℕ → Type 0) → P 0 → (Q : Keyed → Type 0)
+    → ((s : Keyed) (names values : List ℕ) → Q s → P (saidNumber (offerSays s names values)))
+    → ((s : Keyed) (names values : List ℕ) → Q s → offerSays s names values ≡ done accepted → Q (offerStore s names values))
+    → (s : Keyed) (names : List ℕ) (lines : List Piece) → Q s → P (saidNumber (offerAll s names lines .said))
 unfolding offerAll
 offers-number P none Q each keeps s names [] h = none
 offers-number P none Q each keeps s names (values ∷ lines) h =
@@ -248,12 +250,12 @@ offers-number P none Q each keeps s names (values ∷ lines) h =
 -- ---- the session
 
 -- what the numbers of opening and of every offer meet, the number of a session that has a `%` line does
-module _ (P : ℕ → Type 0) (none : P 0) (Q : Store → Type 0)
-    (each : (s : Store) (names values : List ℕ) → Q s → P (saidNumber (offerSays s names values)))
-    (keeps : (s : Store) (names values : List ℕ) → Q s → offerSays s names values ≡ done accepted → Q (offerStore s names values))
-    (s : Store) (opens : (text : List ℕ) → P (saidNumber (openSays s text)))
+module _ (P : ℕ → Type 0) (none : P 0) (Q : Keyed → Type 0)
+    (each : (s : Keyed) (names values : List ℕ) → Q s → P (saidNumber (offerSays s names values)))
+    (keeps : (s : Keyed) (names values : List ℕ) → Q s → offerSays s names values ≡ done accepted → Q (offerStore s names values))
+    (s : Keyed) (opens : (text : List ℕ) → P (saidNumber (openSays s text)))
     (leaves : (text : List ℕ) (sizes : Dimensions) → openSays s text ≡ done sizes → Q (openStore s text)) where
-  lines-number : (t : Store) (lines : List Piece) → Q t → P (saidNumber (offerLines t lines .said))
+  lines-number : (t : Keyed) (lines : List Piece) → Q t → P (saidNumber (offerLines t lines .said))
   lines-number t [] h = none
   lines-number t (names ∷ values) h = offers-number P none Q each keeps t (names .bytes) values h
 
@@ -268,22 +270,22 @@ module _ (P : ℕ → Type 0) (none : P 0) (Q : Store → Type 0)
       by (refused number place) e h = h
 
 -- an open, well-formed store with an images slice as long as the limits
-record StoreStands (s : Store) : Type 0 where
-  opened : s .counts .is_open ≡ true
+record StoreStands (s : Keyed) : Type 0 where
+  opened : s .store .counts .is_open ≡ true
   formed : wellFormed s ≡ true
-  long : maxRows * maxVariables ≤ length (s .images)
+  long : maxRows * maxVariables ≤ length (s .store .images)
 
-offer-stands : (s : Store) (names values : List ℕ) → StoreStands s → offerSays s names values ≡ done accepted → StoreStands (offerStore s names values)
+offer-stands : (s : Keyed) (names values : List ℕ) → StoreStands s → offerSays s names values ≡ done accepted → StoreStands (offerStore s names values)
 offer-stands s names values h said =
     let is = store-accepted s names values said in
-    let row = rowFor s names values in
+    let row = rowFor (s .store) names values in
     record {
-      opened = ap (λ (t : Store). t .counts .is_open) is ∙ h .opened;
+      opened = ap (λ (t : Keyed). t .store .counts .is_open) is ∙ h .opened;
       formed = accepted-formed s names values said;
-      long = rw (is, with-row-images s row (row-length (s .counts .variables) names values) (accepts-of s names values said .room)) (h .long);
+      long = rw (is, with-row-images (s .store) row (row-length (s .store .counts .variables) names values) (accepts-of s names values said .room)) (h .long);
     }
 
-open-stands : (s : Store) → Ample s → (text : List ℕ) (sizes : Dimensions) → openSays s text ≡ done sizes → StoreStands (openStore s text)
+open-stands : (s : Keyed) → Ample s → (text : List ℕ) (sizes : Dimensions) → openSays s text ≡ done sizes → StoreStands (openStore s text)
 unfolding openStore after
 open-stands s ample text sizes said =
     let fresh = after-opening s text sizes [] said in
@@ -293,7 +295,7 @@ from-input : (number : ℕ) → number ≤ 15 → FromInput number
 from-input number h = record { opened = λ e. omega arith; formed = λ e. omega arith; roomy = λ e. omega arith }
 
 -- the session of an input, by its two reasons to be 15
-by-input : (P : ℕ → Type 0) (s : Store) (input : List ℕ) → (BadInput input → P 15)
+by-input : (P : ℕ → Type 0) (s : Keyed) (input : List ℕ) → (BadInput input → P 15)
     → ((divider : Piece) (lines : List Piece) → P (saidNumber (divided s input (divider ∷ lines) .said)))
     → P (saidNumber (sessionOf s input .said))
 by-input P s input bad good =
@@ -306,12 +308,12 @@ by-input P s input bad good =
     by [] e = bad (inr e)
     by (divider ∷ lines) e = good divider lines
 
-bad-input : (s : Store) (input : List ℕ) → BadInput input → sessionOf s input ≡ ended (refused 15 0) s
+bad-input : (s : Keyed) (input : List ℕ) → BadInput input → sessionOf s input ≡ ended (refused 15 0) s
 bad-input s input (inl over) = too-long s input over
 bad-input s input (inr none) = ⊎-elim (λ over. too-long s input over) (λ fits. within s input fits ∙ rw none) (lt-or-le maxInput (length input))
 
 -- In slices as long as the limits, the program prints no 20, 21 or 23.
-pub only-from-input : (s : Store) → Ample s → (input : List ℕ) (number place : ℕ) → sessionOf s input .said ≡ refused number place → FromInput number
+pub only-from-input : (s : Keyed) → Ample s → (input : List ℕ) (number place : ℕ) → sessionOf s input .said ≡ refused number place → FromInput number
 only-from-input s ample input number place e =
     subst FromInput (ap saidNumber e)
     (by-input FromInput s input (λ _. from-input 15 (omega arith))
@@ -319,7 +321,7 @@ only-from-input s ample input number place e =
     s (λ text. from-input _ (omega (arith, open-low s ample text))) (open-stands s ample) input))
 
 -- "15. Program only, tried before all others: input over 65,536 bytes, or no `%` line; place 0", in slices of any length.
-pub fifteen : (s : Store) (input : List ℕ) (place : ℕ) → (sessionOf s input .said ≡ refused 15 place) ↔ ((place ≡ 0) × BadInput input)
+pub fifteen : (s : Keyed) (input : List ℕ) (place : ℕ) → (sessionOf s input .said ≡ refused 15 place) ↔ ((place ≡ 0) × BadInput input)
 fifteen s input place = (there, back)
   where
     inner : (divider : Piece) (lines : List Piece) → Inner (saidNumber (divided s input (divider ∷ lines) .said))

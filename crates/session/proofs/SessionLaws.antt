@@ -10,7 +10,8 @@ use Rattle.dimacs.specs.Lines.{isLineByte, linesAt}
 use Rattle.dimacs.proofs.Runs.{run-part}
 use Rattle.dimacs.proofs.LineLaws.{no-line, line-here}
 use Rattle.store.specs.Refusals.{done, refused, saidRefused}
-use Rattle.store.specs.Stores.{Store, lent, closedRecord}
+use Rattle.store.specs.Stores.{lent, closedRecord}
+use Rattle.standing.specs.Keyed.{Keyed, withKeys}
 use Rattle.store.specs.declared.record.Record.{Record}
 use Rattle.store.specs.declared.refusal.Refusal.{Refusal}
 use Rattle.opening.specs.declared.Opened.{Opened}
@@ -25,7 +26,7 @@ line-bytes input at end e = rw e (run-part isLineByte input at)
 
 -- ---- the names line
 
-module _ (s : Store) (input : List ℕ) (at : ℕ) where
+module _ (s : Keyed) (input : List ℕ) (at : ℕ) where
   pub no-names : length input ≤ at → offerLines s (linesAt input at) ≡ ended (done accepted) s
   no-names h = rw (no-line input at h)
 
@@ -35,7 +36,7 @@ module _ (s : Store) (input : List ℕ) (at : ℕ) where
 
 -- ---- the value lines
 
-module _ (s : Store) (names : List ℕ) (values : Piece) (lines : List Piece) where
+module _ (s : Keyed) (names : List ℕ) (values : Piece) (lines : List Piece) where
   pub offer-refused : (number place : ℕ) → offerSays s names (values .bytes) ≡ refused number place
       → offerAll s names (values ∷ lines) ≡ ended (refused number place) (offerStore s names (values .bytes))
   unfolding offerAll
@@ -46,13 +47,13 @@ module _ (s : Store) (names : List ℕ) (values : Piece) (lines : List Piece) wh
   unfolding offerAll
   offer-accepted e = rw (e, offerAll)
 
-module _ (s : Store) (names input : List ℕ) (from : ℕ) where
+module _ (s : Keyed) (names input : List ℕ) (from : ℕ) where
   pub no-values : length input ≤ from → offerAll s names (linesAt input from) ≡ ended (done accepted) s
   unfolding offerAll
   no-values h = rw (no-line input from h)
 
   -- the offer of the line at `from`: what it answers, and the store that it leaves
-  module _ (h : from < length input) (to : ℕ) (end : to ≡ runEnd isLineByte input from) (a : Offered) (t : Store)
+  module _ (h : from < length input) (to : ℕ) (end : to ≡ runEnd isLineByte input from) (a : Offered) (t : Keyed)
       (says : saidOffered a ≡ offerSays s names (take (to - from) (drop from input)))
       (leaves : t ≡ offerStore s names (take (to - from) (drop from input))) where
     pub refused-line : (refusal : Refusal) → a ≡ Offered.Refused refusal → offerAll s names (linesAt input from) ≡ ended (saidRefused refusal) t
@@ -68,29 +69,35 @@ module _ (s : Store) (names input : List ℕ) (from : ℕ) where
 -- ---- the opening
 
 -- a closed store is opened with the text before the `%` line at `at`: what the call answers and leaves. It is lent no images, so they stay
-module _ (literals ends images input : List ℕ) (at : ℕ) (h : at < length input) (old : Record) (new : old ≡ closedRecord)
-    (a : Opened) (counts : Record) (literals₁ ends₁ : List ℕ)
-    (says : saidOpened a ≡ openSays (lent old literals ends []) (take at input))
-    (leaves : lent counts literals₁ ends₁ [] ≡ openStore (lent old literals ends []) (take at input)) where
-  said : openSays (lent closedRecord literals ends images) (take at input) ≡ saidOpened a
+module _ (literals ends keys images input : List ℕ) (at : ℕ) (h : at < length input) (old : Record) (new : old ≡ closedRecord)
+    (a : Opened) (counts : Record) (literals₁ ends₁ keys₁ : List ℕ)
+    (says : saidOpened a ≡ openSays (withKeys (lent old literals ends []) keys) (take at input))
+    (leaves : withKeys (lent counts literals₁ ends₁ []) keys₁ ≡ openStore (withKeys (lent old literals ends []) keys) (take at input)) where
+  -- the closed store, and what is left of it
+  abbrev before : Keyed
+  before = withKeys (lent closedRecord literals ends images) keys
+
+  abbrev after : Keyed
+  after = withKeys (lent counts literals₁ ends₁ images) keys₁
+
+  said : openSays before (take at input) ≡ saidOpened a
   unfolding openSays
   said = sym says
 
-  left : openStore (lent closedRecord literals ends images) (take at input) ≡ lent counts literals₁ ends₁ images
+  left : openStore before (take at input) ≡ after
   unfolding openStore
-  left = sym (ap (λ (t : Store). lent (t .counts) (t .literals) (t .ends) images) (rw new at leaves))
+  left = sym (ap (λ (t : Keyed). withKeys (lent (t .store .counts) (t .store .literals) (t .store .ends) images) (t .keys)) (rw new at leaves))
 
-  pub refused-opening : (refusal : Refusal) → a ≡ Opened.Refused refusal
-      → divided (lent closedRecord literals ends images) input (linesAt input at) ≡ ended (saidRefused refusal) (lent counts literals₁ ends₁ images)
+  pub refused-opening : (refusal : Refusal) → a ≡ Opened.Refused refusal → divided before input (linesAt input at) ≡ ended (saidRefused refusal) after
   refused-opening refusal q = rw (line-here input at h, said, left, q)
 
   pub opened : (n m : ℕ) → a ≡ Opened.Open n m → (next : ℕ) → next ≡ runEnd isLineByte input at + 1
-      → divided (lent closedRecord literals ends images) input (linesAt input at) ≡ offerLines (lent counts literals₁ ends₁ images) (linesAt input next)
+      → divided before input (linesAt input at) ≡ offerLines after (linesAt input next)
   opened n m q next e = rw (e, line-here input at h, said, left, q)
 
 -- ---- the input
 
-module _ (s : Store) (input : List ℕ) where
+module _ (s : Keyed) (input : List ℕ) where
   pub too-long : maxInput < length input → sessionOf s input ≡ ended (refused 15 0) s
   unfolding sessionOf
   too-long h = rw (lt-ltb maxInput (length input) h)

@@ -10,7 +10,7 @@ use Rattle.lists.proofs.Cases.{lt-or-le}
 use Rattle.dimacs.specs.Words.{Piece}
 use Rattle.dimacs.specs.Lines.{linesAt}
 use Rattle.store.specs.Refusals.{Said, done, refused}
-use Rattle.store.specs.Stores.{Store, wellFormed}
+use Rattle.standing.specs.Keyed.{Keyed, wellFormed}
 use Rattle.calls.specs.Calls.{Accepted, accepted, Dimensions, openSays, openStore, offerSays, offerStore}
 use Rattle.demands.specs.Lists.{Call, offer, after}
 use Rattle.demands.proofs.AfterCalls.{after-opening}
@@ -23,7 +23,7 @@ abbrev pub calls : List ℕ → List Piece → List Call
 calls names lines = map (λ (line : Piece). offer names (line .bytes)) lines
 
 -- A text that opens, and the offers that lead from there to the session's store. Where there is no names line, there are no value lines.
-pub record Listed (s : Store) (input : List ℕ) : Type 0 where
+pub record Listed (s : Keyed) (input : List ℕ) : Type 0 where
   pub text : List ℕ
   pub names : List ℕ
   pub lines : List Piece
@@ -32,9 +32,9 @@ pub record Listed (s : Store) (input : List ℕ) : Type 0 where
   pub store : sessionOf s input .store ≡ after (openStore s text) (calls names lines)
 
 -- what a call that needs a store asks of it
-pub record Formed (s : Store) : Type 0 where
+pub record Formed (s : Keyed) : Type 0 where
   pub formed : wellFormed s ≡ true
-  pub opened : s .counts .is_open ≡ true
+  pub opened : s .store .counts .is_open ≡ true
 
 -- ---- the value lines
 
@@ -45,20 +45,20 @@ pub said-of : {a b : Ended} → a ≡ b → a .said ≡ b .said
 said-of e = ap (λ (end : Ended). end .said) e
 
 -- what ends with a refusal does not end ready
-not-ready : {C : Type 0} {end : Ended} {s : Store} (number place : ℕ) → end ≡ ended (refused number place) s → end .said ≡ done accepted → C
+not-ready : {C : Type 0} {end : Ended} {s : Keyed} (number place : ℕ) → end ≡ ended (refused number place) s → end .said ≡ done accepted → C
 not-ready number place e ready =
     let both : refused number place ≡ done accepted = sym (said-of e) ∙ ready in
     let z : _≡_ {A = ℕ} 0 1 = cc in
     absurd (omega arith)
 
 -- offers that are all accepted leave what the list of calls leaves
-offers-all : (s : Store) (names : List ℕ) (lines : List Piece) → offerAll s names lines .said ≡ done accepted
+offers-all : (s : Keyed) (names : List ℕ) (lines : List Piece) → offerAll s names lines .said ≡ done accepted
     → offerAll s names lines .store ≡ after s (calls names lines)
 unfolding offerAll after
 offers-all s names [] ready = refl
 offers-all s names (values ∷ lines) ready = by (offerSays s names (values .bytes)) refl (offers-all next names lines)
   where
-    next : Store
+    next : Keyed
     next = offerStore s names (values .bytes)
 
     by : (said : Said Accepted) → offerSays s names (values .bytes) ≡ said
@@ -71,7 +71,7 @@ offers-all s names (values ∷ lines) ready = by (offerSays s names (values .byt
 
 -- ---- a session that ends ready
 
-module _ (s : Store) (input : List ℕ) (ready : sessionOf s input .said ≡ done accepted) where
+module _ (s : Keyed) (input : List ℕ) (ready : sessionOf s input .said ≡ done accepted) where
   from-lines : (text : List ℕ) (sizes : Dimensions) → openSays s text ≡ done sizes → (lines : List Piece)
       → sessionOf s input ≡ offerLines (openStore s text) lines → Listed s input
   unfolding after

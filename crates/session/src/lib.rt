@@ -10,7 +10,8 @@ ghost use mathlib.Core.Bool.{true};
 ghost use Prim.Native.Nat.{_<_};
 ghost use lib.ListN.{length};
 ghost use Rattle.dimacs.specs.Lines.{linesAt};
-ghost use Rattle.store.specs.Stores.{stored, closedRecord, wellFormed};
+ghost use Rattle.store.specs.Stores.{closedRecord};
+ghost use Rattle.standing.specs.Keyed.{keyed, wellFormed};
 ghost use Rattle.session.specs.Input.{fromDivider};
 ghost use Rattle.session.specs.Session.{ended, saidAnswer, offerLines, divided, sessionOf};
 
@@ -29,11 +30,17 @@ pub struct Session {
 }
 
 // Opens and offers what an input states, in lent slices of any contents.
-pub fn run(input: &[u8], literals: &mut [u16], ends: &mut [u16], images: &mut [u16]) -> Session
-    ensures ends { λ r. let s = stored closedRecord (literals .entry) (ends .entry) (images .entry) in
-        let left = stored (r .counts) (literals .exit) (ends .exit) (images .exit) in
+pub fn run(
+    input: &[u8],
+    literals: &mut [u16],
+    ends: &mut [u16],
+    keys: &mut [u64],
+    images: &mut [u16],
+) -> Session
+    ensures ends { λ r. let s = keyed closedRecord (literals .entry) (ends .entry) (keys .entry) (images .entry) in
+        let left = keyed (r .counts) (literals .exit) (ends .exit) (keys .exit) (images .exit) in
         ⌜ ended (saidAnswer (r .answer)) left ≡ sessionOf s (now (input .entry)) ⌝ }
-    ensures formed { λ r. let left = stored (r .counts) (literals .exit) (ends .exit) (images .exit) in
+    ensures formed { λ r. let left = keyed (r .counts) (literals .exit) (ends .exit) (keys .exit) (images .exit) in
         ⌜ (r .answer ≡ Answer.Ready → wellFormed left ≡ true) ⌝ }
 {
     if MAX_INPUT < input.len() {
@@ -43,7 +50,7 @@ pub fn run(input: &[u8], literals: &mut [u16], ends: &mut [u16], images: &mut [u
     if input.len() <= at {
         return bad_input();
     }
-    open_and_offer(input, at, literals, ends, images)
+    open_and_offer(input, at, literals, ends, keys, images)
 }
 
 fn bad_input() -> Session
@@ -78,14 +85,15 @@ fn open_and_offer(
     at: usize,
     literals: &mut [u16],
     ends: &mut [u16],
+    keys: &mut [u64],
     images: &mut [u16],
 ) -> Session
     requires { ⌜ at < length (now input) ⌝ }
-    ensures { λ r. let s = stored closedRecord (literals .entry) (ends .entry) (images .entry) in
-        let left = stored (r .counts) (literals .exit) (ends .exit) (images .exit) in
+    ensures { λ r. let s = keyed closedRecord (literals .entry) (ends .entry) (keys .entry) (images .entry) in
+        let left = keyed (r .counts) (literals .exit) (ends .exit) (keys .exit) (images .exit) in
         ⌜ ended (saidAnswer (r .answer)) left ≡ divided s (now (input .entry)) (linesAt (now (input .entry)) at) ⌝ }
 {
-    let opening = calls::open(calls::new_record(), &input[..at], literals, ends);
+    let opening = calls::open(calls::new_record(), &input[..at], literals, ends, keys);
     let answer = opening.answer;
     let counts = opening.counts;
     if let Opened::Refused(refusal) = answer {
@@ -98,6 +106,7 @@ fn open_and_offer(
         counts,
         literals,
         ends,
+        keys,
         images,
         input,
         dimacs::line_end(input, at) + 1,
@@ -109,12 +118,13 @@ fn offer_lines(
     counts: Record,
     literals: &[u16],
     ends: &[u16],
+    keys: &[u64],
     images: &mut [u16],
     input: &[u8],
     at: usize,
 ) -> Session
-    ensures { λ r. let s = stored counts (literals .entry) (ends .entry) (images .entry) in
-        let left = stored (r .counts) (literals .entry) (ends .entry) (images .exit) in
+    ensures { λ r. let s = keyed counts (literals .entry) (ends .entry) (keys .entry) (images .entry) in
+        let left = keyed (r .counts) (literals .entry) (ends .entry) (keys .entry) (images .exit) in
         ⌜ ended (saidAnswer (r .answer)) left ≡ offerLines s (linesAt (now (input .entry)) at) ⌝ }
 {
     if input.len() <= at {
@@ -132,6 +142,7 @@ fn offer_lines(
             held,
             literals,
             ends,
+            keys,
             images,
             &input[at..names],
             &input[from..to],

@@ -8,7 +8,8 @@ use lib.ListN.{length, take, drop}
 use Rattle.dimacs.specs.Lines.{isLineByte, linesAt}
 use Rattle.dimacs.proofs.Runs.{run-within}
 use Rattle.store.specs.Refusals.{saidRefused}
-use Rattle.store.specs.Stores.{Store, lent}
+use Rattle.store.specs.Stores.{lent}
+use Rattle.standing.specs.Keyed.{Keyed, withKeys}
 use Rattle.store.specs.declared.refusal.Refusal.{Refusal}
 use Rattle.offering.specs.declared.Offered.{Offered}
 use Rattle.session.specs.Session.{Ended, ended, offerAll, offerLines}
@@ -17,35 +18,37 @@ use Rattle.session.proofs.offer_lines.Statement.{statement}
 use Rattle.session.proofs.offer_lines.Tie as tie
 
 abbrev Inv-loop : tie.InvT-loop
-Inv-loop literals ends images₀ input at names held₀ from₀ images held from =
+Inv-loop literals ends keys images₀ input at names held₀ from₀ images held from =
     let line = take (names - at) (drop at input) in
-    (offerAll (lent held₀ literals ends images₀) line (linesAt input from₀) ≡ offerAll (lent held literals ends images) line (linesAt input from))
+    (offerAll (withKeys (lent held₀ literals ends images₀) keys) line (linesAt input from₀) ≡ offerAll (withKeys (lent held literals ends images) keys) line (linesAt input from))
     × (length images ≡ length images₀)
 
 abbrev μ-loop : tie.MeasureT-loop
-μ-loop literals ends images₀ input at names held₀ from₀ images held from = length input - from
+μ-loop literals ends keys images₀ input at names held₀ from₀ images held from = length input - from
 
 abbrev start : tie.At-loop Inv-loop μ-loop → tie.Start Inv-loop μ-loop
-start l = l .before .before .before .before .before .before .before
+start l = l .before .before .before .before .before .before .before .before
 
-abbrev S : tie.Start Inv-loop μ-loop → Store
-S s = lent (s .args .counts) (s .args .literals .now) (s .args .ends .now) (s .args .images .now)
+abbrev S : tie.Start Inv-loop μ-loop → Keyed
+S s = withKeys (lent (s .args .counts) (s .args .literals .now) (s .args .ends .now) (s .args .images .now)) (s .args .keys .now)
 
 -- what the value lines from a place on come to, offered to a store
-abbrev From : tie.At-loop Inv-loop μ-loop → Store → ℕ → Ended
+abbrev From : tie.At-loop Inv-loop μ-loop → Keyed → ℕ → Ended
 From l held from =
     let a = start l .args in
     offerAll held (take (l .before .line-end .result - a .at) (drop (a .at) (a .input .now))) (linesAt (a .input .now) from)
 
 -- the store at the head of the loop, and after the offer
-abbrev held : tie.At-loop Inv-loop μ-loop → Store
-held l = lent (l .loop .held) (start l .args .literals .now) (start l .args .ends .now) (l .loop .images)
+abbrev held : tie.At-loop Inv-loop μ-loop → Keyed
+held l = withKeys (lent (l .loop .held) (start l .args .literals .now) (start l .args .ends .now) (l .loop .images)) (start l .args .keys .now)
 
 abbrev head : tie.After-offer Inv-loop μ-loop → tie.At-loop Inv-loop μ-loop
 head o = o .before .before .before .before .before .before
 
-abbrev left : tie.After-offer Inv-loop μ-loop → Store
-left o = lent (o .offer .result .counts) (start (head o) .args .literals .now) (start (head o) .args .ends .now) (o .offer .last .1 .1 .1 .0)
+abbrev left : tie.After-offer Inv-loop μ-loop → Keyed
+left o =
+    let a = start (head o) .args in
+    withKeys (lent (o .offer .result .counts) (a .literals .now) (a .ends .now) (o .offer .last .1 .1 .1 .1 .0)) (a .keys .now)
 
 -- the whole is what the loop has still to offer
 whole : (l : tie.At-loop Inv-loop μ-loop)
@@ -71,12 +74,12 @@ taken o q =
 
 returns : tie.Need-returns Inv-loop μ-loop
 returns c =
-    let s = c .before .before .before .before .before in
+    let s = c .before .before .before .before .before .before in
     sym (no-names (S s) (s .args .input .now) (s .args .at) (c .if1 .taken))
 
 add-from : tie.Need-add-from Inv-loop μ-loop
 add-from c =
-    let s = c .before .before .before .before .before .before in
+    let s = c .before .before .before .before .before .before .before in
     omega (arith, run-within isLineByte (s .args .input .now) (s .args .at) (omega arith))
 
 loop-holds : tie.Need-loop-holds Inv-loop μ-loop

@@ -12,7 +12,7 @@
 
 #include "plain.h"
 
-enum { MAX_N = SYMBREAK_MAX_VARIABLES, MAX_L = SYMBREAK_MAX_LITERALS, MAX_ROWS = SYMBREAK_MAX_ROWS, MAX_LINE = 7 * MAX_L + 2 };
+enum { MAX_N = SYMBREAK_MAX_VARIABLES, MAX_L = SYMBREAK_MAX_LITERALS, MAX_ROWS = SYMBREAK_MAX_ROWS, MAX_LINE = 7 * MAX_L + 2, OFFERS = 40 };
 
 typedef struct {
     __typeof__(symbreak_open) *open;
@@ -38,16 +38,17 @@ static const calls library = CALLS(symbreak, symbreak_descend), plain = CALLS(pl
 static struct world {
     uint64_t n, m, rows;
     uint16_t literals[MAX_L], ends[SYMBREAK_MAX_CLAUSES], images[MAX_ROWS * MAX_N];
+    uint64_t keys[SYMBREAK_MAX_CLAUSES];
     uint64_t a[SYMBREAK_MAX_WORDS], b[SYMBREAK_MAX_WORDS]; /* assignments: the job's own, and room for one */
     uint8_t out[MAX_LINE];
     uint64_t last[6], said; /* last: the refusal, its place, and the value, moves or rows; then what else was answered */
 } w;
-static uint8_t text[1 << 18], names[1 << 12], values[1 << 12];
-static size_t text_len, names_len, values_len;
+static uint8_t text[1 << 18], names[1 << 12], values[OFFERS][1 << 12]; /* a line of values for each offer; most jobs make one */
+static size_t text_len, names_len, values_len[OFFERS];
 static uint64_t step; /* from one clause written to the next */
 
 #define SLICE(array) array, sizeof(array) / sizeof *(array)
-#define STORE w.n, w.m, w.rows, 1, SLICE(w.literals), SLICE(w.ends), SLICE(w.images)
+#define STORE w.n, w.m, w.rows, 1, SLICE(w.literals), SLICE(w.ends), SLICE(w.keys), SLICE(w.images)
 
 static void say(const uint64_t x[6])
 {
@@ -61,8 +62,19 @@ static void say_descent(symbreak_descent x) { say((uint64_t[6]){x.refusal, x.pla
 
 /* What the jobs do. */
 
-static void open(const calls *c) { say_stored(c->open(0, 0, 0, 0, text, text_len, SLICE(w.literals), SLICE(w.ends))); }
-static void offer(const calls *c) { say_stored(c->offer(STORE, names, names_len, values, values_len)); }
+static void open(const calls *c) { say_stored(c->open(0, 0, 0, 0, text, text_len, SLICE(w.literals), SLICE(w.ends), SLICE(w.keys))); }
+static void offer(const calls *c) { say_stored(c->offer(STORE, names, names_len, values[0], values_len[0])); }
+
+/* All offers, one after another, from no row on. */
+static void start_up(const calls *c)
+{
+    w.rows = 0;
+    for (int k = 0; k < OFFERS; k++) {
+        symbreak_stored held = c->offer(STORE, names, names_len, values[k], values_len[k]);
+        say_stored(held);
+        w.rows = held.rows;
+    }
+}
 
 static void withdraw(const calls *c) { say_stored(c->withdraw(STORE)); }
 
@@ -119,6 +131,25 @@ static unsigned shifted(unsigned code, unsigned by) { return (code / 2 - 1 + by)
 
 static void set(uint64_t *a, unsigned i) { a[i / 64] |= 1ull << (63 - i % 64); }
 
+/* With a remark above each clause, as an editor writes it, or without. */
+static void write_text(int remarks)
+{
+    uint8_t *end = text + sprintf((char *)text, "p cnf %d %d\n", (int)w.n, (int)w.m);
+    for (unsigned c = 0, i = 0; c < w.m; c++) {
+        if (remarks) end += sprintf((char *)end, "c bracket %u, seat %u\n", c / 8, c % 8);
+        for (; i < w.ends[c]; i++) end = plain_put(end, w.literals[i] % 2 ? -(w.literals[i] / 2) : w.literals[i] / 2, ' ');
+        end = plain_put(end, 0, '\n');
+    }
+    text_len = (size_t)(end - text);
+}
+
+/* What opening the formula writes: the same literals and ends, and the keys. */
+static void write_keys(void)
+{
+    write_text(0);
+    plain_open(0, 0, 0, 0, text, text_len, SLICE(w.literals), SLICE(w.ends), SLICE(w.keys));
+}
+
 /* m clauses of three literals, closed under the shift of all variables by one, in any order: m / n of them, drawn by chance, with all their shifts. Two
    literals of one sign stand for variables with a distance of 2 modulo 4, so that the assignment 00110011.. makes every clause true. */
 static void closed_formula(unsigned n, unsigned m)
@@ -148,6 +179,7 @@ static void closed_formula(unsigned n, unsigned m)
     }
     for (unsigned i = 0; i < n; i++)
         if (i % 4 >= 2) set(w.a, i);
+    write_keys();
 }
 
 /* Rows that move all variables and leave the assignment 00110011.. as it is: shifts by 4, 8, .. */
@@ -158,28 +190,17 @@ static void full_rows(unsigned rows)
         for (unsigned i = 0; i < w.n; i++) w.images[r * w.n + i] = (uint16_t)shifted(2 * (i + 1), 4 * (r + 1));
 }
 
-/* With a remark above each clause, as an editor writes it, or without. */
-static void write_text(int remarks)
+/* Offers of the shifts by one, by two and so on. */
+static void write_offers(unsigned count)
 {
-    uint8_t *end = text + sprintf((char *)text, "p cnf %d %d\n", (int)w.n, (int)w.m);
-    for (unsigned c = 0, i = 0; c < w.m; c++) {
-        if (remarks) end += sprintf((char *)end, "c bracket %u, seat %u\n", c / 8, c % 8);
-        for (; i < w.ends[c]; i++) end = plain_put(end, w.literals[i] % 2 ? -(w.literals[i] / 2) : w.literals[i] / 2, ' ');
-        end = plain_put(end, 0, '\n');
-    }
-    text_len = (size_t)(end - text);
-}
-
-/* The offer of the shift by one. */
-static void write_offer(void)
-{
-    uint8_t *name = names, *value = values;
-    for (unsigned i = 1; i <= w.n; i++) {
-        name = plain_put(name, (int)i, ' ');
-        value = plain_put(value, (int)(i % w.n + 1), ' ');
-    }
+    uint8_t *name = names;
+    for (unsigned i = 1; i <= w.n; i++) name = plain_put(name, (int)i, ' ');
     names_len = (size_t)(name - names);
-    values_len = (size_t)(value - values);
+    for (unsigned k = 0; k < count; k++) {
+        uint8_t *value = values[k];
+        for (unsigned i = 1; i <= w.n; i++) value = plain_put(value, (int)(shifted(2 * i, k + 1) / 2), ' ');
+        values_len[k] = (size_t)(value - values[k]);
+    }
 }
 
 /* Whether clause d is clause c shifted by one. */
@@ -200,13 +221,15 @@ static void spoil(unsigned c)
         if (d == other) other++, other += other == c;
         memcpy(w.literals + 3 * d, w.literals + 3 * other, 3 * sizeof *w.literals);
     }
+    write_keys();
 }
 
 static void to_open(unsigned n, unsigned m, unsigned rows) { closed_formula(n, m), full_rows(rows), write_text(0), memset(&w, 0, sizeof w); }
 static void to_open_remarked(unsigned n, unsigned m, unsigned rows) { closed_formula(n, m), full_rows(rows), write_text(1), memset(&w, 0, sizeof w); }
-static void to_offer(unsigned n, unsigned m, unsigned rows) { closed_formula(n, m), full_rows(rows - 1), write_offer(); }
+static void to_offer(unsigned n, unsigned m, unsigned rows) { closed_formula(n, m), full_rows(rows - 1), write_offers(1); }
 static void to_refuse_last(unsigned n, unsigned m, unsigned rows) { to_offer(n, m, rows), spoil(m - 1); }
 static void to_refuse_first(unsigned n, unsigned m, unsigned rows) { to_offer(n, m, rows), spoil(0); }
+static void to_start_up(unsigned n, unsigned m, unsigned rows) { closed_formula(n, m), write_offers(rows); }
 static void to_write(unsigned n, unsigned m, unsigned rows) { closed_formula(n, m), full_rows(rows), step = rows > 1 ? 500 : 1; }
 static void to_check(unsigned n, unsigned m, unsigned rows) { closed_formula(n, m), full_rows(rows), fill_in(&plain), w.said = 0; }
 
@@ -218,6 +241,7 @@ static void to_write_long(unsigned n, unsigned m, unsigned rows)
     w.rows = rows;
     w.ends[0] = MAX_L;
     for (unsigned i = 0; i < MAX_L; i++) w.literals[i] = (uint16_t)(2 + chance(2 * n));
+    write_keys();
 }
 
 static void unmoved_rows(unsigned n, unsigned rows)
@@ -306,6 +330,7 @@ static const job jobs[] = {
     {"offer accepted, the same formula, row 64", to_offer, offer, 512, 4096, 64, 0, 64},
     {"offer refused at clause 4,096", to_refuse_last, offer, 512, 4096, 64, SYMBREAK_NO_SYMMETRY, 4096},
     {"offer refused at clause 1", to_refuse_first, offer, 512, 4096, 64, SYMBREAK_NO_SYMMETRY, 1},
+    {"start-up: forty offers accepted, the same formula, rows 1 to 40", to_start_up, start_up, 512, 4096, OFFERS, 0, OFFERS},
     {"withdraw, the same formula, 64 full rows", to_write, withdraw, 512, 4096, 64, 0, 63},
     {"header and every 500th clause of 200,320, 64 full rows", to_write, write, 512, 4096, 64, 0, 25},
     {"header and 3,066 clauses, 1 full row, no plain clauses", to_write, write, 512, 0, 1, 0, 15},

@@ -4,13 +4,16 @@
 
 #include <string.h>
 
+#include "numbers.h"
+
 enum { MAX_N = SYMBREAK_MAX_VARIABLES, MAX_M = SYMBREAK_MAX_CLAUSES, MAX_L = SYMBREAK_MAX_LITERALS, MAX_ROWS = SYMBREAK_MAX_ROWS };
+enum { CODES = 2 * MAX_N + 2 }; /* codes are below this */
 
 /* The store as the calls are lent it. */
 #define RECORD uint64_t n, uint64_t m, uint64_t rows, uint64_t is_open
-#define FORMULA const uint16_t *literals, size_t literals_len, const uint16_t *ends, size_t ends_len
+#define FORMULA const uint16_t *literals, size_t literals_len, const uint16_t *ends, size_t ends_len, const uint64_t *keys, size_t keys_len
 #define IMAGES const uint16_t *images, size_t images_len
-#define LENT n, m, rows, is_open, literals, literals_len, ends, ends_len, images, images_len
+#define LENT n, m, rows, is_open, literals, literals_len, ends, ends_len, keys, keys_len, images, images_len
 
 /* From a call that may change the store: with the record as it was lent. */
 #define REFUSE(number, where) return (symbreak_stored){number, where, n, m, rows, is_open != 0}
@@ -18,32 +21,65 @@ enum { MAX_N = SYMBREAK_MAX_VARIABLES, MAX_M = SYMBREAK_MAX_CLAUSES, MAX_L = SYM
 static symbreak_answer answer(uint64_t value) { return (symbreak_answer){0, 0, value}; }
 static symbreak_answer refused(uint32_t refusal, uint64_t place) { return (symbreak_answer){refusal, place, 0}; }
 
-/* Refusal 20 or 21, or 0; then moved[r] is the count of variables that row r moves. A row is a permutation if no code comes twice: seen holds, for each
-   variable, the number of the last row that had it, so that it need not be cleared between rows. */
-static uint32_t fault(RECORD, FORMULA, IMAGES, uint16_t moved[MAX_ROWS])
+/* Refusal 20 or 21, or 0; then moved[r] is the count of variables that row r moves, and an index that is lent is made. A clause's literals are marked with its
+   number, so that one that comes twice counts once and marks need not be cleared between clauses. A row is a permutation if no code comes twice: seen has, for
+   each variable's code, how many rows had it, so that it need not be cleared either; other codes have a count that no row has. */
+static inline __attribute__((always_inline)) uint32_t tested(RECORD, FORMULA, IMAGES, uint16_t moved[MAX_ROWS], plain_index *index)
 {
-    uint8_t seen[MAX_N] = {0};
-    uint32_t last = 0;
+    uint16_t marks[CODES] = {0};
+    uint8_t seen[CODES];
+    size_t i = 0;
     if (!is_open) return SYMBREAK_NOT_OPEN;
-    if (n > MAX_N || m > MAX_M || rows > MAX_ROWS || ends_len < m || images_len < rows * n) return SYMBREAK_BADLY_FORMED;
+    if (n > MAX_N || m > MAX_M || rows > MAX_ROWS || ends_len < m || keys_len < m || images_len < rows * n) return SYMBREAK_BADLY_FORMED;
+    if (literals_len > MAX_L) literals_len = MAX_L;
+    if (index) memset(index->heads, 0, sizeof index->heads);
     for (size_t c = 0; c < m; c++) {
-        if (ends[c] < last) return SYMBREAK_BADLY_FORMED;
-        last = ends[c];
+        uint16_t number = (uint16_t)(c + 1);
+        uint64_t key = 0;
+        size_t end = ends[c], size = end - i;
+        if (end < i || end > literals_len) return SYMBREAK_BADLY_FORMED;
+        for (; i < end; i++) {
+            size_t code = literals[i];
+            if (code - 2 >= 2 * n) return SYMBREAK_BADLY_FORMED;
+            if (marks[code] == number) {
+                size--;
+                continue;
+            }
+            marks[code] = number;
+            key += numbers[code - 2];
+        }
+        if (keys[c] != key) return SYMBREAK_BADLY_FORMED;
+        if (index) {
+            uint16_t *head = index->heads + key % PLAIN_SLOTS;
+            index->sizes[c] = (uint16_t)size;
+            index->nexts[c] = *head;
+            *head = number;
+        }
     }
-    if (last > literals_len || last > MAX_L) return SYMBREAK_BADLY_FORMED;
-    for (size_t i = 0; i < last; i++)
-        if (literals[i] - 2u >= 2 * n) return SYMBREAK_BADLY_FORMED;
+    memset(seen, 255, sizeof seen);
+    for (size_t v = 1; v <= n; v++) seen[2 * v] = 0;
     for (size_t r = 0; r < rows; r++, images += n) {
-        unsigned k = 0;
-        for (size_t i = 0; i < n; i++) {
-            unsigned code = images[i], v = code / 2 - 1;
-            if (code % 2 || v >= n || seen[v] == r + 1) return SYMBREAK_BADLY_FORMED;
-            seen[v] = (uint8_t)(r + 1);
-            k += v != i;
+        const uint16_t *image = images;
+        uint8_t before = (uint8_t)r;
+        size_t k = 0;
+        for (size_t own = 2; own <= 2 * n; own += 2) {
+            size_t code = *image++;
+            if (code >= CODES || seen[code] != before) return SYMBREAK_BADLY_FORMED;
+            seen[code] = (uint8_t)(before + 1);
+            k += code != own;
         }
         moved[r] = (uint16_t)k;
     }
     return 0;
+}
+
+/* It is compiled twice: for calls that need no index, and for those that do. */
+static uint32_t fault(RECORD, FORMULA, IMAGES, uint16_t moved[MAX_ROWS]) { return tested(LENT, moved, 0); }
+
+uint32_t plain_make_index(RECORD, FORMULA, IMAGES, plain_index *index)
+{
+    uint16_t moved[MAX_ROWS];
+    return tested(LENT, moved, index);
 }
 
 unsigned plain_moved(const uint16_t *row, uint64_t n)
@@ -117,9 +153,10 @@ static int problem_line(reader *in, int *n, int *m)
 }
 
 /* A text is read once, into arrays of the call's own, since a refusal may come as late as its last word. */
-symbreak_stored plain_open(RECORD, const uint8_t *text, size_t text_len, uint16_t *literals, size_t literals_len, uint16_t *ends, size_t ends_len)
+symbreak_stored plain_open(RECORD, const uint8_t *text, size_t text_len, uint16_t *literals, size_t literals_len, uint16_t *ends, size_t ends_len,
+                           uint64_t *keys, size_t keys_len)
 {
-    uint16_t codes[MAX_L], closes[MAX_M];
+    uint16_t codes[MAX_L], closes[MAX_M], marks[CODES] = {0};
     reader in = {text, 0, text_len, 0};
     int variables = 0, clauses = 0, closed = 0, count = 0, v, kind;
     while (in.at < text_len && text[in.at] == 'c') in.at = line_end(text, in.at, text_len) + 1;
@@ -148,6 +185,18 @@ symbreak_stored plain_open(RECORD, const uint8_t *text, size_t text_len, uint16_
     if (closed < clauses) REFUSE(SYMBREAK_CLAUSE_COUNT, text_len);
     if (literals_len < (size_t)count) REFUSE(SYMBREAK_TOO_SHORT, (uint64_t)count);
     if (ends_len < (size_t)clauses) REFUSE(SYMBREAK_TOO_SHORT, (uint64_t)clauses);
+    if (keys_len < (size_t)clauses) REFUSE(SYMBREAK_TOO_SHORT, (uint64_t)clauses);
+    for (size_t c = 0, i = 0; c < (size_t)clauses; c++) {
+        uint16_t number = (uint16_t)(c + 1);
+        uint64_t key = 0;
+        for (size_t end = closes[c]; i < end; i++) {
+            size_t code = codes[i];
+            if (marks[code] == number) continue;
+            marks[code] = number;
+            key += numbers[code - 2];
+        }
+        keys[c] = key;
+    }
     if (count) memcpy(literals, codes, (size_t)count * sizeof *codes);
     if (clauses) memcpy(ends, closes, (size_t)clauses * sizeof *closes);
     return (symbreak_stored){0, 0, (uint64_t)variables, (uint64_t)clauses, 0, 1};
@@ -155,64 +204,39 @@ symbreak_stored plain_open(RECORD, const uint8_t *text, size_t text_len, uint16_
 
 /* Offers. */
 
-/* A number for each code, so that the sum over a clause's different literals hardly ever agrees for two clauses. */
-static uint32_t mix(uint32_t code)
+/* The number of the first clause whose image under the row is no clause, or 0. An image's literals are marked with the clause's number; a clause with the
+   image's key is the image as a set if it has as many different literals and all of them are marked. It is not inlined, so that registers suffice for the loop. */
+static __attribute__((noinline)) uint64_t first_missing(uint64_t n, uint64_t m, const uint16_t *literals, const uint16_t *ends, const uint64_t *keys,
+                                                        const plain_index *index, const uint16_t *row)
 {
-    code *= 0x9E3779B1;
-    code ^= code >> 15;
-    code *= 0x85EBCA77;
-    return code ^ code >> 13;
-}
-
-typedef struct {
-    uint32_t key;
-    uint16_t size; /* the count of different literals */
-} digest;
-
-/* Marks the codes of a clause, or with a row of its image, with a stamp that no clause before had. */
-static digest mark(const uint16_t *codes, size_t count, const uint16_t *row, uint16_t stamp, uint16_t marks[2 * MAX_N + 2])
-{
-    digest d = {0, 0};
-    for (size_t i = 0; i < count; i++) {
-        unsigned code = row ? row[codes[i] / 2 - 1] + codes[i] % 2u : codes[i];
-        if (marks[code] == stamp) continue;
-        marks[code] = stamp;
-        d.key += mix(code);
-        d.size++;
+    uint16_t image[CODES], marks[CODES] = {0};
+    for (size_t v = 1; v <= n; v++) {
+        image[2 * v] = row[v - 1];
+        image[2 * v + 1] = row[v - 1] + 1;
     }
-    return d;
-}
-
-/* The number of the first clause whose image under the row is no clause, or 0. Clauses stand in a hash table by the sum of their literals' mixes; a candidate
-   is the image as a set if it has as many different literals and all of them are marked. */
-static uint64_t first_missing(uint64_t m, const uint16_t *literals, const uint16_t *ends, const uint16_t *row)
-{
-    enum { SLOTS = 2 * MAX_M };
-    uint16_t table[SLOTS] = {0}, marks[2 * MAX_N + 2] = {0};
-    digest digests[MAX_M];
-    for (size_t c = 0, begin = 0; c < m; begin = ends[c++]) {
-        digests[c] = mark(literals + begin, ends[c] - begin, 0, (uint16_t)(c + 1), marks);
-        size_t slot = digests[c].key % SLOTS;
-        while (table[slot]) slot = (slot + 1) % SLOTS;
-        table[slot] = (uint16_t)(c + 1);
-    }
-    for (size_t c = 0, begin = 0; c < m; begin = ends[c++]) {
-        uint16_t stamp = (uint16_t)(MAX_M + c + 1);
-        digest d = mark(literals + begin, ends[c] - begin, row, stamp, marks);
-        size_t slot, other;
-        for (slot = d.key % SLOTS; (other = table[slot]); slot = (slot + 1) % SLOTS) {
-            if (digests[other - 1].key != d.key || digests[other - 1].size != d.size) continue;
-            size_t i = other > 1 ? ends[other - 2] : 0;
-            while (i < ends[other - 1] && marks[literals[i]] == stamp) i++;
-            if (i == ends[other - 1]) break;
+    for (size_t c = 0, i = 0; c < m; c++) {
+        uint16_t number = (uint16_t)(c + 1);
+        uint64_t key = 0;
+        size_t end = ends[c], other;
+        for (; i < end; i++) {
+            size_t code = image[literals[i]];
+            if (marks[code] == number) continue;
+            marks[code] = number;
+            key += numbers[code - 2];
+        }
+        for (other = index->heads[key % PLAIN_SLOTS]; other; other = index->nexts[other - 1]) {
+            if (keys[other - 1] != key || index->sizes[other - 1] != index->sizes[c]) continue;
+            size_t j = other > 1 ? ends[other - 2] : 0, close = ends[other - 1];
+            while (j < close && marks[literals[j]] == number) j++;
+            if (j == close) break;
         }
         if (!other) return c + 1;
     }
     return 0;
 }
 
-symbreak_stored plain_offer_untested(RECORD, FORMULA, uint16_t *images, size_t images_len, const uint8_t *names, size_t names_len, const uint8_t *values,
-                                     size_t values_len)
+symbreak_stored plain_offer_indexed(RECORD, FORMULA, uint16_t *images, size_t images_len, const uint8_t *names, size_t names_len, const uint8_t *values,
+                                    size_t values_len, const plain_index *index)
 {
     enum { NO_NAME, NAME, TAKEN };
     uint16_t row[MAX_N], name[MAX_N];
@@ -221,7 +245,7 @@ symbreak_stored plain_offer_untested(RECORD, FORMULA, uint16_t *images, size_t i
     int v, kind;
     size_t count = 0, taken = 0, bad = SIZE_MAX; /* bad: the first word that offends, where none is no number */
     uint64_t missing, needed = (rows + 1) * n;
-    (void)literals_len, (void)ends_len;
+    (void)literals_len, (void)ends_len, (void)keys_len;
     if (rows == MAX_ROWS) REFUSE(SYMBREAK_ROWS_FULL, 0);
     while ((kind = next(&in, &v)) == NUMBER) {
         if (bad != SIZE_MAX) continue;
@@ -247,7 +271,7 @@ symbreak_stored plain_offer_untested(RECORD, FORMULA, uint16_t *images, size_t i
     }
     if (kind == OTHER) REFUSE(SYMBREAK_VALUE_NOT_NUMBER, in.start);
     if (bad != SIZE_MAX || taken < count) REFUSE(SYMBREAK_BAD_VALUE, bad != SIZE_MAX ? bad : values_len);
-    missing = first_missing(m, literals, ends, row);
+    missing = first_missing(n, m, literals, ends, keys, index, row);
     if (missing) REFUSE(SYMBREAK_NO_SYMMETRY, missing);
     if (images_len < needed) REFUSE(SYMBREAK_TOO_SHORT, needed);
     memcpy(images + rows * n, row, n * sizeof *row);
@@ -257,10 +281,10 @@ symbreak_stored plain_offer_untested(RECORD, FORMULA, uint16_t *images, size_t i
 symbreak_stored plain_offer(RECORD, FORMULA, uint16_t *images, size_t images_len, const uint8_t *names, size_t names_len, const uint8_t *values,
                             size_t values_len)
 {
-    uint16_t moved[MAX_ROWS];
-    uint32_t refusal = fault(LENT, moved);
+    plain_index index;
+    uint32_t refusal = plain_make_index(LENT, &index);
     if (refusal) REFUSE(refusal, 0);
-    return plain_offer_untested(LENT, names, names_len, values, values_len);
+    return plain_offer_indexed(LENT, names, names_len, values, values_len, &index);
 }
 
 symbreak_stored plain_withdraw(RECORD, FORMULA, IMAGES)

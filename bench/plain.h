@@ -20,8 +20,22 @@ __typeof__(symbreak_descend) plain_descend_noting;
 
 /* What program.c takes beside them: it keeps its own store, so that nobody has to test it again, and writes pages. */
 
-/* An offer to an open store known to be well formed: refusals 22, 7 to 11, 23. */
-__typeof__(symbreak_offer) plain_offer_untested;
+/* What offers find a formula's clauses by. Those whose keys have the same low bits are in a chain, by their numbers from 1, with 0 for its end. There are many
+   chains, so that few have a second clause: a step along a chain is hard for the processor to foresee. */
+enum { PLAIN_SLOTS = 4 * SYMBREAK_MAX_CLAUSES };
+typedef struct {
+    uint16_t heads[PLAIN_SLOTS], nexts[SYMBREAK_MAX_CLAUSES];
+    uint16_t sizes[SYMBREAK_MAX_CLAUSES]; /* the count of different literals in each clause */
+} plain_index;
+
+/* Makes the index of a store, which serves until the next opening, and tests the store on the way: refusals 20 and 21, or 0. */
+uint32_t plain_make_index(uint64_t n, uint64_t m, uint64_t rows, uint64_t is_open, const uint16_t *literals, size_t literals_len, const uint16_t *ends,
+                          size_t ends_len, const uint64_t *keys, size_t keys_len, const uint16_t *images, size_t images_len, plain_index *index);
+
+/* An offer to an open store known to be well formed, with its index: refusals 22, 7 to 11, 23. */
+symbreak_stored plain_offer_indexed(uint64_t n, uint64_t m, uint64_t rows, uint64_t is_open, const uint16_t *literals, size_t literals_len,
+                                    const uint16_t *ends, size_t ends_len, const uint64_t *keys, size_t keys_len, uint16_t *images, size_t images_len,
+                                    const uint8_t *names, size_t names_len, const uint8_t *values, size_t values_len, const plain_index *index);
 
 /* The count of variables that a row of n codes moves. */
 unsigned plain_moved(const uint16_t *row, uint64_t n);

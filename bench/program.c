@@ -10,6 +10,8 @@ enum { MAX_N = SYMBREAK_MAX_VARIABLES, MAX_IN = 65536 };
 
 static uint8_t in[MAX_IN + 1], out[1 << 16], *end = out;
 static uint16_t literals[SYMBREAK_MAX_LITERALS], ends[SYMBREAK_MAX_CLAUSES], images[SYMBREAK_MAX_ROWS * MAX_N];
+static uint64_t keys[SYMBREAK_MAX_CLAUSES];
+static plain_index by_key;
 
 #define SLICE(array) array, sizeof(array) / sizeof *(array)
 
@@ -71,14 +73,15 @@ int main(void)
         if (stop == at + 1 && in[at] == '%') break;
     }
     if (at >= size) refuse(15, 0);
-    store = plain_open(0, 0, 0, 0, in, at, SLICE(literals), SLICE(ends));
+    store = plain_open(0, 0, 0, 0, in, at, SLICE(literals), SLICE(ends), SLICE(keys));
     if (store.refusal) refuse(store.refusal, store.place);
+    plain_make_index(store.variables, store.clauses, store.rows, 1, SLICE(literals), SLICE(ends), SLICE(keys), SLICE(images), &by_key);
     names = stop + 1;
     names_end = names < size ? line_end(names, size) : names;
     for (at = names_end + 1; at < size; at = stop + 1) {
         stop = line_end(at, size);
-        store = plain_offer_untested(store.variables, store.clauses, store.rows, 1, SLICE(literals), SLICE(ends), SLICE(images), in + names,
-                                     names_end - names, in + at, stop - at);
+        store = plain_offer_indexed(store.variables, store.clauses, store.rows, 1, SLICE(literals), SLICE(ends), SLICE(keys), SLICE(images), in + names,
+                                    names_end - names, in + at, stop - at, &by_key);
         if (store.refusal) refuse(store.refusal, store.place);
     }
     int n = (int)store.variables, m = (int)store.clauses, sum = 0, last = n;

@@ -27,9 +27,10 @@ pub fn print(input: &[u8]) -> Handed
 {
     let mut literals = [0u16; Record::MAX_LITERALS];
     let mut ends = [0u16; Record::MAX_CLAUSES];
+    let mut keys = [0u64; Record::MAX_CLAUSES];
     let mut images = [0u16; Record::MAX_ROWS * Record::MAX_VARIABLES];
     let mut out = [0u8; PAGE];
-    let begun = program::begin(input, &mut literals, &mut ends, &mut images);
+    let begun = program::begin(input, &mut literals, &mut ends, &mut keys, &mut images);
     let stage = begun.stage;
     let counts = begun.counts;
     print_from(input, stage, counts, &literals, &ends, &images, &mut out)

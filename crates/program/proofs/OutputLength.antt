@@ -8,6 +8,8 @@ use native.Mathlib.Omega.{arith}
 use lib.ListN.{length, length-append}
 use Rattle.store.specs.Refusals.{Said, done, refused}
 use Rattle.store.specs.Stores.{Store, isFormed}
+use Rattle.standing.specs.Keyed.{Keyed}
+use Rattle.standing.proofs.StandingLaws.{its-form}
 use Rattle.lexleader.specs.Store.{madeOf, clausesOf}
 use Rattle.lexleader.proofs.StoreBounds.{clauses-most}
 use Rattle.render.specs.Text.{clauseLine}
@@ -39,10 +41,10 @@ text-length s e =
     )
 
 -- for every input, in every store
-pub output-length : (s : Store) (input : List ℕ) → length (outputOf s input) ≤ maxOutput
+pub output-length : (s : Keyed) (input : List ℕ) → length (outputOf s input) ≤ maxOutput
 unfolding outputOf
 output-length s input = by (sessionOf s input .said) refl
   where
-    by : (said : Said Accepted) → sessionOf s input .said ≡ said → length (printedBy said (sessionOf s input .store)) ≤ maxOutput
-    by (done accepted) e = text-length (sessionOf s input .store) (ready-formed s input e .formed)
+    by : (said : Said Accepted) → sessionOf s input .said ≡ said → length (printedBy said (sessionOf s input .store .store)) ≤ maxOutput
+    by (done accepted) e = text-length (sessionOf s input .store .store) (its-form _ (ready-formed s input e .formed))
     by (refused number place) e = omega (arith, length-refusal number place, digits-most number, digits-most place)

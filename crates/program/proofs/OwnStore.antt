@@ -15,7 +15,7 @@ long : (n : ℕ) → n ≤ length {A = ℕ} (replicate n 0)
 long n = subst (λ (k : ℕ). n ≤ k) (sym (length-replicate n 0)) (omega arith)
 
 fresh-ample : Ample freshStore
-fresh-ample = record { literals = long maxLiterals; ends = long maxClauses; images = long (maxRows * maxVariables) }
+fresh-ample = record { literals = long maxLiterals; ends = long maxClauses; keys = long maxClauses; images = long (maxRows * maxVariables) }
 
 -- The program prints no 20, 21 or 23.
 pub program-refuses : (input : List ℕ) (number place : ℕ) → sessionOf freshStore input .said ≡ refused number place → FromInput number

@@ -10,6 +10,7 @@ use lib.Seq.{take-append-seam, drop-append-seam, length-take-le}
 use Rattle.store.specs.Refusals.{numberOf, placeOf}
 use Rattle.store.specs.Stores.{Store, isFormed}
 use Rattle.store.specs.declared.refusal.Refusal.{Refusal}
+use Rattle.standing.specs.Keyed.{Keyed}
 use Rattle.render.specs.Text.{refusalLine, headerLine, writtenAt}
 use Rattle.render.proofs.Writing.{length-written}
 use Rattle.render.proofs.LineLaws.{length-header, length-refusal}
@@ -98,15 +99,15 @@ step-less {s} {stage} {next} {out} {after} {bytes} g some =
 
 -- ---- the first stage
 
-module _ (s t : Store) (input : List ℕ) (answer : Answer) (is : ended (saidAnswer answer) t ≡ sessionOf s input) where
-  printed : printedBy (saidAnswer answer) t ≡ outputOf s input
+module _ (s t : Keyed) (input : List ℕ) (answer : Answer) (is : ended (saidAnswer answer) t ≡ sessionOf s input) where
+  printed : printedBy (saidAnswer answer) (t .store) ≡ outputOf s input
   unfolding outputOf
-  printed = ap (λ (e : Ended). printedBy (e .said) (e .store)) is
+  printed = ap (λ (e : Ended). printedBy (e .said) (e .store .store)) is
 
-  pub begins-ready : answer ≡ Answer.Ready → leftToPrint Stage.Header t ≡ outputOf s input
+  pub begins-ready : answer ≡ Answer.Ready → leftToPrint Stage.Header (t .store) ≡ outputOf s input
   unfolding leftToPrint
-  begins-ready e = sym (ap (λ (a : Answer). printedBy (saidAnswer a) t) e) ∙ printed
+  begins-ready e = sym (ap (λ (a : Answer). printedBy (saidAnswer a) (t .store)) e) ∙ printed
 
-  pub begins-refused : (refusal : Refusal) → answer ≡ Answer.Refused refusal → leftToPrint (Stage.Refused refusal) t ≡ outputOf s input
+  pub begins-refused : (refusal : Refusal) → answer ≡ Answer.Refused refusal → leftToPrint (Stage.Refused refusal) (t .store) ≡ outputOf s input
   unfolding leftToPrint
-  begins-refused refusal e = sym (ap (λ (a : Answer). printedBy (saidAnswer a) t) e) ∙ printed
+  begins-refused refusal e = sym (ap (λ (a : Answer). printedBy (saidAnswer a) (t .store)) e) ∙ printed

@@ -7,6 +7,7 @@ use mathlib.Core.List.{List, [], _++_}
 use lib.ListN.{length, take, drop, replicate}
 use Rattle.store.specs.Refusals.{Said, done, refused, numberOf, placeOf}
 use Rattle.store.specs.Stores.{Store, lent, closedRecord, isFormed, maxVariables, maxClauses, maxLiterals, maxRows}
+use Rattle.standing.specs.Keyed.{Keyed, withKeys}
 use Rattle.render.specs.Text.{refusalLine}
 use Rattle.lexleader.specs.Bounds.{maxMadeClauses}
 use Rattle.emit.specs.Emit.{linesOf, textOf, maxHeader, maxLine}
@@ -20,12 +21,13 @@ printedBy (done a) s = textOf s
 printedBy (refused number place) s = refusalLine number place
 
 -- the program's output for an input, where it works in a store s: its own slices, and a closed record
-unfoldable pub outputOf : Store → List ℕ → List ℕ
-outputOf s input = printedBy (sessionOf s input .said) (sessionOf s input .store)
+unfoldable pub outputOf : Keyed → List ℕ → List ℕ
+outputOf s input = printedBy (sessionOf s input .said) (sessionOf s input .store .store)
 
 -- the store that the program works in: a new record, and slices of zeros as long as the limits
-abbrev pub freshStore : Store
-freshStore = lent closedRecord (replicate maxLiterals 0) (replicate maxClauses 0) (replicate (maxRows * maxVariables) 0)
+abbrev pub freshStore : Keyed
+freshStore =
+    withKeys (lent closedRecord (replicate maxLiterals 0) (replicate maxClauses 0) (replicate (maxRows * maxVariables) 0)) (replicate maxClauses 0)
 
 -- no output is longer: a header, and as many of the longest lines as a made formula has clauses. It is generous: that there is a bound is what matters.
 abbrev pub maxOutput : ℕ

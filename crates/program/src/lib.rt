@@ -8,6 +8,7 @@ ghost use mathlib.Core.Path.{_≡_};
 ghost use Prim.Native.Nat.{_≤_};
 ghost use lib.ListN.{length};
 ghost use Rattle.store.specs.Stores.{Store, stored, closedRecord};
+ghost use Rattle.standing.specs.Keyed.{keyed};
 ghost use Rattle.emit.specs.Emit.{maxLine};
 ghost use Rattle.session.specs.Session.{sessionOf};
 ghost use Rattle.program.specs.Program.{outputOf, leftToPrint, StageStands, PageStep};
@@ -33,14 +34,20 @@ pub struct Printed {
 }
 
 // Opens and offers what an input states, in lent slices of any contents.
-pub fn begin(input: &[u8], literals: &mut [u16], ends: &mut [u16], images: &mut [u16]) -> Begun
-    ensures output { λ r. let s = stored closedRecord (literals .entry) (ends .entry) (images .entry) in
+pub fn begin(
+    input: &[u8],
+    literals: &mut [u16],
+    ends: &mut [u16],
+    keys: &mut [u64],
+    images: &mut [u16],
+) -> Begun
+    ensures output { λ r. let s = keyed closedRecord (literals .entry) (ends .entry) (keys .entry) (images .entry) in
         ⌜ leftToPrint (r .stage) (stored (r .counts) (literals .exit) (ends .exit) (images .exit)) ≡ outputOf s (now (input .entry)) ⌝ }
-    ensures store { λ r. let s = stored closedRecord (literals .entry) (ends .entry) (images .entry) in
-        ⌜ stored (r .counts) (literals .exit) (ends .exit) (images .exit) ≡ sessionOf s (now (input .entry)) .store ⌝ }
+    ensures store { λ r. let s = keyed closedRecord (literals .entry) (ends .entry) (keys .entry) (images .entry) in
+        ⌜ keyed (r .counts) (literals .exit) (ends .exit) (keys .exit) (images .exit) ≡ sessionOf s (now (input .entry)) .store ⌝ }
     ensures stands { λ r. ⌜ StageStands (r .stage) (stored (r .counts) (literals .exit) (ends .exit) (images .exit)) ⌝ }
 {
-    let ended = session::run(input, literals, ends, images);
+    let ended = session::run(input, literals, ends, keys, images);
     let answer = ended.answer;
     let counts = ended.counts;
     match answer {

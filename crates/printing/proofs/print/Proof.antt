@@ -10,34 +10,14 @@ use Rattle.printing.proofs.print.Tie as tie
 room : {size length : ℕ} → size ≡ length → maxLine ≤ size → maxLine ≤ length
 room e h = subst (λ (n : ℕ). maxLine ≤ n) e h
 
-slice-aggregate-begin : tie.Need-slice-aggregate-begin
-slice-aggregate-begin c = search needs
-
-slice-aggregate-begin-2 : tie.Need-slice-aggregate-begin-2
-slice-aggregate-begin-2 c = search needs
-
-slice-aggregate-begin-3 : tie.Need-slice-aggregate-begin-3
-slice-aggregate-begin-3 c = search needs
-
-begin-requires : tie.Need-begin-requires
-begin-requires c κs = search needs
-
-slice-aggregate-print-from : tie.Need-slice-aggregate-print-from
-slice-aggregate-print-from c = search needs
-
-slice-aggregate-print-from-2 : tie.Need-slice-aggregate-print-from-2
-slice-aggregate-print-from-2 c = search needs
-
-slice-aggregate-print-from-3 : tie.Need-slice-aggregate-print-from-3
-slice-aggregate-print-from-3 c = search needs
-
-slice-aggregate-print-from-4 : tie.Need-slice-aggregate-print-from-4
-slice-aggregate-print-from-4 c = search needs
+-- the buffer's length
+long : tie.Need-slice-aggregate-print-from-4
+long c = search needs
 
 print-from-requires : tie.Need-print-from-requires
 print-from-requires c κs =
-    let b = c .before .before .before .before .before .before .before .before .begin .ensures in
-    (b .1 .1, b .0, room (slice-aggregate-print-from-4 c) (lit≤ tt))
+    let b = c .before .before .before .before .before .before .before .before .before .begin .ensures in
+    (b .1 .1, b .0, room (long c) (lit≤ tt))
 
 returns : tie.Need-returns
 returns c = c .before .print-from .ensures
@@ -45,5 +25,4 @@ returns c = c .before .print-from .ensures
 pub print-spec : {M : Type 1} → statement M
 print-spec =
     tie.close
-    (tie.spec slice-aggregate-begin slice-aggregate-begin-2 slice-aggregate-begin-3 begin-requires slice-aggregate-print-from
-    slice-aggregate-print-from-2 slice-aggregate-print-from-3 slice-aggregate-print-from-4 print-from-requires returns)
+    (tie.spec (search needs) (search needs) (search needs) (search needs) (search needs) (search needs) (search needs) (search needs) long print-from-requires returns)

@@ -20,7 +20,14 @@ fn main() {
 fn opened(name: &[u8], text: &[u8]) {
     let mut literals = [0u16; 8];
     let mut ends = [0u16; 8];
-    let r = calls::open(calls::new_record(), text, &mut literals, &mut ends);
+    let mut keys = [0u64; 8];
+    let r = calls::open(
+        calls::new_record(),
+        text,
+        &mut literals,
+        &mut ends,
+        &mut keys,
+    );
     let answer = r.answer;
     match answer {
         Opened::Open(_, _) => show(name, 0, 0),
@@ -32,16 +39,18 @@ fn opened(name: &[u8], text: &[u8]) {
 fn rows() {
     let mut literals = [0u16; 8];
     let mut ends = [0u16; 8];
+    let mut keys = [0u64; 8];
     let mut images = [0u16; 130];
     let r = calls::open(
         calls::new_record(),
         b"p cnf 2 1\n1 2 0\n",
         &mut literals,
         &mut ends,
+        &mut keys,
     );
-    let counts = offers(r.counts, 63, &literals, &ends, &mut images);
-    let full = offered(b"row 64: ", counts, &literals, &ends, &mut images);
-    held(offered(b"row 65: ", full, &literals, &ends, &mut images));
+    let counts = offers(r.counts, 63, &literals, &ends, &keys, &mut images);
+    let full = offered(b"row 64: ", counts, &literals, &ends, &keys, &mut images);
+    held(offered(b"row 65: ", full, &literals, &ends, &keys, &mut images));
 }
 
 // The record after some offers of the same exchange.
@@ -50,12 +59,13 @@ fn offers(
     some: usize,
     literals: &[u16],
     ends: &[u16],
+    keys: &[u64],
     images: &mut [u16],
 ) -> Record {
     let mut after = counts;
     let mut i = 0;
     while i < some {
-        let r = calls::offer(after, literals, ends, images, b"1 2", b"2 1");
+        let r = calls::offer(after, literals, ends, keys, images, b"1 2", b"2 1");
         after = r.counts;
         i += 1;
     }
@@ -67,9 +77,10 @@ fn offered(
     counts: Record,
     literals: &[u16],
     ends: &[u16],
+    keys: &[u64],
     images: &mut [u16],
 ) -> Record {
-    let r = calls::offer(counts, literals, ends, images, b"1 2", b"2 1");
+    let r = calls::offer(counts, literals, ends, keys, images, b"1 2", b"2 1");
     let answer = r.answer;
     match answer {
         Offered::Accepted => show(name, 0, 0),

@@ -7,10 +7,10 @@ use Rattle.cases.proofs.offers.Statement.{statement}
 use Rattle.cases.proofs.offers.Tie as tie
 
 abbrev Inv-loop : tie.InvT-loop
-Inv-loop some literals ends images₀ after₀ i₀ t9 t10 images after i = length images ≡ length images₀
+Inv-loop some literals ends keys images₀ after₀ i₀ t10 t11 images after i = length images ≡ length images₀
 
 abbrev μ-loop : tie.MeasureT-loop
-μ-loop some literals ends images₀ after₀ i₀ t9 t10 images after i = some - i
+μ-loop some literals ends keys images₀ after₀ i₀ t10 t11 images after i = some - i
 
 loop-holds : tie.Need-loop-holds Inv-loop μ-loop
 loop-holds c = refl

@@ -169,13 +169,13 @@ fn within_images(clause: &[u16], row: &[u16], other: &[u16]) -> bool
     requires { ⌜ Fitting (now clause) (now row) ⌝ }
     ensures { λ r. ⌜ r ≡ within (now (other .entry)) (clauseImage (now (row .entry)) (now (clause .entry))) ⌝ }
 {
-    let mut i = 0;
-    while i < other.len() {
-        let code = literal::wide(other[i]);
+    let mut j = 0;
+    while j < other.len() {
+        let code = literal::wide(other[j]);
         if !image_contains(clause, row, code) {
             return false;
         }
-        i += 1;
+        j += 1;
     }
     true
 }

@@ -30,12 +30,13 @@ key-is s =
 returns : tie.Need-returns
 returns c =
     let s = c .before .before .before .before .before .before .before in
-    sym (other-keys _ _ (λ e. c .if1 .taken (key-is s ∙ e ∙ sym (s .pre .0 .1))))
+    sym (other-keys _ _ (λ e. omega (arith, key-is s ∙ e ∙ sym (s .pre .0 .1), c .if1 .taken)))
 
 is-image-requires : tie.Need-is-image-requires
 is-image-requires c κs =
     let s = c .before .before .before .before .before .before .before .before in
-    (s .pre .0 .0, ap keyOf (c .clause .ensures) ∙ sym (key-is s) ∙ c .before .if1 .left ∙ s .pre .0 .1)
+    let agree : getD (s .args .keys .now) (s .args .c) 0 ≡ s .args .key = omega (arith, c .before .if1 .left) in
+    (s .pre .0 .0, ap keyOf (c .clause .ensures) ∙ sym (key-is s) ∙ agree ∙ s .pre .0 .1)
 
 returns-2 : tie.Need-returns-2
 returns-2 c = c .is-image .ensures ∙ ap (sameSet _) (c .before .clause .ensures)

@@ -13,15 +13,15 @@ use Rattle.symmetry.proofs.within_images.Statement.{statement}
 use Rattle.symmetry.proofs.within_images.Tie as tie
 
 abbrev Inv-loop : tie.InvT-loop
-Inv-loop clause row other i₀ i = within other (clauseImage row clause) ≡ allOf (has (clauseImage row clause)) (drop i other)
+Inv-loop clause row other j₀ j = within other (clauseImage row clause) ≡ allOf (has (clauseImage row clause)) (drop j other)
 
 abbrev μ-loop : tie.MeasureT-loop
-μ-loop clause row other i₀ i = length other - i
+μ-loop clause row other j₀ j = length other - j
 
--- what was looked for is the literal at i
+-- what was looked for is the literal at j
 tested : (c : tie.After-image-contains Inv-loop μ-loop) → let at = c .before .before .before .before in
     let a = at .before .before .before .before .args in
-    c .image-contains .result ≡ has (clauseImage (a .row .now) (a .clause .now)) (getD (a .other .now) (at .loop .i) 0)
+    c .image-contains .result ≡ has (clauseImage (a .row .now) (a .clause .now)) (getD (a .other .now) (at .loop .j) 0)
 tested c = c .image-contains .ensures ∙ ap (has _) (c .before .wide .ensures .0)
 
 loop-holds : tie.Need-loop-holds Inv-loop μ-loop
@@ -31,15 +31,15 @@ loop-holds c = refl
 returns : tie.Need-returns Inv-loop μ-loop
 returns c =
     let at = c .before .before .before .before .before in
-    sym (at .loop .inv ∙ all-drop-miss (has _) _ (at .loop .i) 0 (search needs) (sym (tested (c .before)) ∙ not-true _ (c .if1 .taken)))
+    sym (at .loop .inv ∙ all-drop-miss (has _) _ (at .loop .j) 0 (search needs) (sym (tested (c .before)) ∙ not-true _ (c .if1 .taken)))
 
 loop-again : tie.Need-loop-again Inv-loop μ-loop
 loop-again c =
     let at = c .before .before .before .before .before in
-    at .loop .inv ∙ all-drop-hit (has _) _ (at .loop .i) 0 (search needs) (sym (tested (c .before)) ∙ not-false _ (c .if1 .left))
+    at .loop .inv ∙ all-drop-hit (has _) _ (at .loop .j) 0 (search needs) (sym (tested (c .before)) ∙ not-false _ (c .if1 .left))
 
 returns-2 : tie.Need-returns-2 Inv-loop μ-loop
-returns-2 c = let at = c .before in sym (at .loop .inv ∙ all-drop-end (has _) _ (at .loop .i) (search needs))
+returns-2 c = let at = c .before in sym (at .loop .inv ∙ all-drop-end (has _) _ (at .loop .j) (search needs))
 
 pub within-images-spec : {M : Type 1} → statement M
 within-images-spec =

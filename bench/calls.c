@@ -143,7 +143,7 @@ static void write_text(int remarks)
     text_len = (size_t)(end - text);
 }
 
-/* What opening the formula writes: the same literals and ends, and the keys. */
+/* Opens the formula as it stands: that writes its keys, and the literals and ends that are there. */
 static void write_keys(void)
 {
     write_text(0);

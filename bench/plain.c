@@ -205,7 +205,7 @@ symbreak_stored plain_open(RECORD, const uint8_t *text, size_t text_len, uint16_
 /* Offers. */
 
 /* The number of the first clause whose image under the row is no clause, or 0. An image's literals are marked with the clause's number; a clause with the
-   image's key is the image as a set if it has as many different literals and all of them are marked. It is not inlined, so that registers suffice for the loop. */
+   image's key is the image as a set if it has as many different literals and all of them are marked. Not inlined, so that registers suffice for the loop. */
 static __attribute__((noinline)) uint64_t first_missing(uint64_t n, uint64_t m, const uint16_t *literals, const uint16_t *ends, const uint64_t *keys,
                                                         const plain_index *index, const uint16_t *row)
 {

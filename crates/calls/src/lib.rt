@@ -112,13 +112,21 @@ pub fn offer(
     ensures leaves { λ r. let s = keyed counts (literals .entry) (ends .entry) (keys .entry) (images .entry) in
         ⌜ keyed (r .counts) (literals .entry) (ends .entry) (keys .entry) (images .exit) ≡ offerStore s (now (names .entry)) (now (values .entry)) ⌝ }
 {
-    if let Standing::Refused(refusal) = standing::admit(counts, literals, ends, keys, images) {
+    let table = numbers::numbers();
+    if let Standing::Refused(refusal) = standing::admit_by(
+        counts,
+        literals,
+        ends,
+        keys,
+        images,
+        &table,
+    ) {
         return turned_back(refusal, counts);
     }
     if counts.rows == Record::MAX_ROWS {
         return turned_back(Refusal::RowsFull, counts);
     }
-    let answer = offering::offer(counts, literals, ends, keys, images, names, values);
+    let answer = offering::offer(counts, literals, ends, keys, images, names, values, &table);
     let Offered::Accepted = answer else {
         return Offering {
             answer: answer,

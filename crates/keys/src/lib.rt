@@ -1,7 +1,7 @@
 // The keys of a store's clauses (document 02, CR 5): the sum of a clause, all of them written, all of them tested. A sum is linear in the clause's literals, repeated ones
 // included: what was counted in a clause is marked with the clause's number, from 1, so that no search is needed and the marks need not be cleared. It goes through the
-// clause from its end, as its definition does: a literal counts where it does not come again. Each of the two that go through all clauses keeps the table of the numbers
-// in its own memory.
+// clause from its end, as its definition does: a literal counts where it does not come again. The table of the numbers is in the memory of whoever goes through all clauses,
+// or of its caller.
 ghost use mathlib.Core.Path.{_≡_};
 ghost use mathlib.Core.Bool.{true};
 ghost use Prim.Native.Nat.{_+_, _-_, _≤_, _<_};
@@ -10,7 +10,7 @@ ghost use Rattle.lists.specs.Tests.{allOf};
 ghost use Rattle.lists.specs.Writing.{overwritten};
 ghost use Rattle.store.specs.Literals.{isLiteral};
 ghost use Rattle.store.specs.Stores.{clauseAt, clausesIn, FormedFormula, maxVariables};
-ghost use Rattle.numbers.specs.Numbers.{numberCount};
+ghost use Rattle.numbers.specs.Numbers.{numbers, numberCount};
 ghost use Rattle.keys.specs.Keys.{keyBy, keysOf, rightKeys};
 ghost use Rattle.keys.specs.Marks.{Below};
 use std::num::wrapping_add_u64;
@@ -22,26 +22,31 @@ pub fn write(literals: &[u16], ends: &[u16], m: usize, keys: &mut [u64])
     requires { ⌜ FormedFormula maxVariables m (now literals) (now ends) × (m ≤ length (now keys)) ⌝ }
     ensures { λ _. ⌜ now (keys .exit) ≡ overwritten (keysOf (clausesIn m (now (literals .entry)) (now (ends .entry)))) (now (keys .entry)) ⌝ }
 {
-    let numbers = numbers::numbers();
+    let table = numbers::numbers();
     let mut marks = [0u16; numbers::COUNT];
     for c in 0..m {
-        keys[c] = key_at(literals, ends, m, c, &numbers, &mut marks);
+        keys[c] = key_at(literals, ends, m, c, &table, &mut marks);
     }
 }
 
-// Whether the keys of m clauses are right: no slice too short, and no key that isn't its clause's.
-pub fn are_right(literals: &[u16], ends: &[u16], m: usize, keys: &[u64]) -> bool
-    requires { ⌜ FormedFormula maxVariables m (now literals) (now ends) ⌝ }
+// Whether the keys of m clauses are right, by the table of the numbers: no slice too short, and no key that isn't its clause's.
+pub fn are_right(
+    literals: &[u16],
+    ends: &[u16],
+    m: usize,
+    keys: &[u64],
+    table: &[u64; numbers::COUNT],
+) -> bool
+    requires { ⌜ FormedFormula maxVariables m (now literals) (now ends) × (now table ≡ numbers) ⌝ }
     ensures { λ r. ⌜ r ≡ rightKeys (clausesIn m (now (literals .entry)) (now (ends .entry))) (now (keys .entry)) ⌝ }
 {
     if keys.len() < m {
         return false;
     }
-    let numbers = numbers::numbers();
     let mut marks = [0u16; numbers::COUNT];
     let mut c = 0;
     while c < m {
-        if keys[c] != key_at(literals, ends, m, c, &numbers, &mut marks) {
+        if keys[c] != key_at(literals, ends, m, c, table, &mut marks) {
             return false;
         }
         c += 1;
@@ -55,25 +60,25 @@ pub fn key_at(
     ends: &[u16],
     m: usize,
     c: usize,
-    numbers: &[u64; numbers::COUNT],
+    table: &[u64; numbers::COUNT],
     marks: &mut [u16],
 ) -> u64
     requires { ⌜ FormedFormula maxVariables m (now literals) (now ends) × (c < m) × Below (c + 1) (now marks) ⌝ }
-    ensures key { λ r. ⌜ r ≡ keyBy (now (numbers .entry)) (clauseAt (now (literals .entry)) (now (ends .entry)) c) ⌝ }
+    ensures key { λ r. ⌜ r ≡ keyBy (now (table .entry)) (clauseAt (now (literals .entry)) (now (ends .entry)) c) ⌝ }
     ensures marks { λ _. ⌜ Below (c + 2) (now (marks .exit)) ⌝ }
 {
     key(
         clauses::clause(literals, ends, m, c),
-        numbers,
+        table,
         marks,
         (c + 1) as u16,
     )
 }
 
 // The key of a clause by a table of numbers. Its literals are marked with a mark above all others.
-fn key(clause: &[u16], numbers: &[u64; numbers::COUNT], marks: &mut [u16], mark: u16) -> u64
+fn key(clause: &[u16], table: &[u64; numbers::COUNT], marks: &mut [u16], mark: u16) -> u64
     requires { ⌜ (allOf (isLiteral maxVariables) (now clause) ≡ true) × Below mark (now marks) ⌝ }
-    ensures key { λ r. ⌜ r ≡ keyBy (now (numbers .entry)) (now (clause .entry)) ⌝ }
+    ensures key { λ r. ⌜ r ≡ keyBy (now (table .entry)) (now (clause .entry)) ⌝ }
     ensures marks { λ _. ⌜ Below (mark + 1) (now (marks .exit)) ⌝ }
 {
     let mut sum = 0;
@@ -83,7 +88,7 @@ fn key(clause: &[u16], numbers: &[u64; numbers::COUNT], marks: &mut [u16], mark:
         let place = place(literal::wide(clause[i]));
         if marks[place] != mark {
             marks[place] = mark;
-            sum = wrapping_add_u64(sum, numbers[place]);
+            sum = wrapping_add_u64(sum, table[place]);
         }
     }
     sum

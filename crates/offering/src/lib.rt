@@ -7,6 +7,7 @@ ghost use mathlib.Core.Path.{_≡_};
 ghost use mathlib.Core.Bool.{true};
 ghost use Prim.Native.Nat.{_<_};
 ghost use Rattle.store.specs.Stores.{stored, plainOf, isFormed, maxRows};
+ghost use Rattle.numbers.specs.Numbers.{numbers};
 ghost use Rattle.keys.specs.Keys.{rightKeys};
 ghost use Rattle.offering.specs.Offering.{offeredBy, imagesAfter, rowFor};
 
@@ -15,7 +16,7 @@ pub enum Offered {
     Refused(Refusal),
 }
 
-// Tries an offer on a well-formed store that is not full, and appends its row to the images if it is accepted.
+// Tries an offer on a well-formed store that is not full, and appends its row to the images if it is accepted. The table is that of the literals' numbers.
 pub fn offer(
     counts: Record,
     literals: &[u16],
@@ -24,9 +25,10 @@ pub fn offer(
     images: &mut [u16],
     names: &[u8],
     values: &[u8],
+    table: &[u64; numbers::COUNT],
 ) -> Offered
     requires { let s = stored counts literals ends images in
-        ⌜ (isFormed s ≡ true) × (rightKeys (plainOf s) (now keys) ≡ true) × (counts .rows < maxRows) ⌝ }
+        ⌜ (isFormed s ≡ true) × (rightKeys (plainOf s) (now keys) ≡ true) × (counts .rows < maxRows) × (now table ≡ numbers) ⌝ }
     ensures answer { λ r. let s = stored counts (literals .entry) (ends .entry) (images .entry) in
         ⌜ r ≡ offeredBy s (now (names .entry)) (now (values .entry)) ⌝ }
     ensures images { λ r. let s = stored counts (literals .entry) (ends .entry) (images .entry) in
@@ -40,7 +42,7 @@ pub fn offer(
     }
     let mut row = [0u16; Record::MAX_VARIABLES];
     permutation::fill_row(names, values, n, &mut row);
-    let missing = symmetry::first_missing(literals, ends, keys, counts.clauses, &row[..n]);
+    let missing = symmetry::first_missing(literals, ends, keys, counts.clauses, &row[..n], table);
     if missing != 0 {
         return Offered::Refused(Refusal::NoSymmetry(missing));
     }

@@ -20,7 +20,7 @@ ghost use lib.ListN.{length};
 ghost use Rattle.lists.specs.Tests.{has};
 ghost use Rattle.store.specs.Literals.{isLiteral};
 ghost use Rattle.store.specs.Stores.{clausesIn, clauseAt, isRow, maxVariables};
-ghost use Rattle.numbers.specs.Numbers.{numberCount};
+ghost use Rattle.numbers.specs.Numbers.{numbers, numberCount};
 ghost use Rattle.keys.specs.Keys.{keyOf};
 ghost use Rattle.symmetry.specs.Sets.{within, sameSet};
 ghost use Rattle.symmetry.specs.Symmetry.{imageOf, clauseImage, hasImage, firstMissing};
@@ -30,13 +30,21 @@ use store::clauses;
 use store::literal;
 use store::record::Record;
 
-// The number, from 1, of the first of m clauses whose image under a row is missing among them; 0 where none is.
-pub fn first_missing(literals: &[u16], ends: &[u16], keys: &[u64], m: usize, row: &[u16]) -> usize
-    requires { ⌜ RowFits m (now literals) (now ends) (now keys) (now row) ⌝ }
+// The number, from 1, of the first of m clauses whose image under a row is missing among them; 0 where none is. The table is that of the
+// numbers.
+pub fn first_missing(
+    literals: &[u16],
+    ends: &[u16],
+    keys: &[u64],
+    m: usize,
+    row: &[u16],
+    table: &[u64; numbers::COUNT],
+) -> usize
+    requires { ⌜ RowFits m (now literals) (now ends) (now keys) (now row) × (now table ≡ numbers) ⌝ }
     ensures { λ r. ⌜ r ≡ firstMissing (now (row .entry)) (clausesIn m (now (literals .entry)) (now (ends .entry))) ⌝ }
 {
     let mut moved = [0u64; numbers::COUNT];
-    image_numbers(row, &mut moved);
+    image_numbers(row, table, &mut moved);
     let mut heads = [0u16; index::BUCKETS];
     let mut nexts = [0u16; Record::MAX_CLAUSES];
     index::of_keys(keys, m, &mut heads, &mut nexts);
@@ -44,14 +52,16 @@ pub fn first_missing(literals: &[u16], ends: &[u16], keys: &[u64], m: usize, row
 }
 
 // Fills a table with the numbers of the images of the row's literals.
-fn image_numbers(row: &[u16], moved: &mut [u64])
-    requires { ⌜ (length (now row) ≤ maxVariables) × (isRow (length (now row)) (now row) ≡ true) × (length (now moved) ≡ numberCount) ⌝ }
+fn image_numbers(row: &[u16], table: &[u64; numbers::COUNT], moved: &mut [u64])
+    requires { ⌜ (length (now row) ≤ maxVariables)
+        × (isRow (length (now row)) (now row) ≡ true)
+        × (now table ≡ numbers)
+        × (length (now moved) ≡ numberCount) ⌝ }
     ensures { λ _. ⌜ ImageNumbers (now (row .entry)) (now (moved .exit)) ⌝ }
 {
-    let own = numbers::numbers();
     let mut code = 2;
     while literal::variable(code) <= row.len() {
-        moved[keys::place(code)] = own[keys::place(image(row, code))];
+        moved[keys::place(code)] = table[keys::place(image(row, code))];
         code += 1;
     }
 }

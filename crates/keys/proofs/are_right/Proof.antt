@@ -27,7 +27,7 @@ abbrev formula : tie.Start Inv-loop μ-loop → List (List ℕ)
 formula s = clausesIn (s .args .m) (s .args .literals .now) (s .args .ends .now)
 
 count : (s : tie.Start Inv-loop μ-loop) → length (formula s) ≡ s .args .m
-count s = clauses-count (s .args .literals .now) (s .args .ends .now) (s .args .m) (s .pre .clauses .known)
+count s = clauses-count (s .args .literals .now) (s .args .ends .now) (s .args .m) (s .pre .0 .clauses .known)
 
 returns : tie.Need-returns Inv-loop μ-loop
 returns c = let s = c .before .before .before .before in sym (right-short (formula s) (s .args .keys .now) (omega (arith, count s)))
@@ -36,27 +36,27 @@ loop-holds : tie.Need-loop-holds Inv-loop μ-loop
 loop-holds c = (refl, unmarked)
 
 key-at-requires : tie.Need-key-at-requires Inv-loop μ-loop
-key-at-requires c κs = let at = c .before .before .before .before in (at .before .before .before .before .before .before .pre, omega arith, at .loop .inv .1)
+key-at-requires c κs = let at = c .before .before .before in (at .before .before .before .before .before .pre .0, omega arith, at .loop .inv .1)
 
 -- the key at hand is that of clause c of the formula, which has a key
-found : (c : tie.After-key-at Inv-loop μ-loop) → let at = c .before .before .before .before .before in
-    let s = at .before .before .before .before .before .before in
+found : (c : tie.After-key-at Inv-loop μ-loop) → let at = c .before .before .before .before in
+    let s = at .before .before .before .before .before in
     (c .key-at .result ≡ keyOf (getD (formula s) (at .loop .c) [])) × (at .loop .c < length (formula s)) × (at .loop .c < length (s .args .keys .now))
 found c =
-    let at = c .before .before .before .before .before in
-    let s = at .before .before .before .before .before .before in
-    let is = clause-is (s .args .literals .now) (s .args .ends .now) (s .args .m) (at .loop .c) (s .pre .clauses .known) (omega arith) in
-    (c .key-at .ensures .0 ∙ rw (is, at .before .numbers .ensures), omega (arith, count s), omega arith)
+    let at = c .before .before .before .before in
+    let s = at .before .before .before .before .before in
+    let is = clause-is (s .args .literals .now) (s .args .ends .now) (s .args .m) (at .loop .c) (s .pre .0 .clauses .known) (omega arith) in
+    (c .key-at .ensures .0 ∙ rw (is, s .pre .1), omega (arith, count s), omega arith)
 
 returns-2 : tie.Need-returns-2 Inv-loop μ-loop
 returns-2 c =
-    let at = c .before .before .before .before .before .before .before in
+    let at = c .before .before .before .before .before .before in
     let f = found (c .before .before) in
     sym (at .loop .inv .0 ∙ wrong-here _ _ (at .loop .c) (f .1) (f .2) (λ e. c .if2 .taken (e ∙ sym (f .0))))
 
 loop-again : tie.Need-loop-again Inv-loop μ-loop
 loop-again c =
-    let at = c .before .before .before .before .before .before .before in
+    let at = c .before .before .before .before .before .before in
     let f = found (c .before .before) in
     let next : at .loop .c + 2 ≡ at .loop .c + 1 + 1 = omega arith in
     (at .loop .inv .0 ∙ right-here _ _ (at .loop .c) (f .1) (f .2) (c .if2 .left ∙ f .0), rw next at (c .before .before .key-at .ensures .1))
@@ -64,9 +64,9 @@ loop-again c =
 returns-3 : tie.Need-returns-3 Inv-loop μ-loop
 returns-3 c =
     let at = c .before in
-    sym (at .loop .inv .0 ∙ right-end _ _ (at .loop .c) (omega (arith, count (at .before .before .before .before .before .before))))
+    sym (at .loop .inv .0 ∙ right-end _ _ (at .loop .c) (omega (arith, count (at .before .before .before .before .before))))
 
 pub are-right-spec : {M : Type 1} → statement M
 are-right-spec =
     tie.close
-    (tie.spec Inv-loop μ-loop returns (search needs) loop-holds (search needs) (search needs) (λ c. sym (c .before .before .before .before .loop .inv .1 .room)) key-at-requires returns-2 (search needs) (search needs) loop-again returns-3)
+    (tie.spec Inv-loop μ-loop returns loop-holds (search needs) (search needs) (λ c. sym (c .before .before .before .loop .inv .1 .room)) key-at-requires returns-2 (search needs) (search needs) loop-again returns-3)

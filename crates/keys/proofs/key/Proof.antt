@@ -16,18 +16,18 @@ use Rattle.keys.proofs.key.Statement.{statement}
 use Rattle.keys.proofs.key.Tie as tie
 
 abbrev Inv-loop : tie.InvT-loop
-Inv-loop clause numbers marks₀ mark sum₀ i₀ marks sum i =
-    (sum ≡ keyBy numbers (drop i clause)) × Marked mark (drop i clause) marks × (i ≤ length clause)
+Inv-loop clause table marks₀ mark sum₀ i₀ marks sum i =
+    (sum ≡ keyBy table (drop i clause)) × Marked mark (drop i clause) marks × (i ≤ length clause)
 
 abbrev μ-loop : tie.MeasureT-loop
-μ-loop clause numbers marks₀ mark sum₀ i₀ marks sum i = i
+μ-loop clause table marks₀ mark sum₀ i₀ marks sum i = i
 
 loop-holds : tie.Need-loop-holds Inv-loop μ-loop
 loop-holds c =
     let s = c .before .before in
     let clause = s .args .clause .now in
     let end : length clause ≤ length clause = omega arith in
-    (sym (key-none (s .args .numbers .now) clause (length clause) end), marked-none (s .args .mark) clause (s .args .marks .now) (length clause) end (s .pre .1), end)
+    (sym (key-none (s .args .table .now) clause (length clause) end), marked-none (s .args .mark) clause (s .args .marks .now) (length clause) end (s .pre .1), end)
 
 -- the literal at hand is one of the clause's
 good : (c : tie.After-wide Inv-loop μ-loop) → isLiteral maxVariables (c .wide .result) ≡ true
@@ -58,7 +58,7 @@ loop-again c =
     let at = placed .before .before .before .before in
     let s = at .before .before .before in
     let new = is-new (s .args .mark) (s .args .clause .now) (at .loop .marks) _ _ _ _ (hand placed) (at .loop .inv .1) (c .before .before .if1 .taken) in (
-      c .wrapping-add-u64 .ensures ∙ key-more (s .args .numbers .now) (s .args .clause .now) _ _ _ _ (hand placed) new _ (at .loop .inv .0),
+      c .wrapping-add-u64 .ensures ∙ key-more (s .args .table .now) (s .args .clause .now) _ _ _ _ (hand placed) new _ (at .loop .inv .0),
       marked-more (s .args .mark) (s .args .clause .now) (at .loop .marks) _ _ _ _ (hand placed) (at .loop .inv .1) (placed .place .ensures .1),
       omega (arith, at .loop .inv .2),
     )
@@ -69,13 +69,13 @@ loop-again-2 c =
     let at = placed .before .before .before .before in
     let s = at .before .before .before in
     let seen = came (s .args .mark) (s .args .clause .now) (at .loop .marks) _ _ _ _ (hand placed) (at .loop .inv .1) (c .if1 .left) in (
-      at .loop .inv .0 ∙ key-again (s .args .numbers .now) (s .args .clause .now) _ _ _ _ (hand placed) seen,
+      at .loop .inv .0 ∙ key-again (s .args .table .now) (s .args .clause .now) _ _ _ _ (hand placed) seen,
       marked-again (s .args .mark) (s .args .clause .now) (at .loop .marks) _ _ _ _ (hand placed) (at .loop .inv .1) seen,
       omega (arith, at .loop .inv .2),
     )
 
 returns : tie.Need-returns Inv-loop μ-loop
-returns c = let at = c .before in let none : at .loop .i ≡ 0 = omega arith in (at .loop .inv .0 ∙ ap (λ (k : ℕ). keyBy (at .before .before .before .args .numbers .now) (drop k (at .before .before .before .args .clause .now))) none, at .loop .inv .1 .most)
+returns c = let at = c .before in let none : at .loop .i ≡ 0 = omega arith in (at .loop .inv .0 ∙ ap (λ (k : ℕ). keyBy (at .before .before .before .args .table .now) (drop k (at .before .before .before .args .clause .now))) none, at .loop .inv .1 .most)
 
 same-length : tie.Need-same-length Inv-loop μ-loop
 same-length c = let at = c .before in at .loop .inv .1 .most .room ∙ sym (at .before .before .before .pre .1 .room)

@@ -22,7 +22,7 @@ returns c =
     let s = c .before .before .before .before .before .before .before .before in
     let e = c .before .before .key .ensures in
     let next : s .args .c + 1 + 1 ≡ s .args .c + 2 = omega arith in
-    (e .0 ∙ ap (keyBy (s .args .numbers .now)) (c .before .before .before .before .clause .ensures), rw next at (e .1))
+    (e .0 ∙ ap (keyBy (s .args .table .now)) (c .before .before .before .before .clause .ensures), rw next at (e .1))
 
 pub key-at-spec : {M : Type 1} → statement M
 key-at-spec =

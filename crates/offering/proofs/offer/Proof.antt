@@ -83,7 +83,7 @@ first-missing-requires : tie.Need-first-missing-requires
 first-missing-requires c κs =
     let s = begun (c .before .before) in
     let row = c .before .before in
-    row-fits (S s) (s .args .keys .now) _ (s .pre .0) (s .pre .1) (filled-prefix row) (rw (filled-is row) (stated-row _ _ _ (stated (row .before .before))))
+    (row-fits (S s) (s .args .keys .now) _ (s .pre .0) (s .pre .1) (filled-prefix row) (rw (filled-is row) (stated-row _ _ _ (stated (row .before .before)))), s .pre .3)
 
 returns-2 : tie.Need-returns-2
 returns-2 c =

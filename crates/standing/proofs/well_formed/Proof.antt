@@ -21,7 +21,7 @@ are-right-requires : tie.Need-are-right-requires
 are-right-requires c κs =
     let a = c .before .before .before .before .before .before .args in
     let f = formed (stored (a .counts) (a .literals) (a .ends) (a .images)) (its-form c) in
-    formula-within _ maxVariables _ _ _ (f .variables-fit) (formed-formula _ f)
+    (formula-within _ maxVariables _ _ _ (f .variables-fit) (formed-formula _ f), c .before .before .before .before .before .before .pre)
 
 returns-2 : tie.Need-returns-2
 unfolding plainOf

@@ -11,21 +11,21 @@ use Rattle.symmetry.proofs.first_missing.Tie as tie
 of-keys-requires : tie.Need-of-keys-requires
 of-keys-requires c κs =
     let s = c .before .before .before .before .before .before .before .before .before in
-    let count = clauses-count (s .args .literals .now) (s .args .ends .now) (s .args .m) (s .pre .formula .clauses .known) in
-    (omega (arith, count, right-long _ _ (s .pre .keys-right)), s .pre .formula .clauses-fit, refl, s .pre .formula .clauses-fit)
+    let count = clauses-count (s .args .literals .now) (s .args .ends .now) (s .args .m) (s .pre .0 .formula .clauses .known) in
+    (omega (arith, count, right-long _ _ (s .pre .0 .keys-right)), s .pre .0 .formula .clauses-fit, refl, s .pre .0 .formula .clauses-fit)
 
 first-missing-by-requires : tie.Need-first-missing-by-requires
 first-missing-by-requires c κs =
     let made = c .before .before .before .before .before in
     let table = made .before .before .before .before in
-    (table .before .before .before .before .before .before .pre, table .image-numbers .ensures, made .of-keys .ensures)
+    (table .before .before .before .before .before .before .pre .0, table .image-numbers .ensures, made .of-keys .ensures)
 
 pub first-missing-spec : {M : Type 1} → statement M
 first-missing-spec =
     tie.close
     (tie.spec
     (search needs)
-    (λ c κs. let s = c .before .before .before .before .before in (s .pre .variables-fit, s .pre .is-row, refl))
+    (λ c κs. let s = c .before .before .before .before .before in (s .pre .0 .variables-fit, s .pre .0 .is-row, s .pre .1, refl))
     (search needs)
     (search needs)
     of-keys-requires

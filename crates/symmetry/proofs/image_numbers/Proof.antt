@@ -26,13 +26,13 @@ record Filled (row table : List ℕ) (code : ℕ) : Type 0 where
   numbered : (x : ℕ) → isLiteral (length row) x ≡ true → x < code → numberIn table x ≡ numberIn numbers (imageOf row x)
 
 abbrev Inv-loop : tie.InvT-loop
-Inv-loop row own moved₀ code₀ moved code = Filled row moved code
+Inv-loop row table moved₀ code₀ moved code = Filled row moved code
 
 abbrev μ-loop : tie.MeasureT-loop
-μ-loop row own moved₀ code₀ moved code = 2 * length row + 2 - code
+μ-loop row table moved₀ code₀ moved code = 2 * length row + 2 - code
 
 loop-holds : tie.Need-loop-holds Inv-loop μ-loop
-loop-holds c = record { low = omega arith; room = c .before .before .before .pre .2; numbered = λ x g h. absurd (omega (arith, literal-low _ x g)) }
+loop-holds c = record { low = omega arith; room = c .before .before .pre .3; numbered = λ x g h. absurd (omega (arith, literal-low _ x g)) }
 
 -- a number more
 filled-more : (row table : List ℕ) (code : ℕ) → Filled row table code → (place : ℕ) → place ≡ code - 2 → place < numberCount → (number : ℕ) → number ≡ numberIn numbers (imageOf row code)
@@ -52,7 +52,7 @@ filled-more row table code f place e h number is = record { low = omega (arith, 
 
 -- the code at hand is a literal of the row's variables, and so is its image
 literal : (c : tie.Then1 Inv-loop μ-loop) → let at = c .before .before in
-    isLiteral (length (at .before .before .before .before .args .row .now)) (at .loop .code) ≡ true
+    isLiteral (length (at .before .before .before .args .row .now)) (at .loop .code) ≡ true
 literal c =
     let at = c .before .before in
     literal-within _ (at .loop .code) (omega (arith, at .loop .inv .low)) (omega (arith, c .before .variable .ensures, c .if1 .taken))
@@ -63,28 +63,28 @@ widened n code h g = literal-within maxVariables code (literal-low n code g) (om
 place-requires : tie.Need-place-requires Inv-loop μ-loop
 place-requires c κs =
     let at = c .before .before .before in
-    let s = at .before .before .before .before in
+    let s = at .before .before .before in
     rw (c .image .ensures) (widened _ _ (s .pre .0) (image-good _ (s .args .row .now) (row-of _ (s .args .row .now) (s .pre .1)) (at .loop .code) (literal (c .before))))
 
 place-requires-2 : tie.Need-place-requires-2 Inv-loop μ-loop
-place-requires-2 c κs = let s = c .before .before .before .before .before .before .before .before in widened _ _ (s .pre .0) (literal (c .before .before))
+place-requires-2 c κs = let s = c .before .before .before .before .before .before .before .before in widened _ _ (s .pre .0) (literal (c .before .before .before))
 
 below : tie.Need-add-code Inv-loop μ-loop
-below c = let at = c .before .before .before .before .before in omega (arith, literal-high _ _ (literal (c .before .before .before)), at .before .before .before .before .pre .0)
+below c = let at = c .before .before .before .before .before .before in omega (arith, literal-high _ _ (literal (c .before .before .before .before)), at .before .before .before .pre .0)
 
 falls : tie.Need-loop-less Inv-loop μ-loop
-falls c = omega (arith, literal-high _ _ (literal (c .before .before .before)))
+falls c = omega (arith, literal-high _ _ (literal (c .before .before .before .before)))
 
 loop-again : tie.Need-loop-again Inv-loop μ-loop
 loop-again c =
-    let at = c .before .before .before .before .before in
-    let s = at .before .before .before .before in
+    let at = c .before .before .before .before .before .before in
+    let s = at .before .before .before in
     let row = s .args .row .now in
-    let inv = at .loop .inv in
+    let placed = c .before .before in
     let here = c .place2 .ensures in
-    let number : getD (at .before .numbers .result) (c .before .place .result) 0 ≡ numberIn numbers (imageOf row (at .loop .code)) =
-    ap₂ (λ (own : List ℕ) (k : ℕ). getD own k 0) (at .before .numbers .ensures) (c .before .place .ensures .0 ∙ ap (λ (x : ℕ). x - 2) (c .before .before .image .ensures)) in
-    filled-more row (at .loop .moved) (at .loop .code) inv (c .place2 .result) (here .0) (here .1) _ number
+    let number : getD (s .args .table .now) (placed .place .result) 0 ≡ numberIn numbers (imageOf row (at .loop .code)) =
+    ap₂ (λ (table : List ℕ) (k : ℕ). getD table k 0) (s .pre .2) (placed .place .ensures .0 ∙ ap (λ (x : ℕ). x - 2) (placed .before .image .ensures)) in
+    filled-more row (at .loop .moved) (at .loop .code) (at .loop .inv) (c .place2 .result) (here .0) (here .1) _ number
 
 returns : tie.Need-returns Inv-loop μ-loop
 returns c code g =
@@ -97,7 +97,6 @@ image-numbers-spec =
     (tie.spec
     Inv-loop
     μ-loop
-    (search needs)
     loop-holds
     (search needs)
     (λ c κs. literal c)
@@ -106,9 +105,9 @@ image-numbers-spec =
     (search needs)
     place-requires-2
     (search needs)
-    (λ c. omega (arith, c .place2 .ensures .1, c .before .before .before .before .before .loop .inv .room))
+    (λ c. omega (arith, c .place2 .ensures .1, c .before .before .before .before .before .before .loop .inv .room))
     below
     falls
     loop-again
-    (λ c. let at = c .before .before in at .loop .inv .room ∙ sym (at .before .before .before .before .pre .2))
+    (λ c. let at = c .before .before in at .loop .inv .room ∙ sym (at .before .before .before .pre .3))
     returns)

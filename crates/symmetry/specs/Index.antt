@@ -7,7 +7,7 @@ use Rattle.buckets.specs.Buckets.{IndexHolds}
 
 -- how many buckets there are
 abbrev pub bucketCount : ℕ
-bucketCount = 2048
+bucketCount = 4096
 
 -- a key's bucket: its last bits
 abbrev pub bucketOf : ℕ → ℕ

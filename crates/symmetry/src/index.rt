@@ -6,7 +6,7 @@ ghost use Rattle.store.specs.Stores.{maxClauses};
 ghost use Rattle.symmetry.specs.Index.{bucketCount, bucketOf, Indexed};
 
 // How many buckets there are.
-pub const BUCKETS: usize = 2048;
+pub const BUCKETS: usize = 4096;
 
 // Puts m clauses in an empty index, each by its key.
 pub fn of_keys(keys: &[u64], m: usize, heads: &mut [u16], nexts: &mut [u16])

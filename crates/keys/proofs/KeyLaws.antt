@@ -9,19 +9,12 @@ use Rattle.lists.specs.Tests.{has}
 use Rattle.lists.proofs.Steps.{drop-step}
 use Rattle.numbers.specs.Numbers.{numbers}
 use Rattle.keys.specs.Keys.{different, total, numberIn, keyBy, keyOf}
-use Rattle.keys.proofs.Sums.{same-total, exchanged}
+use Rattle.keys.proofs.Sums.{same-total}
 
 -- "independent of order, proved equal for equal sets" (document 01, "Forms and where they belong"): neither order nor repeats matter
 pub same-key : (table a b : List ℕ) → ((x : ℕ) → has a x ≡ has b x) → keyBy table a ≡ keyBy table b
 unfolding keyBy
 same-key table a b e = ap (λ (s : ℕ). s % 2 ^ 64) (same-total (numberIn table) a b e)
-
--- the key of a clause whose literals were exchanged for others, different ones for different ones, by a table of the numbers of those
-pub key-exchanged : (table : List ℕ) (g : ℕ → ℕ) (clause : List ℕ) → ((x y : ℕ) → has clause x ≡ true → has clause y ≡ true → g x ≡ g y → x ≡ y)
-    → ((x : ℕ) → has clause x ≡ true → numberIn table x ≡ numberIn numbers (g x)) → keyBy table clause ≡ keyOf (map g clause)
-unfolding keyBy
-key-exchanged table g clause one agree =
-    ap (λ (s : ℕ). s % 2 ^ 64) (sym (exchanged (numberIn numbers) (numberIn table) g clause one (λ x e. sym (agree x e))))
 
 -- the literal at hand: it stands at i, the literals that came are those from k = i + 1 on, and it has a place in a table of numbers
 pub record Hand (clause : List ℕ) (i k code place : ℕ) : Type 0 where

@@ -1,5 +1,4 @@
--- The sum of a clause's different literals is the sum over all numbers that the clause has, so that clauses with the same literals have the same; and the sum of a clause
--- whose literals were exchanged for others, one for one. Assumes nothing.
+-- The sum of a clause's different literals is the sum over all numbers that the clause has, so that clauses with the same literals have the same. Assumes nothing.
 use mathlib.Core.Path.{_≡_, refl, sym, ap, ap₂, _∙_}
 use mathlib.Core.Bool.{Bool, true, false, cond, _||_}
 use mathlib.Core.List.{List, [], _∷_, map}
@@ -8,11 +7,10 @@ use Prim.Native.Nat.{ℕ, zero, suc, _+_, _≤_, _<_}
 use native.Mathlib.Nat.{not-suc-le-zero}
 use native.Mathlib.Omega.{arith}
 use borrow.Author.Tests.{eqb-true, eqb-false, eq-eqb, ne-eqb}
-use lib.ListN.{length, getD, length-map}
 use lib.Dec.{eqb}
 use Rattle.lists.specs.Tests.{anyOf, has}
-use Rattle.lists.proofs.Cases.{never, bool-ext, or-cases, eq-or-ne}
-use Rattle.lists.proofs.Members.{map-at, place, placed, has-head, has-rest, has-other, has-again}
+use Rattle.lists.proofs.Cases.{never, or-cases, eq-or-ne}
+use Rattle.lists.proofs.Members.{has-head, has-rest, has-other, has-again}
 use Rattle.keys.specs.Keys.{different, total}
 
 -- ---- sums over the numbers that pass a test
@@ -72,34 +70,3 @@ module _ (f : ℕ → ℕ) where
       by-members a k (λ x h. omega (arith, has-most a x h))
       ∙ summed-same (has a) (has b) k (λ x h. e x)
       ∙ sym (by-members b k (λ x h. omega (arith, has-most a x (e x ∙ h))))
-
--- ---- literals exchanged for others, different ones for different ones
-
-module _ (f h g : ℕ → ℕ) where
-  -- the exchanged list has g c exactly when the list has c
-  has-exchanged : (c : ℕ) (l : List ℕ) → ((x : ℕ) → has l x ≡ true → g x ≡ g c → x ≡ c) → has (map g l) (g c) ≡ has l c
-  has-exchanged c l one = bool-ext (has (map g l) (g c)) (has l c) to from
-    where
-      to : has (map g l) (g c) ≡ true → has l c ≡ true
-      to e =
-          let r = place (map g l) (g c) e in
-          let low : r .0 < length l = rw (length-map l g) at (r .1) in
-          let is : g (getD l (r .0) 0) ≡ g c = sym (map-at g l (r .0) 0 0 low) ∙ r .2 in
-          placed l c (r .0) low (one (getD l (r .0) 0) (placed l (getD l (r .0) 0) (r .0) low refl) is)
-
-      from : has l c ≡ true → has (map g l) (g c) ≡ true
-      from e = let r = place l c e in placed (map g l) (g c) (r .0) (rw (length-map l g) (r .1)) (map-at g l (r .0) 0 0 (r .1) ∙ ap g (r .2))
-
-  pub exchanged : (l : List ℕ) → ((x y : ℕ) → has l x ≡ true → has l y ≡ true → g x ≡ g y → x ≡ y) → ((x : ℕ) → has l x ≡ true → f (g x) ≡ h x)
-      → total (map f (different (map g l))) ≡ total (map h (different l))
-  unfolding different total
-  exchanged [] one agree = refl
-  exchanged (c ∷ l) one agree =
-      let more = has-rest c l in
-      let first : has (c ∷ l) c ≡ true = has-head c l in
-      go (exchanged l (λ x y p q. one x y (more x p) (more y q)) (λ x p. agree x (more x p))) (agree c first) (has l c) (has-exchanged c l (λ x p. one x c (more x p) first))
-    where
-      go : total (map f (different (map g l))) ≡ total (map h (different l)) → f (g c) ≡ h c → (b : Bool) → has (map g l) (g c) ≡ b
-          → total (map f (cond (has (map g l) (g c)) (different (map g l)) (g c ∷ different (map g l)))) ≡ total (map h (cond b (different l) (c ∷ different l)))
-      go rest e true same = rw same rest
-      go rest e false same = rw same (ap₂ (λ (x s : ℕ). x + s) e rest)

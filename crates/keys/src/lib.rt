@@ -12,7 +12,7 @@ ghost use Rattle.store.specs.Literals.{isLiteral};
 ghost use Rattle.store.specs.Stores.{clauseAt, clausesIn, FormedFormula, maxVariables};
 ghost use Rattle.numbers.specs.Numbers.{numbers, numberCount};
 ghost use Rattle.keys.specs.Keys.{keyBy, keysOf, rightKeys};
-ghost use Rattle.keys.specs.Marks.{Below};
+ghost use Rattle.keys.specs.Marks.{Below, Marked, Places, OwnPlaces, sentClause};
 use std::num::wrapping_add_u64;
 use store::clauses;
 use store::literal;
@@ -23,9 +23,10 @@ pub fn write(literals: &[u16], ends: &[u16], m: usize, keys: &mut [u64])
     ensures { λ _. ⌜ now (keys .exit) ≡ overwritten (keysOf (clausesIn m (now (literals .entry)) (now (ends .entry)))) (now (keys .entry)) ⌝ }
 {
     let table = numbers::numbers();
+    let own = own_places();
     let mut marks = [0u16; numbers::COUNT];
     for c in 0..m {
-        keys[c] = key_at(literals, ends, m, c, &table, &mut marks);
+        keys[c] = key_at(literals, ends, m, c, &own, &table, &mut marks);
     }
 }
 
@@ -43,10 +44,11 @@ pub fn are_right(
     if keys.len() < m {
         return false;
     }
+    let own = own_places();
     let mut marks = [0u16; numbers::COUNT];
     let mut c = 0;
     while c < m {
-        if keys[c] != key_at(literals, ends, m, c, table, &mut marks) {
+        if keys[c] != key_at(literals, ends, m, c, &own, table, &mut marks) {
             return false;
         }
         c += 1;
@@ -54,44 +56,74 @@ pub fn are_right(
     true
 }
 
-// The key of clause c, from 0, of m by a table of numbers. The clauses come in rising order, so that each is marked with its number.
+// Each literal sent to itself.
+pub fn own_places() -> [u16; numbers::COUNT]
+    ensures { λ r. ⌜ OwnPlaces r ⌝ }
+{
+    let mut own = [0u16; numbers::COUNT];
+    for i in 0..numbers::COUNT {
+        own[i] = i as u16;
+    }
+    own
+}
+
+// The key, by a table of numbers, of what clause c, from 0, of m is sent to, whose literals are then marked with the clause's number. The clauses come in rising order.
 pub fn key_at(
     literals: &[u16],
     ends: &[u16],
     m: usize,
     c: usize,
+    places: &[u16; numbers::COUNT],
     table: &[u64; numbers::COUNT],
     marks: &mut [u16],
 ) -> u64
-    requires { ⌜ FormedFormula maxVariables m (now literals) (now ends) × (c < m) × Below (c + 1) (now marks) ⌝ }
-    ensures key { λ r. ⌜ r ≡ keyBy (now (table .entry)) (clauseAt (now (literals .entry)) (now (ends .entry)) c) ⌝ }
-    ensures marks { λ _. ⌜ Below (c + 2) (now (marks .exit)) ⌝ }
+    requires { ⌜ FormedFormula maxVariables m (now literals) (now ends) × (c < m) × Places (now places) × Below (c + 1) (now marks) ⌝ }
+    ensures key { λ r. let sent = sentClause (now (places .entry)) (clauseAt (now (literals .entry)) (now (ends .entry)) c) in
+        ⌜ r ≡ keyBy (now (table .entry)) sent ⌝ }
+    ensures marked { λ _. let sent = sentClause (now (places .entry)) (clauseAt (now (literals .entry)) (now (ends .entry)) c) in
+        ⌜ Marked (c + 1) sent (now (marks .exit)) ⌝ }
+    ensures below { λ _. ⌜ Below (c + 2) (now (marks .exit)) ⌝ }
 {
     key(
         clauses::clause(literals, ends, m, c),
+        places,
         table,
         marks,
         (c + 1) as u16,
     )
 }
 
-// The key of a clause by a table of numbers. Its literals are marked with a mark above all others.
-fn key(clause: &[u16], table: &[u64; numbers::COUNT], marks: &mut [u16], mark: u16) -> u64
-    requires { ⌜ (allOf (isLiteral maxVariables) (now clause) ≡ true) × Below mark (now marks) ⌝ }
-    ensures key { λ r. ⌜ r ≡ keyBy (now (table .entry)) (now (clause .entry)) ⌝ }
-    ensures marks { λ _. ⌜ Below (mark + 1) (now (marks .exit)) ⌝ }
+// The key of what a clause is sent to, by a table of numbers. What it is sent to is marked with a mark above all others.
+fn key(
+    clause: &[u16],
+    places: &[u16; numbers::COUNT],
+    table: &[u64; numbers::COUNT],
+    marks: &mut [u16],
+    mark: u16,
+) -> u64
+    requires { ⌜ (allOf (isLiteral maxVariables) (now clause) ≡ true) × Places (now places) × Below mark (now marks) ⌝ }
+    ensures key { λ r. ⌜ r ≡ keyBy (now (table .entry)) (sentClause (now (places .entry)) (now (clause .entry))) ⌝ }
+    ensures marked { λ _. ⌜ Marked mark (sentClause (now (places .entry)) (now (clause .entry))) (now (marks .exit)) ⌝ }
+    ensures below { λ _. ⌜ Below (mark + 1) (now (marks .exit)) ⌝ }
 {
     let mut sum = 0;
     let mut i = clause.len();
     while 0 < i {
         i -= 1;
-        let place = place(literal::wide(clause[i]));
+        let place = wide(places[place(literal::wide(clause[i]))]);
         if marks[place] != mark {
             marks[place] = mark;
             sum = wrapping_add_u64(sum, table[place]);
         }
     }
     sum
+}
+
+// A place that stands in a table.
+pub fn wide(place: u16) -> usize
+    ensures { λ r. ⌜ r ≡ place ⌝ }
+{
+    place as usize
 }
 
 // Where a literal stands in a table of numbers.

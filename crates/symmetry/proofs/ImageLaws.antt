@@ -13,7 +13,6 @@ use Rattle.store.proofs.FormLaws.{literal-low, literal-high, literal-within}
 use Rattle.store.proofs.Formed.{Row}
 use Rattle.symmetry.specs.Sets.{SameSet}
 use Rattle.symmetry.specs.Symmetry.{imageOf, clauseImage}
-use Rattle.symmetry.specs.Fitting.{Fitting}
 use Rattle.symmetry.proofs.SetLaws.{has-iff}
 
 module _ (row : List ℕ) (code : ℕ) where
@@ -24,20 +23,6 @@ module _ (row : List ℕ) (code : ℕ) where
   pub image-of-positive : isNegative code ≡ false → imageOf row code ≡ getD row (variableOf code - 1) 0
   unfolding imageOf
   image-of-positive e = rw e
-
-module _ (row clause : List ℕ) where
-  pub image-length : length (clauseImage row clause) ≡ length clause
-  unfolding clauseImage
-  image-length = length-map clause (imageOf row)
-
-  -- x is the literal at i
-  module _ (i x : ℕ) (h : i < length clause) (is : x ≡ getD clause i 0) where
-    pub image-at : (y : ℕ) → y ≡ imageOf row x → y ≡ getD (clauseImage row clause) i 0
-    unfolding clauseImage
-    image-at y e = e ∙ ap (imageOf row) is ∙ sym (map-at (imageOf row) clause i 0 0 h)
-
-    pub fitting-at : Fitting clause row → isLiteral (length row) x ≡ true
-    fitting-at f = rw is (all-at (isLiteral (length row)) clause 0 f i h)
 
 -- a literal or its opposite, by a sign: the variable is kept, and the signs add up
 turned : (code a : ℕ) → let r = cond (isNegative code) (oppositeOf a) a in

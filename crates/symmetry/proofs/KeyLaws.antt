@@ -1,25 +1,22 @@
--- Keys: clauses with the same literals have one, and that of an image is the clause's own sum by a table of the images' numbers. Assumes nothing.
-use mathlib.Core.Path.{_≡_, sym, _∙_}
+-- Keys: clauses with the same literals have one. And what a table of the images' places sends a clause to is its image. Assumes nothing.
+use mathlib.Core.Path.{_≡_, refl, sym, ap₂}
 use mathlib.Core.Bool.{true, false}
-use mathlib.Core.List.{List}
+use mathlib.Core.List.{List, [], _∷_}
 use Prim.Native.Nat.{ℕ, _<_}
 use native.Mathlib.Omega.{arith}
 use lib.ListN.{length}
-use Rattle.lists.specs.Tests.{has}
-use Rattle.lists.proofs.Cases.{bool-ext, not-so}
-use Rattle.lists.proofs.Members.{all-has}
+use Rattle.lists.specs.Tests.{allOf, has}
+use Rattle.lists.proofs.Cases.{bool-ext, not-so, and-l, and-r}
 use Rattle.store.specs.Literals.{isLiteral}
-use Rattle.store.proofs.Formed.{row-of}
 use Rattle.numbers.specs.Numbers.{numbers}
-use Rattle.keys.specs.Keys.{keyBy, keyOf}
-use Rattle.keys.proofs.KeyLaws.{same-key, key-exchanged}
-use Rattle.store.specs.Stores.{isRow}
+use Rattle.keys.specs.Keys.{keyOf}
+use Rattle.keys.specs.Marks.{sentClause}
+use Rattle.keys.proofs.KeyLaws.{same-key}
 use Rattle.symmetry.specs.Sets.{sameSet}
-use Rattle.symmetry.specs.Symmetry.{imageOf, clauseImage}
-use Rattle.symmetry.specs.Fitting.{Fitting, ImageNumbers}
+use Rattle.symmetry.specs.Symmetry.{clauseImage}
+use Rattle.symmetry.specs.Fitting.{ImagePlaces}
 use Rattle.symmetry.specs.Index.{bucketCount, bucketOf}
 use Rattle.symmetry.proofs.SetLaws.{has-iff, sameSet-iff}
-use Rattle.symmetry.proofs.ImageLaws.{image-one}
 
 -- "proved equal for equal sets" (document 01, "Forms and where they belong"), order and repeats notwithstanding
 pub same-keys : (a b : List ℕ) → sameSet a b ≡ true → keyOf a ≡ keyOf b
@@ -31,13 +28,13 @@ same-keys a b e =
 pub other-keys : (a b : List ℕ) → (keyOf b ≡ keyOf a → ⊥) → sameSet a b ≡ false
 other-keys a b n = not-so (sameSet a b) (λ e. n (sym (same-keys a b e)))
 
-pub image-key : (row clause table : List ℕ) → isRow (length row) row ≡ true → Fitting clause row → ImageNumbers row table → keyBy table clause ≡ keyOf (clauseImage row clause)
-unfolding clauseImage
-image-key row clause table r f table-is =
-    let literal : (x : ℕ) → has clause x ≡ true → isLiteral (length row) x ≡ true = λ x h. all-has (isLiteral (length row)) clause x f h in
-    key-exchanged table (imageOf row) clause
-    (λ x y h k. image-one (length row) row (row-of (length row) row r) x y (literal x h) (literal y k))
-    (λ x h. table-is x (literal x h))
+-- the image of a clause, by the places of the images
+pub sent-image : (row table : List ℕ) → ImagePlaces row table → (clause : List ℕ) → allOf (isLiteral (length row)) clause ≡ true → sentClause table clause ≡ clauseImage row clause
+unfolding allOf clauseImage
+sent-image row table t [] e = refl
+sent-image row table t (code ∷ clause) e =
+    let test = isLiteral (length row) in
+    ap₂ (λ (x : ℕ) (l : List ℕ). x ∷ l) (t .sends code (and-l (test code) (allOf test clause) e)) (sent-image row table t clause (and-r (test code) (allOf test clause) e))
 
 pub bucket-low : (key : ℕ) → bucketOf key < bucketCount
 bucket-low key = omega arith

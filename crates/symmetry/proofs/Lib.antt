@@ -8,3 +8,4 @@ pub mod Onto
 pub mod Theorem
 pub mod Facts
 pub mod Examples
+pub mod StampLaws

@@ -7,27 +7,22 @@ use native.Mathlib.Omega.{arith}
 use lib.ListN.{length, getD}
 use Rattle.buckets.proofs.Index.{next-below}
 use Rattle.buckets.proofs.Walks.{Walk, begin, go-on, hit, end}
+use Rattle.lists.specs.Tests.{anyOf}
 use Rattle.keys.specs.Keys.{keyOf, rightKeys}
 use Rattle.keys.proofs.RightLaws.{right-at}
 use Rattle.symmetry.specs.Sets.{sameSet}
-use Rattle.symmetry.specs.Symmetry.{clauseImage, hasImage}
 use Rattle.symmetry.specs.Index.{bucketOf, clauseBucket, Indexed}
 use Rattle.symmetry.proofs.KeyLaws.{same-keys, bucket-low}
 
-module _ (row clause : List ℕ) (formula : List (List ℕ)) (keys : List ℕ) where
-  abbrev image : List ℕ
-  image = clauseImage row clause
-
+module _ (image : List ℕ) (formula : List (List ℕ)) (keys : List ℕ) where
   -- the clauses up to number `number`, from 1, are still to be compared
   abbrev pub Looking : ℕ → Type 0
   Looking number = Walk (sameSet image) formula [] (clauseBucket keys) (bucketOf (keyOf image)) number
 
-  pub look-hit : (number c : ℕ) → Looking number → number ≡ c + 1 → sameSet image (getD formula c []) ≡ true → hasImage row formula clause ≡ true
-  unfolding hasImage
+  pub look-hit : (number c : ℕ) → Looking number → number ≡ c + 1 → sameSet image (getD formula c []) ≡ true → anyOf (sameSet image) formula ≡ true
   look-hit number c w e t = hit (sameSet image) formula [] (clauseBucket keys) (bucketOf (keyOf image)) number c w e t
 
-  pub look-end : (number : ℕ) → Looking number → number ≡ 0 → hasImage row formula clause ≡ false
-  unfolding hasImage
+  pub look-end : (number : ℕ) → Looking number → number ≡ 0 → anyOf (sameSet image) formula ≡ false
   look-end number w e = end (sameSet image) formula [] (clauseBucket keys) (bucketOf (keyOf image)) number w e
 
   module _ (heads nexts : List ℕ) (index : Indexed (length formula) keys heads nexts) (right : rightKeys formula keys ≡ true) where

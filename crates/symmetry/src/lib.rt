@@ -9,22 +9,25 @@
 //
 // To compare each image with each clause would be the square of m. Clauses with the same literals have the same key (document 02, CR 5), so an image is compared in full
 // with the clauses that have its key and no others, and those are found by an index of the keys. Keys decide nothing: where two clauses share one, the full comparison
-// tells them apart. A row sends different literals to different literals, so the key of an image is the clause's own sum by a table of the images' numbers, which is made
-// once for a row.
+// tells them apart. It takes time in proportion to the two clauses: while the key of an image is summed its literals are marked, and so are those of the clause that it is
+// compared with; then each literal of either must have the other's mark.
 mod index;
 
 ghost use mathlib.Core.Path.{_≡_};
 ghost use mathlib.Core.Bool.{true};
-ghost use Prim.Native.Nat.{_≤_, _<_};
+ghost use mathlib.Core.List.{List};
+ghost use Prim.Native.Nat.{ℕ, _+_, _≤_, _<_};
 ghost use lib.ListN.{length};
-ghost use Rattle.lists.specs.Tests.{has};
+ghost use Rattle.lists.specs.Tests.{allOf, anyOf};
 ghost use Rattle.store.specs.Literals.{isLiteral};
 ghost use Rattle.store.specs.Stores.{clausesIn, clauseAt, isRow, maxVariables};
 ghost use Rattle.numbers.specs.Numbers.{numbers, numberCount};
 ghost use Rattle.keys.specs.Keys.{keyOf};
+ghost use Rattle.keys.specs.Marks.{Marked, Places, OwnPlaces, sentClause};
 ghost use Rattle.symmetry.specs.Sets.{within, sameSet};
-ghost use Rattle.symmetry.specs.Symmetry.{imageOf, clauseImage, hasImage, firstMissing};
-ghost use Rattle.symmetry.specs.Fitting.{Fitting, KeyedImage, RightClauses, RowFits, ImageNumbers};
+ghost use Rattle.symmetry.specs.Symmetry.{imageOf, firstMissing};
+ghost use Rattle.symmetry.specs.Fitting.{RightClauses, RowFits, ImagePlaces};
+ghost use Rattle.symmetry.specs.Stamps.{Stamped, MarkedOver};
 ghost use Rattle.symmetry.specs.Index.{Indexed};
 use store::clauses;
 use store::literal;
@@ -43,51 +46,68 @@ pub fn first_missing(
     requires { ⌜ RowFits m (now literals) (now ends) (now keys) (now row) × (now table ≡ numbers) ⌝ }
     ensures { λ r. ⌜ r ≡ firstMissing (now (row .entry)) (clausesIn m (now (literals .entry)) (now (ends .entry))) ⌝ }
 {
-    let mut moved = [0u64; numbers::COUNT];
-    image_numbers(row, table, &mut moved);
+    let mut places = [0u16; numbers::COUNT];
+    image_places(row, &mut places);
     let mut heads = [0u16; index::BUCKETS];
     let mut nexts = [0u16; Record::MAX_CLAUSES];
     index::of_keys(keys, m, &mut heads, &mut nexts);
-    first_missing_by(literals, ends, keys, m, row, &moved, &heads, &nexts)
+    first_missing_by(literals, ends, keys, m, &places, table, &heads, &nexts)
 }
 
-// Fills a table with the numbers of the images of the row's literals.
-fn image_numbers(row: &[u16], table: &[u64; numbers::COUNT], moved: &mut [u64])
+// Fills a table with the places of the images of the row's literals.
+fn image_places(row: &[u16], places: &mut [u16])
     requires { ⌜ (length (now row) ≤ maxVariables)
         × (isRow (length (now row)) (now row) ≡ true)
-        × (now table ≡ numbers)
-        × (length (now moved) ≡ numberCount) ⌝ }
-    ensures { λ _. ⌜ ImageNumbers (now (row .entry)) (now (moved .exit)) ⌝ }
+        × Places (now places)
+        × (length (now places) ≡ numberCount) ⌝ }
+    ensures { λ _. ⌜ ImagePlaces (now (row .entry)) (now (places .exit)) ⌝ }
 {
     let mut code = 2;
     while literal::variable(code) <= row.len() {
-        moved[keys::place(code)] = table[keys::place(image(row, code))];
+        places[keys::place(code)] = keys::place(image(row, code)) as u16;
         code += 1;
     }
 }
 
-// The number of the first clause whose image is missing, by the numbers of the images and an index of the keys.
+// The number of the first clause whose image is missing, by the places of the images and an index of the keys: by those of any row.
 fn first_missing_by(
     literals: &[u16],
     ends: &[u16],
     keys: &[u64],
     m: usize,
-    row: &[u16],
-    moved: &[u64; numbers::COUNT],
+    places: &[u16; numbers::COUNT],
+    table: &[u64; numbers::COUNT],
     heads: &[u16],
     nexts: &[u16],
 ) -> usize
-    requires { ⌜ RowFits m (now literals) (now ends) (now keys) (now row)
-        × ImageNumbers (now row) (now moved)
+    requires { ⌜ RightClauses m (now literals) (now ends) (now keys)
+        × Places (now places)
+        × (now table ≡ numbers)
         × Indexed m (now keys) (now heads) (now nexts) ⌝ }
-    ensures { λ r. ⌜ r ≡ firstMissing (now (row .entry)) (clausesIn m (now (literals .entry)) (now (ends .entry))) ⌝ }
+    ensures { λ r. let formula = clausesIn m (now (literals .entry)) (now (ends .entry)) in
+        ⌜ ((row : List ℕ) → ImagePlaces row (now (places .entry)) → allOf (allOf (isLiteral (length row))) formula ≡ true
+        → r ≡ firstMissing row formula) ⌝ }
 {
+    let own = keys::own_places();
     let mut marks = [0u16; numbers::COUNT];
+    let mut found = [0u16; numbers::COUNT];
     let mut c = 0;
     while c < m {
-        let key = keys::key_at(literals, ends, m, c, moved, &mut marks);
-        let clause = clauses::clause(literals, ends, m, c);
-        if !has_image(clause, row, key, literals, ends, keys, m, heads, nexts) {
+        let key = keys::key_at(literals, ends, m, c, places, table, &mut marks);
+        if !has_image(
+            c,
+            key,
+            places,
+            &own,
+            &marks,
+            literals,
+            ends,
+            keys,
+            m,
+            heads,
+            nexts,
+            &mut found,
+        ) {
             return c + 1;
         }
         c += 1;
@@ -95,78 +115,135 @@ fn first_missing_by(
     0
 }
 
-// Whether the image of a clause, whose key is lent, is, as a set, one of the m clauses: one of those in the key's bucket, then.
+// Whether what clause c is sent to, which has this key and is marked, is, as a set, one of the m clauses: one of those in the key's bucket, then.
 fn has_image(
-    clause: &[u16],
-    row: &[u16],
+    c: usize,
     key: u64,
+    places: &[u16; numbers::COUNT],
+    own: &[u16; numbers::COUNT],
+    marks: &[u16],
     literals: &[u16],
     ends: &[u16],
     keys: &[u64],
     m: usize,
     heads: &[u16],
     nexts: &[u16],
+    found: &mut [u16],
 ) -> bool
-    requires { ⌜ KeyedImage (now clause) (now row) key
-        × RightClauses m (now literals) (now ends) (now keys)
+    requires { let sent = sentClause (now places) (clauseAt (now literals) (now ends) c) in
+        ⌜ RightClauses m (now literals) (now ends) (now keys)
+        × (c < m)
+        × (key ≡ keyOf sent)
+        × Places (now places)
+        × OwnPlaces (now own)
+        × (Marked (c + 1) sent (now marks) × (length (now marks) ≡ numberCount))
+        × Stamped (clausesIn m (now literals) (now ends)) (now found)
         × Indexed m (now keys) (now heads) (now nexts) ⌝ }
-    ensures { λ r. let formula = clausesIn m (now (literals .entry)) (now (ends .entry)) in
-        ⌜ r ≡ hasImage (now (row .entry)) formula (now (clause .entry)) ⌝ }
+    ensures answer { λ r. let sent = sentClause (now (places .entry)) (clauseAt (now (literals .entry)) (now (ends .entry)) c) in
+        ⌜ r ≡ anyOf (sameSet sent) (clausesIn m (now (literals .entry)) (now (ends .entry))) ⌝ }
+    ensures found { λ _. ⌜ Stamped (clausesIn m (now (literals .entry)) (now (ends .entry))) (now (found .exit)) ⌝ }
 {
     let mut number = buckets::head(heads, index::bucket(key));
     while number != 0 {
-        let c = number - 1;
-        if is_image_at(clause, row, key, literals, ends, keys, m, c) {
+        let other = number - 1;
+        if is_image_at(
+            c,
+            key,
+            places,
+            own,
+            marks,
+            literals,
+            ends,
+            keys,
+            m,
+            other,
+            found,
+        ) {
             return true;
         }
-        number = buckets::next(nexts, c);
+        number = buckets::next(nexts, other);
     }
     false
 }
 
-// Whether the image of a clause is clause c of m as a set: they are compared in full only where their keys agree.
+// Whether what clause c is sent to is another of the m clauses as a set: they are compared in full only where their keys agree.
 fn is_image_at(
-    clause: &[u16],
-    row: &[u16],
+    c: usize,
     key: u64,
+    places: &[u16; numbers::COUNT],
+    own: &[u16; numbers::COUNT],
+    marks: &[u16],
     literals: &[u16],
     ends: &[u16],
     keys: &[u64],
     m: usize,
-    c: usize,
+    other: usize,
+    found: &mut [u16],
 ) -> bool
-    requires { ⌜ KeyedImage (now clause) (now row) key
-        × RightClauses m (now literals) (now ends) (now keys)
-        × (c < m) ⌝ }
-    ensures { λ r. let other = clauseAt (now (literals .entry)) (now (ends .entry)) c in
-        ⌜ r ≡ sameSet (clauseImage (now (row .entry)) (now (clause .entry))) other ⌝ }
+    requires { let sent = sentClause (now places) (clauseAt (now literals) (now ends) c) in
+        ⌜ RightClauses m (now literals) (now ends) (now keys)
+        × ((c < m) × (other < m))
+        × (key ≡ keyOf sent)
+        × Places (now places)
+        × OwnPlaces (now own)
+        × (Marked (c + 1) sent (now marks) × (length (now marks) ≡ numberCount))
+        × Stamped (clausesIn m (now literals) (now ends)) (now found) ⌝ }
+    ensures answer { λ r. let sent = sentClause (now (places .entry)) (clauseAt (now (literals .entry)) (now (ends .entry)) c) in
+        ⌜ r ≡ sameSet sent (clauseAt (now (literals .entry)) (now (ends .entry)) other) ⌝ }
+    ensures found { λ _. ⌜ Stamped (clausesIn m (now (literals .entry)) (now (ends .entry))) (now (found .exit)) ⌝ }
 {
-    if keys[c] != key {
+    if keys[other] != key {
         return false;
     }
-    is_image(clause, row, clauses::clause(literals, ends, m, c))
+    let candidate = clauses::clause(literals, ends, m, other);
+    mark(candidate, (other + 1) as u16, found);
+    is_image(
+        clauses::clause(literals, ends, m, c),
+        places,
+        (c + 1) as u16,
+        marks,
+        candidate,
+        own,
+        (other + 1) as u16,
+        found,
+    )
 }
 
-// Whether the image of a clause is, as a set, another that has the image's key. No other function compares clauses in full.
-fn is_image(clause: &[u16], row: &[u16], other: &[u16]) -> bool
-    requires { ⌜ Fitting (now clause) (now row) × (keyOf (now other) ≡ keyOf (clauseImage (now row) (now clause))) ⌝ }
-    ensures { λ r. ⌜ r ≡ sameSet (clauseImage (now (row .entry)) (now (clause .entry))) (now (other .entry)) ⌝ }
+// Whether what a clause is sent to is, as a set, another that has its key; the literals of both are marked. No other function compares clauses in full.
+fn is_image(
+    clause: &[u16],
+    places: &[u16; numbers::COUNT],
+    mark: u16,
+    marks: &[u16],
+    other: &[u16],
+    own: &[u16; numbers::COUNT],
+    stamp: u16,
+    found: &[u16],
+) -> bool
+    requires { let sent = sentClause (now places) (now clause) in
+        ⌜ (keyOf (now other) ≡ keyOf sent)
+        × ((allOf (isLiteral maxVariables) (now clause) ≡ true) × (allOf (isLiteral maxVariables) (now other) ≡ true))
+        × (Places (now places) × OwnPlaces (now own))
+        × (Marked mark sent (now marks) × (length (now marks) ≡ numberCount))
+        × (Marked stamp (now other) (now found) × (length (now found) ≡ numberCount)) ⌝ }
+    ensures { λ r. ⌜ r ≡ sameSet (sentClause (now (places .entry)) (now (clause .entry))) (now (other .entry)) ⌝ }
 {
-    if !images_within(clause, row, other) {
+    if !all_marked(clause, places, stamp, found) {
         return false;
     }
-    within_images(clause, row, other)
+    all_marked(other, own, mark, marks)
 }
 
-// Whether the image of every literal of a clause is one of the other's.
-fn images_within(clause: &[u16], row: &[u16], other: &[u16]) -> bool
-    requires { ⌜ Fitting (now clause) (now row) ⌝ }
-    ensures { λ r. ⌜ r ≡ within (clauseImage (now (row .entry)) (now (clause .entry))) (now (other .entry)) ⌝ }
+// Whether all that a clause is sent to is marked: whether it is within the codes that have this mark.
+fn all_marked(clause: &[u16], places: &[u16; numbers::COUNT], mark: u16, marks: &[u16]) -> bool
+    requires { ⌜ (allOf (isLiteral maxVariables) (now clause) ≡ true) × Places (now places) × (length (now marks) ≡ numberCount) ⌝ }
+    ensures { λ r. ⌜ ((codes : List ℕ) → Marked mark codes (now (marks .entry))
+        → r ≡ within (sentClause (now (places .entry)) (now (clause .entry))) codes) ⌝ }
 {
     let mut i = 0;
     while i < clause.len() {
-        let image = image(row, literal::wide(clause[i]));
-        if !contains(other, image) {
+        let place = keys::wide(places[keys::place(literal::wide(clause[i]))]);
+        if marks[place] != mark {
             return false;
         }
         i += 1;
@@ -174,49 +251,16 @@ fn images_within(clause: &[u16], row: &[u16], other: &[u16]) -> bool
     true
 }
 
-// Whether every literal of the other clause is the image of one of a clause's.
-fn within_images(clause: &[u16], row: &[u16], other: &[u16]) -> bool
-    requires { ⌜ Fitting (now clause) (now row) ⌝ }
-    ensures { λ r. ⌜ r ≡ within (now (other .entry)) (clauseImage (now (row .entry)) (now (clause .entry))) ⌝ }
+// Marks the literals of a clause.
+fn mark(clause: &[u16], mark: u16, marks: &mut [u16])
+    requires { ⌜ (allOf (isLiteral maxVariables) (now clause) ≡ true) × (length (now marks) ≡ numberCount) ⌝ }
+    ensures { λ _. ⌜ MarkedOver (now (clause .entry)) mark (now (marks .entry)) (now (marks .exit)) ⌝ }
 {
     let mut j = 0;
-    while j < other.len() {
-        let code = literal::wide(other[j]);
-        if !image_contains(clause, row, code) {
-            return false;
-        }
+    while j < clause.len() {
+        marks[keys::place(literal::wide(clause[j]))] = mark;
         j += 1;
     }
-    true
-}
-
-// Whether a literal is one of a clause's.
-fn contains(clause: &[u16], code: u32) -> bool
-    ensures { λ r. ⌜ r ≡ has (now (clause .entry)) code ⌝ }
-{
-    let mut place = 0;
-    while place < clause.len() {
-        if literal::wide(clause[place]) == code {
-            return true;
-        }
-        place += 1;
-    }
-    false
-}
-
-// Whether a literal is the image of one of a clause's.
-fn image_contains(clause: &[u16], row: &[u16], code: u32) -> bool
-    requires { ⌜ Fitting (now clause) (now row) ⌝ }
-    ensures { λ r. ⌜ r ≡ has (clauseImage (now (row .entry)) (now (clause .entry))) code ⌝ }
-{
-    let mut at = 0;
-    while at < clause.len() {
-        if image(row, literal::wide(clause[at])) == code {
-            return true;
-        }
-        at += 1;
-    }
-    false
 }
 
 // The image of a literal of the row's variables.

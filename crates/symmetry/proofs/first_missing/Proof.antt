@@ -1,7 +1,10 @@
--- `symmetry::first_missing` meets its contract: the images' numbers and an index of the keys are made in scratch memory, and the clauses are gone through by them.
+-- `symmetry::first_missing` meets its contract: the places of the images and an index of the keys are made in scratch memory, and the clauses are gone through by them.
 -- Assumes nothing.
 use mathlib.Core.Path.{refl, sym}
 use Rattle.store.proofs.Cuts.{clauses-count}
+use Rattle.store.specs.Stores.{maxVariables}
+use Rattle.store.proofs.Within.{formula-within}
+use Rattle.keys.proofs.MarkLaws.{unmarked}
 use Rattle.keys.proofs.RightLaws.{right-long}
 use borrow.Author.Needs.{needs}
 use native.Mathlib.Omega.{arith}
@@ -14,22 +17,35 @@ of-keys-requires c κs =
     let count = clauses-count (s .args .literals .now) (s .args .ends .now) (s .args .m) (s .pre .0 .formula .clauses .known) in
     (omega (arith, count, right-long _ _ (s .pre .0 .keys-right)), s .pre .0 .formula .clauses-fit, refl, s .pre .0 .formula .clauses-fit)
 
+-- the start, from where the places of the images are known
+abbrev begun : tie.After-image-places → tie.Start
+begun c = c .before .before .before .before .before .before
+
 first-missing-by-requires : tie.Need-first-missing-by-requires
 first-missing-by-requires c κs =
     let made = c .before .before .before .before .before in
-    let table = made .before .before .before .before in
-    (table .before .before .before .before .before .before .pre .0, table .image-numbers .ensures, made .of-keys .ensures)
+    let placed = made .before .before .before .before in
+    let s = begun placed in
+    let fits = s .pre .0 in (
+      record { formula = formula-within _ maxVariables _ _ _ (fits .variables-fit) (fits .formula); keys-right = fits .keys-right },
+      placed .image-places .ensures .places,
+      s .pre .1,
+      made .of-keys .ensures,
+    )
 
 pub first-missing-spec : {M : Type 1} → statement M
 first-missing-spec =
     tie.close
     (tie.spec
     (search needs)
-    (λ c κs. let s = c .before .before .before .before .before in (s .pre .0 .variables-fit, s .pre .0 .is-row, s .pre .1, refl))
+    (λ c κs. let s = c .before .before .before .before .before in (s .pre .0 .variables-fit, s .pre .0 .is-row, λ i h. omega (arith, unmarked .low i), refl))
     (search needs)
     (search needs)
     of-keys-requires
     (λ c. sym (c .before .before .before .before .of-keys .kept .1 .1 .0))
     (λ c. sym (c .before .before .before .before .before .of-keys .kept .1 .1 .1 .0))
     first-missing-by-requires
-    (λ c. c .first-missing-by .ensures))
+    (λ c.
+    let placed = c .before .before .before .before .before .before .before .before .before .before in
+    let s = begun placed in
+    c .first-missing-by .ensures (s .args .row .now) (placed .image-places .ensures) (s .pre .0 .formula .literals-good)))

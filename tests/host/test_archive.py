@@ -15,6 +15,10 @@ INCLUDE = os.path.join(library.ROOT, "include")
 OUTSIDE = {"memcpy", "memset"}
 
 
+# how a frame of more than eight pages is taken: in a loop that touches each page, down to an address in r11
+PAGE_BY_PAGE = r"\tmov +%rsp,%r11\n.*\tsub +\$(0x[0-9a-f]+),%r11\n.*\tsub +\$0x1000,%rsp\n.*\tmovq +\$0x0,\(%rsp\)\n.*\tcmp +%r11,%rsp\n.*\tjne .*\n"
+
+
 def output(*command):
     return subprocess.run(command, check=True, capture_output=True, text=True).stdout
 
@@ -25,6 +29,7 @@ def functions():
     found = {}
     _, *parts = re.split(r"^[0-9a-f]+ <(.+)>:$", output("objdump", "-dr", "--no-show-raw-insn", library.archive()), flags=re.M)
     for name, code in zip(parts[::2], parts[1::2]):
+        code = re.sub(PAGE_BY_PAGE, r"\tsub $\1,%rsp\n", code)
         assert all(re.match(r"(sub|add) +\$0x", each) for each in re.findall(r"\t(.*),%rsp$", code, re.M)), name
         taken = re.findall(r"\tsub +\$(0x[0-9a-f]+),%rsp", code) + ["8"] * len(re.findall(r"\tpush ", code))
         below = [-(-int(size, 0) // 8) * 8 for size in re.findall(r"-(0x[0-9a-f]+)\(%rsp[,)]", code)]  # in whole words, as they are measured

@@ -27,7 +27,7 @@ extern "C" {
 #define SYMBREAK_MAX_ROWS 64
 
 /* No call has more bytes than this on the stack, from its return address down, with what it keeps below the stack pointer (the red zone); only an offer has
- * more than 4,096. Outside the library only memcpy and memset are called; what they have comes on top. On x86-64 the registers of SSE2 are used. */
+ * more than 16,384. Outside the library only memcpy and memset are called; what they have comes on top. On x86-64 the registers of SSE2 are used. */
 #define SYMBREAK_MAX_STACK 40960
 
 /* Refusals, each with its place. Those of a text or a line have the offset in bytes, from 0, of the word that offends, unless the comment says which

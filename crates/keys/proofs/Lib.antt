@@ -1,4 +1,5 @@
 pub mod Sums
 pub mod KeyLaws
+pub mod Counts
 pub mod MarkLaws
 pub mod RightLaws

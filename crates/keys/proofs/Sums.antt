@@ -21,7 +21,7 @@ has-most [] x e = never e
 has-most (c ∷ l) x e = or-cases (eqb c x) (has l x) e (λ q. omega (arith, eqb-true c x q)) (λ q. omega (arith, has-most l x q))
 
 module _ (f : ℕ → ℕ) where
-  summed : (ℕ → Bool) → ℕ → ℕ
+  unfoldable pub summed : (ℕ → Bool) → ℕ → ℕ
   summed p zero = 0
   summed p (suc k) = cond (p k) (f k) 0 + summed p k
 
@@ -53,7 +53,7 @@ module _ (f : ℕ → ℕ) where
     summed-more (suc k) h = ⊎-elim (more-here k) (λ n. more-later k n (summed-more k (omega arith))) (eq-or-ne c k)
 
   -- the sum of the different ones is the sum over all that the list has
-  by-members : (l : List ℕ) (k : ℕ) → ((x : ℕ) → has l x ≡ true → x < k) → total (map f (different l)) ≡ summed (has l) k
+  pub by-members : (l : List ℕ) (k : ℕ) → ((x : ℕ) → has l x ≡ true → x < k) → total (map f (different l)) ≡ summed (has l) k
   unfolding different total anyOf
   by-members [] k low = sym (summed-none k)
   by-members (c ∷ l) k low = go (by-members l k (λ x e. low x (has-rest c l x e))) (has l c) refl

@@ -10,13 +10,13 @@ use lib.ListN.{length, getD, drop, drop-of-length-le, set, length-set, replicate
 use lib.Seq.{getD-set-same, getD-set-other}
 use lib.Dec.{eqb}
 use Rattle.lists.specs.Tests.{anyOf, allOf, has}
-use Rattle.lists.proofs.Cases.{and-l, and-r, lt-or-le, eq-or-ne}
+use Rattle.lists.proofs.Cases.{and-l, and-r, and-both, lt-or-le, eq-or-ne}
 use Rattle.lists.proofs.Members.{has-head, has-other, has-again}
 use Rattle.lists.proofs.Steps.{drop-step}
 use Rattle.numbers.specs.Numbers.{numbers, numberCount}
 use Rattle.store.specs.Literals.{isLiteral}
 use Rattle.store.specs.Stores.{maxVariables}
-use Rattle.store.proofs.FormLaws.{literal-low, literal-high}
+use Rattle.store.proofs.FormLaws.{literal-low, literal-high, literal-within}
 use Rattle.keys.specs.Keys.{keyBy, keyOf}
 use Rattle.keys.specs.Marks.{Below, Marked, Places, OwnPlaces, sentClause}
 use Rattle.keys.proofs.KeyLaws.{Hand, hand-rest}
@@ -72,6 +72,15 @@ pub below-next : (mark : ℕ) (marks : List ℕ) → Below mark marks → Below 
 below-next mark marks low = record { room = low .room; low = λ j. omega (arith, low .low j) }
 
 -- ---- literals sent elsewhere, and each to itself
+
+pub sent-literals : (table : List ℕ) → Places table → (clause : List ℕ) → allOf (isLiteral maxVariables) clause ≡ true → allOf (isLiteral maxVariables) (sentClause table clause) ≡ true
+unfolding allOf
+sent-literals table places [] e = refl
+sent-literals table places (code ∷ clause) e =
+    let good = and-l (isLiteral maxVariables code) (allOf (isLiteral maxVariables) clause) e in
+    let at = places (code - 2) (omega (arith, literal-low maxVariables code good, literal-high maxVariables code good)) in
+    and-both (literal-within maxVariables (getD table (code - 2) 0 + 2) (omega arith) (omega arith))
+    (sent-literals table places clause (and-r (isLiteral maxVariables code) (allOf (isLiteral maxVariables) clause) e))
 
 module _ (own : List ℕ) (places : OwnPlaces own) where
   pub sent-own : (clause : List ℕ) → allOf (isLiteral maxVariables) clause ≡ true → sentClause own clause ≡ clause

@@ -7,6 +7,9 @@ ghost use Rattle.numbers.specs.Numbers.{numbers};
 // How many there are.
 pub const COUNT: usize = 1024;
 
+// The range of the last eleven bits.
+pub const COUNT_RANGE: u64 = 2048;
+
 const NUMBERS: [u64; COUNT] = [
     8399848799940609,
     24472253299388417,

@@ -8,4 +8,3 @@ pub mod Onto
 pub mod Theorem
 pub mod Facts
 pub mod Examples
-pub mod StampLaws

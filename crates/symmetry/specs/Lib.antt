@@ -2,4 +2,4 @@ pub mod Sets
 pub mod Symmetry
 pub mod Fitting
 pub mod Index
-pub mod Stamps
+pub mod Sought

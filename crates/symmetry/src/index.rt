@@ -21,9 +21,9 @@ pub fn of_keys(keys: &[u64], m: usize, heads: &mut [u16], nexts: &mut [u16])
     }
 }
 
-// The bucket of a key.
+// The bucket of a key, by its last bits but for those that are a count.
 pub fn bucket(key: u64) -> usize
     ensures { λ r. ⌜ r ≡ bucketOf key ⌝ }
 {
-    (key % BUCKETS as u64) as usize
+    (key / numbers::COUNT_RANGE % BUCKETS as u64) as usize
 }

@@ -9,25 +9,26 @@
 //
 // To compare each image with each clause would be the square of m. Clauses with the same literals have the same key (document 02, CR 5), so an image is compared in full
 // with the clauses that have its key and no others, and those are found by an index of the keys. Keys decide nothing: where two clauses share one, the full comparison
-// tells them apart. It takes time in proportion to the two clauses: while the key of an image is summed its literals are marked, and so are those of the clause that it is
-// compared with; then each literal of either must have the other's mark.
+// tells them apart. It takes time in proportion to the clause that the image is compared with: while the key of an image is summed its literals are marked, and it is enough
+// that each literal of the clause has the mark, since the last bits of a key are the count of different literals (docs/KEYS.md; `keys/proofs/Counts.antt`).
 mod index;
 
 ghost use mathlib.Core.Path.{_≡_};
-ghost use mathlib.Core.Bool.{true};
+ghost use mathlib.Core.Bool.{true, cond};
 ghost use mathlib.Core.List.{List};
-ghost use Prim.Native.Nat.{ℕ, _+_, _≤_, _<_};
+ghost use Prim.Native.Nat.{ℕ, _≤_, _<_};
 ghost use lib.ListN.{length};
+ghost use lib.Dec.{eqb};
 ghost use Rattle.lists.specs.Tests.{allOf, anyOf};
 ghost use Rattle.store.specs.Literals.{isLiteral};
 ghost use Rattle.store.specs.Stores.{clausesIn, clauseAt, isRow, maxVariables};
 ghost use Rattle.numbers.specs.Numbers.{numbers, numberCount};
 ghost use Rattle.keys.specs.Keys.{keyOf};
-ghost use Rattle.keys.specs.Marks.{Marked, Places, OwnPlaces, sentClause};
-ghost use Rattle.symmetry.specs.Sets.{within, sameSet};
+ghost use Rattle.keys.specs.Marks.{Places};
+ghost use Rattle.symmetry.specs.Sets.{sameSet};
 ghost use Rattle.symmetry.specs.Symmetry.{imageOf, firstMissing};
 ghost use Rattle.symmetry.specs.Fitting.{RightClauses, RowFits, ImagePlaces};
-ghost use Rattle.symmetry.specs.Stamps.{Stamped, MarkedOver};
+ghost use Rattle.symmetry.specs.Sought.{Sought, SoughtKey};
 ghost use Rattle.symmetry.specs.Index.{Indexed};
 use store::clauses;
 use store::literal;
@@ -88,17 +89,13 @@ fn first_missing_by(
         ⌜ ((row : List ℕ) → ImagePlaces row (now (places .entry)) → allOf (allOf (isLiteral (length row))) formula ≡ true
         → r ≡ firstMissing row formula) ⌝ }
 {
-    let own = keys::own_places();
     let mut marks = [0u16; numbers::COUNT];
-    let mut found = [0u16; numbers::COUNT];
     let mut c = 0;
     while c < m {
         let key = keys::key_at(literals, ends, m, c, places, table, &mut marks);
         if !has_image(
-            c,
             key,
-            places,
-            &own,
+            (c + 1) as u16,
             &marks,
             literals,
             ends,
@@ -106,7 +103,6 @@ fn first_missing_by(
             m,
             heads,
             nexts,
-            &mut found,
         ) {
             return c + 1;
         }
@@ -115,12 +111,10 @@ fn first_missing_by(
     0
 }
 
-// Whether what clause c is sent to, which has this key and is marked, is, as a set, one of the m clauses: one of those in the key's bucket, then.
+// Whether the literals that have this key and this mark are, as a set, one of the m clauses: one of those in the key's bucket, then.
 fn has_image(
-    c: usize,
     key: u64,
-    places: &[u16; numbers::COUNT],
-    own: &[u16; numbers::COUNT],
+    mark: u16,
     marks: &[u16],
     literals: &[u16],
     ends: &[u16],
@@ -128,37 +122,22 @@ fn has_image(
     m: usize,
     heads: &[u16],
     nexts: &[u16],
-    found: &mut [u16],
 ) -> bool
-    requires { let sent = sentClause (now places) (clauseAt (now literals) (now ends) c) in
-        ⌜ RightClauses m (now literals) (now ends) (now keys)
-        × (c < m)
-        × (key ≡ keyOf sent)
-        × Places (now places)
-        × OwnPlaces (now own)
-        × (Marked (c + 1) sent (now marks) × (length (now marks) ≡ numberCount))
-        × Stamped (clausesIn m (now literals) (now ends)) (now found)
+    requires { ⌜ RightClauses m (now literals) (now ends) (now keys)
+        × SoughtKey key mark (now marks)
+        × (length (now marks) ≡ numberCount)
         × Indexed m (now keys) (now heads) (now nexts) ⌝ }
-    ensures answer { λ r. let sent = sentClause (now (places .entry)) (clauseAt (now (literals .entry)) (now (ends .entry)) c) in
-        ⌜ r ≡ anyOf (sameSet sent) (clausesIn m (now (literals .entry)) (now (ends .entry))) ⌝ }
-    ensures found { λ _. ⌜ Stamped (clausesIn m (now (literals .entry)) (now (ends .entry))) (now (found .exit)) ⌝ }
+    ensures { λ r. let formula = clausesIn m (now (literals .entry)) (now (ends .entry)) in
+        ⌜ ((image : List ℕ) → Sought mark (now (marks .entry)) image → r ≡ anyOf (sameSet image) formula) ⌝ }
 {
-    let mut number = buckets::head(heads, index::bucket(key));
+    let head = buckets::head(heads, index::bucket(key));
+    if head == 0 {
+        return false;
+    }
+    let mut number = nearer(keys[head - 1], key, head, buckets::next(nexts, head - 1));
     while number != 0 {
         let other = number - 1;
-        if is_image_at(
-            c,
-            key,
-            places,
-            own,
-            marks,
-            literals,
-            ends,
-            keys,
-            m,
-            other,
-            found,
-        ) {
+        if is_image_at(key, mark, marks, literals, ends, keys, m, other) {
             return true;
         }
         number = buckets::next(nexts, other);
@@ -166,101 +145,57 @@ fn has_image(
     false
 }
 
-// Whether what clause c is sent to is another of the m clauses as a set: they are compared in full only where their keys agree.
+// The first in a bucket where it has the key that is looked for, and the next one else. Which of the two it is can't be foreseen, and a branch that is not foreseen costs
+// more than the rest of the search; so both are at hand, for one to be taken without a branch.
+fn nearer(stored: u64, key: u64, first: usize, next: usize) -> usize
+    ensures { λ r. ⌜ r ≡ cond (eqb stored key) first next ⌝ }
+{
+    if stored == key {
+        return first;
+    }
+    next
+}
+
+// Whether the literals that have this key and this mark are another of the m clauses as a set: they are compared in full only where the keys agree.
 fn is_image_at(
-    c: usize,
     key: u64,
-    places: &[u16; numbers::COUNT],
-    own: &[u16; numbers::COUNT],
+    mark: u16,
     marks: &[u16],
     literals: &[u16],
     ends: &[u16],
     keys: &[u64],
     m: usize,
     other: usize,
-    found: &mut [u16],
 ) -> bool
-    requires { let sent = sentClause (now places) (clauseAt (now literals) (now ends) c) in
-        ⌜ RightClauses m (now literals) (now ends) (now keys)
-        × ((c < m) × (other < m))
-        × (key ≡ keyOf sent)
-        × Places (now places)
-        × OwnPlaces (now own)
-        × (Marked (c + 1) sent (now marks) × (length (now marks) ≡ numberCount))
-        × Stamped (clausesIn m (now literals) (now ends)) (now found) ⌝ }
-    ensures answer { λ r. let sent = sentClause (now (places .entry)) (clauseAt (now (literals .entry)) (now (ends .entry)) c) in
-        ⌜ r ≡ sameSet sent (clauseAt (now (literals .entry)) (now (ends .entry)) other) ⌝ }
-    ensures found { λ _. ⌜ Stamped (clausesIn m (now (literals .entry)) (now (ends .entry))) (now (found .exit)) ⌝ }
+    requires { ⌜ RightClauses m (now literals) (now ends) (now keys)
+        × (other < m)
+        × SoughtKey key mark (now marks)
+        × (length (now marks) ≡ numberCount) ⌝ }
+    ensures { λ r. ⌜ ((image : List ℕ) → Sought mark (now (marks .entry)) image
+        → r ≡ sameSet image (clauseAt (now (literals .entry)) (now (ends .entry)) other)) ⌝ }
 {
     if keys[other] != key {
         return false;
     }
-    let candidate = clauses::clause(literals, ends, m, other);
-    mark(candidate, (other + 1) as u16, found);
-    is_image(
-        clauses::clause(literals, ends, m, c),
-        places,
-        (c + 1) as u16,
-        marks,
-        candidate,
-        own,
-        (other + 1) as u16,
-        found,
-    )
+    is_image(clauses::clause(literals, ends, m, other), mark, marks)
 }
 
-// Whether what a clause is sent to is, as a set, another that has its key; the literals of both are marked. No other function compares clauses in full.
-fn is_image(
-    clause: &[u16],
-    places: &[u16; numbers::COUNT],
-    mark: u16,
-    marks: &[u16],
-    other: &[u16],
-    own: &[u16; numbers::COUNT],
-    stamp: u16,
-    found: &[u16],
-) -> bool
-    requires { let sent = sentClause (now places) (now clause) in
-        ⌜ (keyOf (now other) ≡ keyOf sent)
-        × ((allOf (isLiteral maxVariables) (now clause) ≡ true) × (allOf (isLiteral maxVariables) (now other) ≡ true))
-        × (Places (now places) × OwnPlaces (now own))
-        × (Marked mark sent (now marks) × (length (now marks) ≡ numberCount))
-        × (Marked stamp (now other) (now found) × (length (now found) ≡ numberCount)) ⌝ }
-    ensures { λ r. ⌜ r ≡ sameSet (sentClause (now (places .entry)) (now (clause .entry))) (now (other .entry)) ⌝ }
-{
-    if !all_marked(clause, places, stamp, found) {
-        return false;
-    }
-    all_marked(other, own, mark, marks)
-}
-
-// Whether all that a clause is sent to is marked: whether it is within the codes that have this mark.
-fn all_marked(clause: &[u16], places: &[u16; numbers::COUNT], mark: u16, marks: &[u16]) -> bool
-    requires { ⌜ (allOf (isLiteral maxVariables) (now clause) ≡ true) × Places (now places) × (length (now marks) ≡ numberCount) ⌝ }
-    ensures { λ r. ⌜ ((codes : List ℕ) → Marked mark codes (now (marks .entry))
-        → r ≡ within (sentClause (now (places .entry)) (now (clause .entry))) codes) ⌝ }
+// Whether the literals that have this mark are, as a set, a clause that has their key. No other function compares clauses in full. The keys say that there are as many
+// different literals in the one as in the other, so it is enough that each of the clause's has the mark.
+fn is_image(clause: &[u16], mark: u16, marks: &[u16]) -> bool
+    requires { ⌜ SoughtKey (keyOf (now clause)) mark (now marks)
+        × (allOf (isLiteral maxVariables) (now clause) ≡ true)
+        × (length (now marks) ≡ numberCount) ⌝ }
+    ensures { λ r. ⌜ ((image : List ℕ) → Sought mark (now (marks .entry)) image → r ≡ sameSet image (now (clause .entry))) ⌝ }
 {
     let mut i = 0;
     while i < clause.len() {
-        let place = keys::wide(places[keys::place(literal::wide(clause[i]))]);
-        if marks[place] != mark {
+        if marks[keys::place(literal::wide(clause[i]))] != mark {
             return false;
         }
         i += 1;
     }
     true
-}
-
-// Marks the literals of a clause.
-fn mark(clause: &[u16], mark: u16, marks: &mut [u16])
-    requires { ⌜ (allOf (isLiteral maxVariables) (now clause) ≡ true) × (length (now marks) ≡ numberCount) ⌝ }
-    ensures { λ _. ⌜ MarkedOver (now (clause .entry)) mark (now (marks .entry)) (now (marks .exit)) ⌝ }
-{
-    let mut j = 0;
-    while j < clause.len() {
-        marks[keys::place(literal::wide(clause[j]))] = mark;
-        j += 1;
-    }
 }
 
 // The image of a literal of the row's variables.

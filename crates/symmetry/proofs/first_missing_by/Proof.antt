@@ -1,4 +1,4 @@
--- `symmetry::first_missing_by` meets its contract. The invariant: the answer is that for the clauses from clause c on, no mark is above c, and no stamp lies. Assumes nothing.
+-- `symmetry::first_missing_by` meets its contract. The invariant: the answer is that for the clauses from clause c on, and no mark is above c. Assumes nothing.
 use mathlib.Core.Path.{_≡_, refl, sym, ap, _∙_}
 use mathlib.Core.Bool.{true}
 use mathlib.Core.List.{List, []}
@@ -8,36 +8,35 @@ use lib.ListN.{length, getD, drop}
 use Rattle.lists.specs.Tests.{allOf, anyOf}
 use Rattle.lists.proofs.Members.{all-at}
 use Rattle.store.specs.Literals.{isLiteral}
-use Rattle.store.specs.Stores.{clausesIn, clauseAt}
+use Rattle.store.specs.Stores.{clausesIn, clauseAt, maxVariables}
 use Rattle.store.proofs.Cuts.{clauses-count, clause-is}
+use Rattle.store.proofs.Within.{clause-good}
 use Rattle.keys.specs.Keys.{keyBy}
 use Rattle.keys.specs.Marks.{Below, sentClause}
-use Rattle.keys.proofs.MarkLaws.{unmarked}
+use Rattle.keys.proofs.MarkLaws.{unmarked, sent-literals}
 use Rattle.symmetry.specs.Sets.{sameSet}
 use Rattle.symmetry.specs.Symmetry.{hasImage, missingFrom, firstMissing}
 use Rattle.symmetry.specs.Fitting.{ImagePlaces}
-use Rattle.symmetry.specs.Stamps.{Stamped}
+use Rattle.symmetry.specs.Sought.{Sought, SoughtKey}
 use Rattle.symmetry.proofs.Missing.{missing-here, missing-later, missing-end}
-use Rattle.symmetry.proofs.KeyLaws.{sent-image}
-use Rattle.symmetry.proofs.StampLaws.{stamped-none}
+use Rattle.symmetry.proofs.KeyLaws.{one-key, sent-image}
 use native.Mathlib.Omega.{arith}
 use borrow.Author.Needs.{needs}
 use Rattle.symmetry.proofs.first_missing_by.Statement.{statement}
 use Rattle.symmetry.proofs.first_missing_by.Tie as tie
 
 abbrev Inv-loop : tie.InvT-loop
-Inv-loop literals ends keys m places table heads nexts own marks₀ found₀ c₀ marks found c =
+Inv-loop literals ends keys m places table heads nexts marks₀ c₀ marks c =
     let formula = clausesIn m literals ends in
     ((row : List ℕ) → ImagePlaces row places → allOf (allOf (isLiteral (length row))) formula ≡ true → firstMissing row formula ≡ missingFrom row formula (c + 1) (drop c formula))
     × Below (c + 1) marks
-    × Stamped formula found
 
 abbrev μ-loop : tie.MeasureT-loop
-μ-loop literals ends keys m places table heads nexts own marks₀ found₀ c₀ marks found c = m - c
+μ-loop literals ends keys m places table heads nexts marks₀ c₀ marks c = m - c
 
 -- the start, from the loop's head
 abbrev begun : tie.At-loop Inv-loop μ-loop → tie.Start Inv-loop μ-loop
-begun at = at .before .before .before .before .before .before .before
+begun at = at .before .before .before .before .before .before
 
 abbrev formula : tie.Start Inv-loop μ-loop → List (List ℕ)
 formula s = clausesIn (s .args .m) (s .args .literals .now) (s .args .ends .now)
@@ -45,7 +44,7 @@ formula s = clausesIn (s .args .m) (s .args .literals .now) (s .args .ends .now)
 count : (s : tie.Start Inv-loop μ-loop) → length (formula s) ≡ s .args .m
 count s = clauses-count (s .args .literals .now) (s .args .ends .now) (s .args .m) (s .pre .0 .formula .clauses .known)
 
--- clause c of the formula, and what was found of its image, for any row
+-- clause c of the formula, and what it is sent to
 at-hand : (c : tie.In-loop Inv-loop μ-loop) → let at = c .before in
     let s = begun at in
     (at .loop .c < length (formula s)) × (clauseAt (s .args .literals .now) (s .args .ends .now) (at .loop .c) ≡ getD (formula s) (at .loop .c) [])
@@ -54,56 +53,66 @@ at-hand c =
     let s = begun at in
     (omega (arith, count s), sym (clause-is (s .args .literals .now) (s .args .ends .now) (s .args .m) (at .loop .c) (s .pre .0 .formula .clauses .known) (omega arith)))
 
-found-image : (c : tie.After-has-image Inv-loop μ-loop) → let t = c .before .before .before .before .before .before .before in
+abbrev sent : tie.At-loop Inv-loop μ-loop → List ℕ
+sent at = let s = begun at in sentClause (s .args .places .now) (clauseAt (s .args .literals .now) (s .args .ends .now) (at .loop .c))
+
+-- it is what is looked for
+sought : (c : tie.After-key-at Inv-loop μ-loop) → let at = c .before .before .before in
+    Sought (at .loop .c + 1) (c .key-at .last .1 .1 .1 .1 .1 .1 .0) (sent at)
+sought c =
+    let at = c .before .before .before in
+    let s = begun at in
+    record {
+      literals = sent-literals (s .args .places .now) (s .pre .1) _ (clause-good maxVariables (s .args .m) (s .args .literals .now) (s .args .ends .now) (s .pre .0 .formula) (at .loop .c) (omega arith));
+      marked = c .key-at .ensures .1 .0;
+    }
+
+sought-key : (c : tie.After-key-at Inv-loop μ-loop) → let at = c .before .before .before in
+    SoughtKey (c .key-at .result) (at .loop .c + 1) (c .key-at .last .1 .1 .1 .1 .1 .1 .0)
+sought-key c image other =
+    let at = c .before .before .before in
+    one-key _ _ image (sent at) other (sought c) ∙ sym (c .key-at .ensures .0 ∙ ap (λ (table : List ℕ). keyBy table (sent at)) (begun at .pre .2))
+
+-- what was found of its image, for any row
+found-image : (c : tie.After-has-image Inv-loop μ-loop) → let t = c .before .before .before .before .before in
     let at = t .before in
     let s = begun at in
     (row : List ℕ) → ImagePlaces row (s .args .places .now) → allOf (allOf (isLiteral (length row))) (formula s) ≡ true
     → c .has-image .result ≡ hasImage row (formula s) (clauseAt (s .args .literals .now) (s .args .ends .now) (at .loop .c))
 unfolding hasImage
 found-image c row places good =
-    let t = c .before .before .before .before .before .before .before in
+    let t = c .before .before .before .before .before in
     let at = t .before in
     let s = begun at in
     let h = at-hand t in
     let fits = rw (← h .1) at (all-at (allOf (isLiteral (length row))) (formula s) [] good (at .loop .c) (h .0)) in
-    c .has-image .ensures .0 ∙ ap (λ (image : List ℕ). anyOf (sameSet image) (formula s)) (sent-image row (s .args .places .now) places _ fits)
+    c .has-image .ensures (sent at) (sought (c .before .before .before)) ∙ ap (λ (image : List ℕ). anyOf (sameSet image) (formula s)) (sent-image row (s .args .places .now) places _ fits)
 
 key-at-requires : tie.Need-key-at-requires Inv-loop μ-loop
 key-at-requires c κs = let at = c .before .before in let s = begun at in (s .pre .0 .formula, omega arith, s .pre .1, at .loop .inv .1)
 
 has-image-requires : tie.Need-has-image-requires Inv-loop μ-loop
 has-image-requires c κs =
-    let k = c .before .before .before .before in
-    let at = k .before .before .before in
-    let s = begun at in
-    let e = k .key-at .ensures in (
-      s .pre .0,
-      omega arith,
-      e .0 ∙ ap (λ (table : List ℕ). keyBy table (sentClause (s .args .places .now) (clauseAt (s .args .literals .now) (s .args .ends .now) (at .loop .c)))) (s .pre .2),
-      s .pre .1,
-      at .before .own-places .ensures,
-      (e .1 .0, e .1 .1 .room),
-      at .loop .inv .2,
-      s .pre .3,
-    )
+    let k = c .before .before in
+    let s = begun (k .before .before .before) in
+    (s .pre .0, sought-key k, k .key-at .ensures .1 .1 .room, s .pre .3)
 
 returns : tie.Need-returns Inv-loop μ-loop
 returns c row places good =
-    let i = c .before .before in
-    let t = i .before .before .before .before .before .before .before in
+    let i = c .before in
+    let t = i .before .before .before .before .before in
     let h = at-hand t in
     sym (t .before .loop .inv .0 row places good ∙ missing-here _ _ _ (t .before .loop .c) _ (h .1) (h .0) (sym (found-image i row places good) ∙ not-true _ (c .if1 .taken)))
 
 loop-again : tie.Need-loop-again Inv-loop μ-loop
 loop-again c =
-    let i = c .before .before in
-    let t = i .before .before .before .before .before .before .before in
+    let i = c .before in
+    let t = i .before .before .before .before .before in
     let at = t .before in
     let h = at-hand t in
     let next : at .loop .c + 2 ≡ at .loop .c + 1 + 1 = omega arith in (
       λ row places good. at .loop .inv .0 row places good ∙ missing-later _ _ _ (at .loop .c) _ (h .1) (h .0) (sym (found-image i row places good) ∙ not-false _ (c .if1 .left)),
-      rw next at (i .before .before .before .before .before .key-at .ensures .1 .1),
-      i .has-image .ensures .1,
+      rw next at (i .before .before .before .key-at .ensures .1 .1),
     )
 
 returns-2 : tie.Need-returns-2 Inv-loop μ-loop
@@ -115,12 +124,12 @@ first-missing-by-spec =
     (tie.spec
     Inv-loop
     μ-loop
-    (search needs)
-    (λ c. (λ row places good. refl, unmarked, stamped-none _))
+    (λ c. (λ row places good. refl, unmarked))
     (λ c. sym (c .before .before .loop .inv .1 .room))
     key-at-requires
-    (λ c. sym (c .before .before .before .key-at .ensures .1 .1 .room))
-    (λ c. sym (c .before .before .before .before .before .before .before .loop .inv .2 .room))
+    (search needs)
+    (λ c. let at = c .before .before .before .before in omega (arith, begun at .pre .0 .formula .clauses-fit))
+    (λ c. sym (c .before .before .key-at .ensures .1 .1 .room))
     has-image-requires
     (search needs)
     returns

@@ -1,101 +1,125 @@
--- `symmetry::has_image` meets its contract. The invariant: the image is among the clauses if it is among those up to `number`, from 1. Assumes nothing.
-use mathlib.Core.Path.{_≡_, sym, ap, _∙_}
+-- `symmetry::has_image` meets its contract. The invariant: what is looked for is among the clauses if it is among those up to `number`, from 1. Assumes nothing.
+use mathlib.Core.Path.{_≡_, refl, sym, ap, _∙_}
 use mathlib.Core.List.{List, []}
-use Prim.Native.Nat.{ℕ, _-_, _<_}
+use Prim.Native.Nat.{ℕ, _+_, _-_, _≤_, _<_}
 use lib.ListN.{length, getD}
-use Rattle.store.specs.Stores.{clauseAt, clausesIn}
+use Rattle.store.specs.Stores.{clausesIn}
 use Rattle.store.proofs.Cuts.{clauses-count, clause-is}
-use Rattle.keys.specs.Marks.{sentClause}
+use Rattle.keys.proofs.RightLaws.{right-long}
 use Rattle.symmetry.specs.Sets.{sameSet}
-use Rattle.symmetry.specs.Stamps.{Stamped}
+use Rattle.symmetry.specs.Sought.{Sought}
 use Rattle.symmetry.specs.Index.{bucketOf, Indexed}
 use Rattle.symmetry.proofs.KeyLaws.{bucket-low}
-use Rattle.symmetry.proofs.Looking.{Looking, look-begin, look-on, look-falls, look-hit, look-end}
+use Rattle.symmetry.proofs.Looking.{Looking, look-begin, look-near, look-on, look-hit, look-end, head-within, next-within, near-within}
 use native.Mathlib.Omega.{arith}
 use borrow.Author.Needs.{needs}
 use Rattle.symmetry.proofs.has_image.Statement.{statement}
 use Rattle.symmetry.proofs.has_image.Tie as tie
 
 abbrev Inv-loop : tie.InvT-loop
-Inv-loop c key places own marks literals ends keys m heads nexts found₀ number₀ found number =
-    let formula = clausesIn m literals ends in
-    Looking (sentClause places (clauseAt literals ends c)) formula keys number × Stamped formula found
+Inv-loop key mark marks literals ends keys m heads nexts head number₀ number =
+    (number ≤ m) × ((image : List ℕ) → Sought mark marks image → Looking image (clausesIn m literals ends) keys number)
 
 abbrev μ-loop : tie.MeasureT-loop
-μ-loop c key places own marks literals ends keys m heads nexts found₀ number₀ found number = number
+μ-loop key mark marks literals ends keys m heads nexts head number₀ number = number
 
 abbrev formula : tie.Start Inv-loop μ-loop → List (List ℕ)
 formula s = clausesIn (s .args .m) (s .args .literals .now) (s .args .ends .now)
-
--- what is looked for
-abbrev sent : tie.Start Inv-loop μ-loop → List ℕ
-sent s = sentClause (s .args .places .now) (clauseAt (s .args .literals .now) (s .args .ends .now) (s .args .c))
 
 count : (s : tie.Start Inv-loop μ-loop) → length (formula s) ≡ s .args .m
 count s = clauses-count (s .args .literals .now) (s .args .ends .now) (s .args .m) (s .pre .0 .formula .clauses .known)
 
 indexed : (s : tie.Start Inv-loop μ-loop) → Indexed (length (formula s)) (s .args .keys .now) (s .args .heads .now) (s .args .nexts .now)
-indexed s = rw (count s) (s .pre .7)
+indexed s = rw (count s) (s .pre .3)
 
--- the start, from the loop's head
-abbrev begun : tie.At-loop Inv-loop μ-loop → tie.Start Inv-loop μ-loop
-begun at = at .before .before .before .before .before .before .before .before .before .before
+-- the start, from where the bucket's first is known, and that from the loop's head
+abbrev begun : tie.After-head Inv-loop μ-loop → tie.Start Inv-loop μ-loop
+begun h = h .before .before .before .before .before .before .before .before
 
-inside : (c : tie.In-loop Inv-loop μ-loop) → c .before .loop .number - 1 < begun (c .before) .args .m
-inside c = omega (arith, c .before .loop .inv .0 .within, count (begun (c .before)))
+abbrev headed : tie.At-loop Inv-loop μ-loop → tie.After-head Inv-loop μ-loop
+headed at = at .before .before .before .before .before
 
--- what was compared is the clause of that number
-compared : (c : tie.After-is-image-at Inv-loop μ-loop) → let at = c .before .before .before in
-    let s = begun at in
-    c .is-image-at .result ≡ sameSet (sent s) (getD (formula s) (at .loop .number - 1) [])
-compared c =
-    let at = c .before .before .before in
-    let s = begun at in
-    c .is-image-at .ensures .0 ∙ ap (sameSet _) (sym (clause-is (s .args .literals .now) (s .args .ends .now) (s .args .m) (at .loop .number - 1) (s .pre .0 .formula .clauses .known) (inside (c .before .before))))
+head-is : (h : tie.After-head Inv-loop μ-loop) → h .head .result ≡ getD (begun h .args .heads .now) (bucketOf (begun h .args .key)) 0
+head-is h = h .head .ensures ∙ ap (λ (b : ℕ). getD (begun h .args .heads .now) b 0) (h .before .bucket .ensures)
+
+head-low : (h : tie.After-head Inv-loop μ-loop) → h .head .result ≤ begun h .args .m
+head-low h = let s = begun h in head-within (s .args .m) (s .args .keys .now) (s .args .heads .now) (s .args .nexts .now) (s .pre .3) (bucketOf (s .args .key)) _ (bucket-low (s .args .key)) (head-is h)
+
+looking : (h : tie.After-head Inv-loop μ-loop) (image : List ℕ) → let s = begun h in
+    Sought (s .args .mark) (s .args .marks .now) image → Looking image (formula s) (s .args .keys .now) (h .head .result)
+looking h image sought =
+    let s = begun h in
+    look-begin image (formula s) (s .args .keys .now) (s .args .heads .now) (s .args .nexts .now) (indexed s) (s .pre .0 .keys-right) (bucketOf (s .args .key)) _
+    (ap bucketOf (sym (s .pre .1 image sought))) (head-is h)
+
+-- each clause has a key
+long : (s : tie.Start Inv-loop μ-loop) → s .args .m ≤ length (s .args .keys .now)
+long s = omega (arith, right-long _ _ (s .pre .0 .keys-right), count s)
 
 head-requires : tie.Need-head-requires Inv-loop μ-loop
-head-requires c κs = let s = c .before .before .before .before .before .before .before .before in omega (arith, c .bucket .ensures, bucket-low (s .args .key), s .pre .7 .heads-long)
+head-requires c κs = let s = c .before .before .before .before .before .before .before in omega (arith, c .bucket .ensures, bucket-low (s .args .key), s .pre .3 .heads-long)
+
+returns : tie.Need-returns Inv-loop μ-loop
+returns c image sought = let h = c .before in sym (look-end image _ (begun h .args .keys .now) (h .head .result) (looking h image sought) (c .if1 .taken))
+
+next-requires : tie.Need-next-requires Inv-loop μ-loop
+next-requires c κs = let h = c .before .before in omega (arith, head-low h, begun h .pre .3 .nexts-long)
 
 loop-holds : tie.Need-loop-holds Inv-loop μ-loop
 loop-holds c =
-    let s = c .before .before .before .before .before .before .before .before .before in
-    (look-begin _ _ _ (s .args .heads .now) (s .args .nexts .now) (indexed s) (s .pre .0 .keys-right) _ _ (c .before .bucket .ensures ∙ ap bucketOf (s .pre .2)) (c .head .ensures), s .pre .6)
-
-is-image-at-requires : tie.Need-is-image-at-requires Inv-loop μ-loop
-is-image-at-requires c κs =
-    let at = c .before .before in
-    let s = begun at in
-    (s .pre .0, (s .pre .1, inside (c .before)), s .pre .2, s .pre .3, s .pre .4, s .pre .5, at .loop .inv .1)
-
-returns : tie.Need-returns Inv-loop μ-loop
-returns c =
-    let i = c .before .before .before in
-    let at = i .before .before .before in (
-      sym (look-hit _ _ (begun at .args .keys .now) (at .loop .number) (at .loop .number - 1) (at .loop .inv .0) (omega arith) (sym (compared i) ∙ c .if1 .taken)),
-      i .is-image-at .ensures .1,
+    let h = c .before .before .before .before in
+    let s = begun h in
+    let first = h .head .result in
+    let up : first ≡ first - 1 + 1 = omega arith in (
+      near-within (s .args .m) (s .args .keys .now) (s .args .heads .now) (s .args .nexts .now) (s .pre .3) first (first - 1) (s .args .key)
+          (getD (s .args .keys .now) (first - 1) 0) _ _ up (head-low h) (c .before .next .ensures) (c .nearer .ensures),
+      λ image sought. look-near image (formula s) (s .args .keys .now) (s .args .heads .now) (s .args .nexts .now) (indexed s) (s .pre .0 .keys-right) first (first - 1) (s .args .key)
+          (getD (s .args .keys .now) (first - 1) 0) _ _ (looking h image sought) up (s .pre .1 image sought) refl (c .before .next .ensures) (c .nearer .ensures),
     )
 
-next-requires : tie.Need-next-requires Inv-loop μ-loop
-next-requires c κs = let t = c .before .before .before .before .before in omega (arith, inside t, begun (t .before) .pre .7 .nexts-long)
+inside : (c : tie.In-loop Inv-loop μ-loop) → c .before .loop .number - 1 < begun (headed (c .before)) .args .m
+inside c = omega (arith, c .before .loop .inv .0)
 
-loop-less : tie.Need-loop-less Inv-loop μ-loop
-loop-less c =
-    let at = c .before .before .before .before .before .before .before in
-    let s = begun at in
-    omega (arith, c .next .ensures, look-falls _ _ _ (s .args .heads .now) (s .args .nexts .now) (indexed s) (s .pre .0 .keys-right) (at .loop .number) (at .loop .number - 1) (at .loop .inv .0) (omega arith))
+is-image-at-requires : tie.Need-is-image-at-requires Inv-loop μ-loop
+is-image-at-requires c κs = let s = begun (headed (c .before)) in (s .pre .0, inside c, s .pre .1, s .pre .2)
+
+-- what was compared is the clause of that number
+compared : (c : tie.After-is-image-at Inv-loop μ-loop) (image : List ℕ) → let at = c .before .before in
+    let s = begun (headed at) in
+    Sought (s .args .mark) (s .args .marks .now) image → c .is-image-at .result ≡ sameSet image (getD (formula s) (at .loop .number - 1) [])
+compared c image sought =
+    let at = c .before .before in
+    let s = begun (headed at) in
+    c .is-image-at .ensures image sought
+    ∙ ap (sameSet image) (sym (clause-is (s .args .literals .now) (s .args .ends .now) (s .args .m) (at .loop .number - 1) (s .pre .0 .formula .clauses .known) (inside (c .before))))
+
+returns-2 : tie.Need-returns-2 Inv-loop μ-loop
+returns-2 c image sought =
+    let i = c .before in
+    let at = i .before .before in
+    sym (look-hit image _ (begun (headed at) .args .keys .now) (at .loop .number) (at .loop .number - 1) (at .loop .inv .1 image sought) (omega arith) (sym (compared i image sought) ∙ c .if2 .taken))
+
+next-requires-2 : tie.Need-next-requires-2 Inv-loop μ-loop
+next-requires-2 c κs = let t = c .before .before in omega (arith, inside t, begun (headed (t .before)) .pre .3 .nexts-long)
+
+falls : (c : tie.After-next2 Inv-loop μ-loop) → c .next2 .result < c .before .before .before .before .loop .number
+falls c =
+    let at = c .before .before .before .before in
+    let s = begun (headed at) in
+    omega (arith, c .next2 .ensures, next-within (s .args .m) (s .args .keys .now) (s .args .heads .now) (s .args .nexts .now) (s .pre .3) (at .loop .number) (at .loop .number - 1) (omega arith) (at .loop .inv .0))
 
 loop-again : tie.Need-loop-again Inv-loop μ-loop
 loop-again c =
-    let i = c .before .before .before .before in
-    let at = i .before .before .before in
-    let s = begun at in (
-      look-on _ _ _ (s .args .heads .now) (s .args .nexts .now) (indexed s) (s .pre .0 .keys-right) (at .loop .number) (at .loop .number - 1) _ (at .loop .inv .0) (omega arith)
-          (sym (compared i) ∙ c .before .if1 .left) (c .next .ensures),
-      i .is-image-at .ensures .1,
+    let i = c .before .before in
+    let at = i .before .before in
+    let s = begun (headed at) in (
+      omega (arith, falls c, at .loop .inv .0),
+      λ image sought. look-on image (formula s) (s .args .keys .now) (s .args .heads .now) (s .args .nexts .now) (indexed s) (s .pre .0 .keys-right) (at .loop .number) (at .loop .number - 1) _
+          (at .loop .inv .1 image sought) (omega arith) (sym (compared i image sought) ∙ c .before .if2 .left) (c .next2 .ensures),
     )
 
-returns-2 : tie.Need-returns-2 Inv-loop μ-loop
-returns-2 c = let at = c .before in (sym (look-end _ _ (begun at .args .keys .now) (at .loop .number) (at .loop .inv .0) (omega arith)), at .loop .inv .1)
+returns-3 : tie.Need-returns-3 Inv-loop μ-loop
+returns-3 c image sought = let at = c .before in sym (look-end image _ (begun (headed at) .args .keys .now) (at .loop .number) (at .loop .inv .1 image sought) (omega arith))
 
 pub has-image-spec : {M : Type 1} → statement M
 has-image-spec =
@@ -105,13 +129,18 @@ has-image-spec =
     μ-loop
     (search needs)
     head-requires
+    returns
+    (search needs)
+    (λ c. let h = c .before in omega (arith, head-low h, begun h .pre .0 .formula .clauses-fit))
+    (λ c. let h = c .before .before in omega (arith, head-low h, long (begun h)))
+    (search needs)
+    next-requires
+    (search needs)
     loop-holds
     (search needs)
     is-image-at-requires
-    (λ c. let i = c .before .before .before in i .is-image-at .ensures .1 .room ∙ sym (begun (i .before .before .before) .pre .6 .room))
-    returns
-    next-requires
-    loop-less
+    returns-2
+    next-requires-2
+    falls
     loop-again
-    (λ c. let at = c .before in at .loop .inv .1 .room ∙ sym (begun at .pre .6 .room))
-    returns-2)
+    returns-3)

@@ -36,22 +36,18 @@ static inline __attribute__((always_inline)) uint32_t tested(RECORD, FORMULA, IM
     for (size_t c = 0; c < m; c++) {
         uint16_t number = (uint16_t)(c + 1);
         uint64_t key = 0;
-        size_t end = ends[c], size = end - i;
+        size_t end = ends[c];
         if (end < i || end > literals_len) return SYMBREAK_BADLY_FORMED;
         for (; i < end; i++) {
             size_t code = literals[i];
             if (code - 2 >= 2 * n) return SYMBREAK_BADLY_FORMED;
-            if (marks[code] == number) {
-                size--;
-                continue;
-            }
+            if (marks[code] == number) continue;
             marks[code] = number;
             key += numbers[code - 2];
         }
         if (keys[c] != key) return SYMBREAK_BADLY_FORMED;
         if (index) {
-            uint16_t *head = index->heads + key % PLAIN_SLOTS;
-            index->sizes[c] = (uint16_t)size;
+            uint16_t *head = index->heads + plain_slot(key);
             index->nexts[c] = *head;
             *head = number;
         }
@@ -205,7 +201,8 @@ symbreak_stored plain_open(RECORD, const uint8_t *text, size_t text_len, uint16_
 /* Offers. */
 
 /* The number of the first clause whose image under the row is no clause, or 0. An image's literals are marked with the clause's number; a clause with the
-   image's key is the image as a set if it has as many different literals and all of them are marked. Not inlined, so that registers suffice for the loop. */
+   image's key has as many different literals, by the key's last bits, and is the image as a set if all of them are marked. Not inlined, so that registers
+   suffice for the loop. */
 static __attribute__((noinline)) uint64_t first_missing(uint64_t n, uint64_t m, const uint16_t *literals, const uint16_t *ends, const uint64_t *keys,
                                                         const plain_index *index, const uint16_t *row)
 {
@@ -224,8 +221,8 @@ static __attribute__((noinline)) uint64_t first_missing(uint64_t n, uint64_t m, 
             marks[code] = number;
             key += numbers[code - 2];
         }
-        for (other = index->heads[key % PLAIN_SLOTS]; other; other = index->nexts[other - 1]) {
-            if (keys[other - 1] != key || index->sizes[other - 1] != index->sizes[c]) continue;
+        for (other = index->heads[plain_slot(key)]; other; other = index->nexts[other - 1]) {
+            if (keys[other - 1] != key) continue;
             size_t j = other > 1 ? ends[other - 2] : 0, close = ends[other - 1];
             while (j < close && marks[literals[j]] == number) j++;
             if (j == close) break;

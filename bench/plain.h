@@ -20,13 +20,13 @@ __typeof__(symbreak_descend) plain_descend_noting;
 
 /* What program.c takes beside them: it keeps its own store, so that nobody has to test it again, and writes pages. */
 
-/* What offers find a formula's clauses by. Those whose keys have the same low bits are in a chain, by their numbers from 1, with 0 for its end. There are many
+/* What offers find a formula's clauses by. Those whose keys have the same high bits are in a chain, by their numbers from 1, with 0 for its end. There are many
    chains, so that few have a second clause: a step along a chain is hard for the processor to foresee. */
 enum { PLAIN_SLOTS = 4 * SYMBREAK_MAX_CLAUSES };
 typedef struct {
     uint16_t heads[PLAIN_SLOTS], nexts[SYMBREAK_MAX_CLAUSES];
-    uint16_t sizes[SYMBREAK_MAX_CLAUSES]; /* the count of different literals in each clause */
 } plain_index;
+static inline size_t plain_slot(uint64_t key) { return key >> 50; }
 
 /* Makes the index of a store, which serves until the next opening, and tests the store on the way: refusals 20 and 21, or 0. */
 uint32_t plain_make_index(uint64_t n, uint64_t m, uint64_t rows, uint64_t is_open, const uint16_t *literals, size_t literals_len, const uint16_t *ends,

@@ -216,8 +216,8 @@ class Withdrawals(Agree):
             self.assertGreater(seen[sort], 20, sort)
 
 
-NUMBERS = {1: 8399848799942217, -1: 24472253299389718, 2: 27429481777697638, -2: 47979604178350562, 3: 56431291722079895,
-           512: 18413816788118036576, -512: 18434917261454267020}  # some of docs/KEYS.md
+NUMBERS = {1: 8399848799940609, -1: 24472253299388417, 2: 27429481777696769, -2: 47979604178350081, 3: 56431291722078209,
+           512: 18413816788118036481, -512: 18434917261454266369}  # some of docs/KEYS.md
 FIRST, SECOND = NUMBERS[1] + NUMBERS[2], NUMBERS[2] + NUMBERS[3]
 
 WRONG_KEYS = [
@@ -243,7 +243,7 @@ class Keys(Agree):
         """Order and repeats make no difference, i and -i are two literals, the empty clause has 0, sums wrap at 2^64; entries past the clauses stay."""
         host, wrapped = fresh(keys=9), NUMBERS[512] + NUMBERS[-512] - 2 ** 64
         self.assertEqual(self.open(host, b"p cnf 512 7\n1 2 0 2 1 2 0 1 -1 0 0 1 -2 1 0 512 -512 0 -512 1 512 1 0"), ("done", 512, 7))
-        self.assertEqual(host.keys[:], [FIRST, FIRST, NUMBERS[1] + NUMBERS[-1], 0, 56379452978292779, wrapped, wrapped + NUMBERS[1], 7, 7])
+        self.assertEqual(host.keys[:], [FIRST, FIRST, NUMBERS[1] + NUMBERS[-1], 0, 56379452978290690, wrapped, wrapped + NUMBERS[1], 7, 7])
         self.assertEqual(self.open(host, LISTING), ("done", 3, 2))
         self.assertEqual(host.keys[:4], [FIRST, SECOND, NUMBERS[1] + NUMBERS[-1], 0])
 

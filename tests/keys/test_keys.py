@@ -47,9 +47,9 @@ class Numbers(unittest.TestCase):
     MADE = literal_numbers.made()
 
     def test_chosen(self):
-        """No two alike and none 0, each of 64 bits."""
+        """No two alike and none 0, each of 64 bits, of which the last eleven are those of 1."""
         self.assertEqual((len(self.MADE), len(set(self.MADE))), (1024, 1024))
-        self.assertTrue(all(0 < number < 2 ** 64 for number in self.MADE))
+        self.assertTrue(all(0 < number < 2 ** 64 and number % 2048 == 1 for number in self.MADE))
 
     def test_page(self):
         """The page's table is what the generator prints, and the reference has it."""
@@ -68,11 +68,20 @@ class Numbers(unittest.TestCase):
         """Opening writes them as the keys of the unit clauses."""
         self.assertEqual(opened([[literal] for literal in LITERALS]).keys[:], self.MADE + [7] * 6)
 
+    def test_count(self):
+        """The last eleven bits of a key are the count of different literals, of all 1,024 too."""
+        chance = random.Random(11)
+        for count in [0, 1, 2, 1023, 1024, *(chance.randrange(1025) for _ in range(50))]:
+            host = library.Host(LIBRARY, reference.new_record(), [0] * 2048, [0], [0], [])
+            clause = chance.sample(LITERALS, count)
+            self.assertEqual(host.open(text([clause + clause[:chance.randrange(1025)]])), ("done", 512, 1))
+            self.assertEqual(host.keys[0] % 2048, count)
 
-# What sharing.py finds: two clauses and their key, and a clause with key 0. Then clauses that are like them, of other variables.
-A, B, SHARED = [29, 41, -88, -168, 234, -254], [-264, -370, 380, 420, 477, -479], 10741577179405158241
-Z = [48, 93, 95, -159, 187, 247, -276, -277, 335, -423, -475, 494]
-C, D, Y = [1, 2, -3, -4, 5, -6], [-7, -8, 9, 10, 11, -12], [13, 14, 15, -16, 17, 18, -19, -20, 21, -22, -23, 24]
+
+# What sharing.py finds: two pairs of clauses, each with their key. Then clauses that are like them, of other variables.
+A, B, SHARED = [-18, -36, -63, -145, 159, 176], [-272, 279, -292, -421, 425, -441], 2237341672726149126
+E, F, SECOND = [-39, 44, -57, 150, -162, -173], [-288, -302, -318, -402, 427, 430], 3245079644745213958
+C, D = [1, 2, -3, -4, -5, -6], [7, 8, -9, -10, -11, -12]
 
 
 def exchange(*pairs):
@@ -84,11 +93,10 @@ def exchange(*pairs):
     return images
 
 
-# Clauses of which some share a key, and permutations. In the second a key is the empty clause's; in the third, clauses of one key are parts of one another.
+# Clauses of which some share a key, and permutations. In the second family all do.
 FAMILIES = [
     ([A, B, C, D], [exchange((A, C)), exchange((B, D)), exchange((A, C), (B, D)), exchange((A, B)), exchange((A, B), (C, D)), exchange((A, D), (B, C))]),
-    ([[], Y, Z], [exchange((Y, Z))]),
-    ([A, C, A + Z, C + Z], [exchange((A, C)), exchange((A, C), (Y, Z))]),
+    ([A, B, E, F], [exchange((A, E)), exchange((A, E), (B, F)), exchange((A, F), (B, E)), exchange((A, B)), exchange((A, B), (E, F))]),
 ]
 
 
@@ -111,13 +119,13 @@ class Sharing(Agree):
                     yield shuffled, generate.offers(chance, 512, [row]), first_missing(clauses, row, frozenset), first_missing(clauses, row, reference.key_of)
 
     def test_shared(self):
-        self.assertEqual(opened([A, B, A + Z, [], Z]).keys[:5], [SHARED, SHARED, SHARED, 0, 0])
-        self.assertEqual(len({abs(literal) for literal in A + B + C + D + Y + Z}), 48)
-        self.assertEqual(len({reference.key_of(clause) for clause in (A, C, D, Y, Z)}), 5)
+        self.assertEqual(opened([A, B, E, F]).keys[:4], [SHARED, SHARED, SECOND, SECOND])
+        self.assertEqual(len({abs(literal) for literal in A + B + C + D + E + F}), 36)
+        self.assertEqual(len({reference.key_of(clause) for clause in (A, C, D, E)}), 4)
 
     def test_offers(self):
         """Each is decided as the clauses say, and not their keys."""
-        for family, least in zip(FAMILIES, [600, 20, 200]):
+        for family, least in zip(FAMILIES, [600, 1000]):
             otherwise = 0
             for clauses, lines, missing, by_keys in self.offers(family, 4):
                 self.assertEqual(self.offer(opened(clauses), *lines), ("refused", 11, missing) if missing else ("done",), clauses)

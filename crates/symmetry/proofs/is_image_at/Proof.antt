@@ -37,13 +37,14 @@ key-is s =
 returns : tie.Need-returns
 returns c image sought =
     let s = c .before .before .before .before .before .before in
-    sym (other-keys image (clause-of s) (λ e. c .if1 .taken (key-is s ∙ e ∙ s .pre .2 image sought)))
+    sym (other-keys image (clause-of s) (λ e. omega (arith, key-is s ∙ e ∙ s .pre .2 image sought, c .if1 .taken)))
 
 is-image-requires : tie.Need-is-image-requires
 is-image-requires c κs =
     let s = c .before .before .before .before .before .before .before in
-    let is = c .clause .ensures in (
-      λ image sought. s .pre .2 image sought ∙ sym (c .before .if1 .left) ∙ key-is s ∙ ap keyOf (sym is),
+    let is = c .clause .ensures in
+    let agree : getD (s .args .keys .now) (s .args .other) 0 ≡ s .args .key = omega (arith, c .before .if1 .left) in (
+      λ image sought. s .pre .2 image sought ∙ sym agree ∙ key-is s ∙ ap keyOf (sym is),
       rw is (clause-good maxVariables (s .args .m) (s .args .literals .now) (s .args .ends .now) (s .pre .0 .formula) (s .args .other) (s .pre .1)),
       s .pre .3,
     )

@@ -1,6 +1,6 @@
 -- A loop over a list from index i on: what is left is its first element and the rest, and what that means for a test; and a walk forward to an end. Assumes nothing.
-use mathlib.Core.Path.{_≡_}
-use mathlib.Core.Bool.{Bool, true, false}
+use mathlib.Core.Path.{_≡_, sym}
+use mathlib.Core.Bool.{Bool, true, false, _&&_, and-assoc}
 use mathlib.Core.List.{List, _∷_}
 use Prim.Native.Nat.{ℕ, zero, suc, _+_, _≤_, _<_}
 use native.Mathlib.Numerals.{add-one}
@@ -20,6 +20,11 @@ module _ {A : Type 0} (q : A → Bool) (l : List A) (i : ℕ) where
   pub all-drop-hit : (d : A) → i < length l → q (getD l i d) ≡ true → allOf q (drop i l) ≡ allOf q (drop (i + 1) l)
   unfolding allOf
   all-drop-hit d h e = rw (drop-step l i d h, e)
+
+  -- the same for a loop that is not left at a miss: b is whether all before i pass, t whether that at i does
+  pub all-drop-step : (b t : Bool) (d : A) → i < length l → t ≡ q (getD l i d) → (b && allOf q (drop i l)) ≡ (b && t && allOf q (drop (i + 1) l))
+  unfolding allOf
+  all-drop-step b t d h e = rw (drop-step l i d h, e) (sym (and-assoc b (q (getD l i d)) (allOf q (drop (i + 1) l))))
 
   pub all-drop-end : length l ≤ i → allOf q (drop i l) ≡ true
   unfolding allOf

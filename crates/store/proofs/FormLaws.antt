@@ -1,22 +1,21 @@
 -- The test of a store's form: one law for each way out of the functions that make it. Assumes nothing.
 use mathlib.Core.Path.{_≡_, refl, sym, ap, _∙_}
-use mathlib.Core.Bool.{Bool, true, false, not, _&&_, _||_, and-false, and-true, or-true, or-false}
-use mathlib.Core.List.{List, map}
-use mathlib.Core.Logic.{⊎-elim}
-use Prim.Native.Nat.{ℕ, _+_, _-_, _%_, _^_, _≤_, _<_}
+use mathlib.Core.Bool.{Bool, true, false, not, _&&_, _||_, and-assoc, and-false, and-true, or-true, or-false}
+use mathlib.Core.List.{List, [], _∷_, map}
+use Prim.Native.Nat.{ℕ, _+_, _-_, _*_, _%_, _≤_, _<_}
 use native.Mathlib.Decide.{ℕ-discrete}
 use native.Mathlib.Omega.{arith}
-use borrow.Author.Tests.{eq-eqb, ne-eqb, lt-leb, le-leb, leb-true, le-ltb}
+use borrow.Author.Tests.{eq-eqb, ne-eqb, lt-leb, le-leb, leb-true, lt-ltb, ltb-true}
 use lib.ListN.{length, getD, take, drop, set, drop-of-length-le, length-map, length-set, List·getD-map, replicate, length-replicate, getD-replicate}
 use lib.Seq.{getD-set-same, getD-set-other, take-all}
 use lib.Dec.{eqb, leb, ltb}
 use Rattle.lists.specs.Tests.{allOf, anyOf, has, distinct}
-use Rattle.lists.proofs.Cases.{and-l, and-r, and-both, lt-or-le}
+use Rattle.lists.proofs.Cases.{and-l, and-r, and-both, bool-ext}
 use Rattle.lists.proofs.Members.{all-in, all-not}
 use Rattle.lists.proofs.Steps.{drop-step}
 use Rattle.lists.proofs.Distinct.{has-more, distinct-more, distinct-twice}
 use Rattle.store.specs.Literals.{variableOf, isNegative, isLiteral}
-use Rattle.store.specs.Stores.{rising, literalCount, isImage, isRow}
+use Rattle.store.specs.Stores.{maxVariables, rising, literalCount, isImage, isRow}
 
 -- ---- codes
 
@@ -24,17 +23,6 @@ module _ (n code : ℕ) where
   pub literal-zero : variableOf code ≡ 0 → isLiteral n code ≡ false
   unfolding isLiteral
   literal-zero h = rw (lt-leb 1 (variableOf code) (omega arith))
-
-  literal-most : (variableOf code ≡ 0 → ⊥) → isLiteral n code ≡ leb (variableOf code) n
-  unfolding isLiteral
-  literal-most h = rw (le-leb 1 (variableOf code) (omega arith))
-
-  -- one test for both: the variable less one, which wraps where it is 0, is below n
-  pub literal-below : (w : ℕ) → (w + 1) % 2 ^ 64 ≡ variableOf code → w < 2 ^ 64 → n < 2 ^ 64 → ltb w n ≡ isLiteral n code
-  literal-below w is low fits =
-      ⊎-elim (λ l. sym (literal-zero (omega arith) ∙ sym (le-ltb w n (omega arith))))
-      (λ l. sym (literal-most (λ z. omega arith) ∙ ap (λ (v : ℕ). leb v n) (omega arith)))
-      (lt-or-le (2 ^ 64) (w + 2))
 
   pub image-negative : isNegative code ≡ true → isImage n code ≡ false
   unfolding isImage
@@ -56,24 +44,34 @@ module _ (n code : ℕ) where
   unfolding isLiteral
   literal-within low high = and-both (le-leb 1 (variableOf code) low) (le-leb (variableOf code) n high)
 
+  -- one test for both: the code less 2, which wraps where the variable is 0, is below 2 n
+  pub literal-below : (w : ℕ) → w ≡ code → w < 65536 → n ≤ maxVariables → ltb ((w + 65534) % 65536) (2 * n) ≡ isLiteral n code
+  literal-below w is low small =
+      bool-ext (ltb ((w + 65534) % 65536) (2 * n)) (isLiteral n code)
+      (λ e. let below = ltb-true ((w + 65534) % 65536) (2 * n) e in literal-within (omega arith) (omega arith))
+      (λ e. lt-ltb ((w + 65534) % 65536) (2 * n) (omega (arith, literal-low e, literal-high e)))
+
   pub image-literal : isImage n code ≡ true → isLiteral n code ≡ true
   unfolding isImage
   image-literal e = and-l (isLiteral n code) (not (isNegative code)) e
 
 -- ---- the ends
 
-module _ (from : ℕ) (l : List ℕ) (i : ℕ) where
-  pub rising-fall : i < length l → getD l i 0 < from → rising from (drop i l) ≡ false
-  unfolding rising
-  rising-fall h a = rw (drop-step l i 0 h, lt-leb from (getD l i 0) a)
+-- nothing falls below 0: from the first end on, the others are looked at
+pub rising-first : (l : List ℕ) → rising 0 l ≡ rising (getD l 0 0) (drop 1 l)
+unfolding rising
+rising-first [] = refl
+rising-first (e ∷ l) = rw (le-leb 0 e (omega arith))
 
-  pub rising-on : i < length l → from ≤ getD l i 0 → rising from (drop i l) ≡ rising (getD l i 0) (drop (i + 1) l)
+-- the loop at index i: b is whether the ends before it rise, `from` the last of them
+module _ (b : Bool) (from : ℕ) (l : List ℕ) (i : ℕ) where
+  pub rising-step : i < length l → (b && rising from (drop i l)) ≡ (b && leb from (getD l i 0) && rising (getD l i 0) (drop (i + 1) l))
   unfolding rising
-  rising-on h a = rw (drop-step l i 0 h, le-leb from (getD l i 0) a)
+  rising-step h = rw (drop-step l i 0 h) (sym (and-assoc b (leb from (getD l i 0)) (rising (getD l i 0) (drop (i + 1) l))))
 
-  pub rising-end : length l ≤ i → rising from (drop i l) ≡ true
+  pub rising-end : length l ≤ i → (b && rising from (drop i l)) ≡ b
   unfolding rising
-  rising-end h = rw (drop-of-length-le l {i = i} h)
+  rising-end h = rw (drop-of-length-le l {i = i} h) (and-true b)
 
 pub count-none : (m : ℕ) (ends : List ℕ) → m ≡ 0 → literalCount m ends ≡ 0
 unfolding literalCount

@@ -10,7 +10,6 @@ use crate::clauses;
 use crate::literal;
 use crate::record::Record;
 use crate::rows;
-use std::num::wrapping_sub_usize;
 
 pub fn is_formed(counts: Record, literals: &[u16], ends: &[u16], images: &[u16]) -> bool
     ensures { λ r. ⌜ r ≡ isFormed (stored counts (literals .entry) (ends .entry) (images .entry)) ⌝ }
@@ -60,11 +59,11 @@ pub fn is_row(row: &[u16], n: usize) -> bool
     let mut seen = [false; Record::MAX_VARIABLES + 1];
     let mut i = 0;
     while i < row.len() {
-        let code = literal::wide(row[i]);
+        let code = row[i];
         if !is_image(code, n) {
             return false;
         }
-        let v = literal::variable(code);
+        let v = literal::variable(literal::wide(code));
         if seen[v] {
             return false;
         }
@@ -89,47 +88,48 @@ fn rows_formed(images: &[u16], n: usize, k: usize) -> bool
     true
 }
 
+// Neither this loop nor the next one is left at a fault: with no way out before its end, the compiled loop looks at eight entries at once.
 fn ends_rise(ends: &[u16]) -> bool
     ensures { λ r. ⌜ r ≡ rising 0 (now (ends .entry)) ⌝ }
 {
+    let mut rise = true;
     let mut i = 0;
-    let mut last = 0;
-    while i < ends.len() {
-        let end = ends[i];
-        if end < last {
-            return false;
-        }
-        last = end;
+    while i + 1 < ends.len() {
+        rise = rise & (ends[i] <= ends[i + 1]);
         i += 1;
     }
-    true
+    rise
 }
 
 fn literals_within(literals: &[u16], n: usize) -> bool
+    requires { ⌜ n ≤ maxVariables ⌝ }
     ensures { λ r. ⌜ r ≡ allOf (isLiteral n) (now (literals .entry)) ⌝ }
 {
+    let mut all = true;
     let mut i = 0;
     while i < literals.len() {
-        if !is_literal(literal::wide(literals[i]), n) {
-            return false;
-        }
+        all = all & is_literal(literals[i], n);
         i += 1;
     }
-    true
+    all
 }
 
-// Whether a code is that of a literal of 1..n. One test serves for both ends: less one, the variable 0 wraps to a number that is not below n.
-fn is_literal(code: u32, n: usize) -> bool
+// Whether a code is that of a literal of 1..n. One test serves for both ends: less 2, the codes 0 and 1 wrap to numbers that are not below 2 n.
+// It is of 16 bits and has no branch (std's wrapping_sub_u16 has one), for the loop above.
+fn is_literal(code: u16, n: usize) -> bool
+    requires { ⌜ n ≤ maxVariables ⌝ }
     ensures { λ r. ⌜ r ≡ isLiteral n code ⌝ }
 {
-    wrapping_sub_usize(literal::variable(code), 1) < n
+    let less = (literal::wide(code) + 65534) % 65536;
+    (less as u16) < (2 * n) as u16
 }
 
 // Whether a code can stand in a row: that of one of the variables 1..n itself.
-fn is_image(code: u32, n: usize) -> bool
+fn is_image(code: u16, n: usize) -> bool
+    requires { ⌜ n ≤ maxVariables ⌝ }
     ensures { λ r. ⌜ r ≡ isImage n code ⌝ }
 {
-    if literal::is_negative(code) {
+    if literal::is_negative(literal::wide(code)) {
         return false;
     }
     is_literal(code, n)

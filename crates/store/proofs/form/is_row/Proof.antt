@@ -20,17 +20,17 @@ abbrev μ-loop : tie.MeasureT-loop
 μ-loop row n seen₀ i₀ seen i = length row - i
 
 -- the code at i is an image, and its variable
-image : (c : tie.Else2 Inv-loop μ-loop) → let at = c .before .before .before .before .before in
+image : (c : tie.Else2 Inv-loop μ-loop) → let at = c .before .before .before .before in
     let a = at .before .before .before .args in
     isImage (a .n) (getD (a .row .now) (at .loop .i) 0) ≡ true
-image c = ap (isImage _) (sym (c .before .before .wide .ensures .0)) ∙ sym (c .before .is-image .ensures) ∙ not-false _ (c .if2 .left)
+image c = sym (c .before .is-image .ensures) ∙ not-false _ (c .if2 .left)
 
 its : (c : tie.After-variable Inv-loop μ-loop) → let at = c .before .before .before .before .before .before in
     c .variable .result ≡ variableOf (getD (at .before .before .before .args .row .now) (at .loop .i) 0)
-its c = c .variable .ensures ∙ ap (λ (k : ℕ). variableOf k) (c .before .before .before .wide .ensures .0)
+its c = c .variable .ensures ∙ ap (λ (k : ℕ). variableOf k) (c .before .wide .ensures .0)
 
 low : (c : tie.After-variable Inv-loop μ-loop) → c .variable .result < 513
-low c = let s = c .before .before .before .before .before .before .before .before .before in omega (arith, its c, literal-high _ _ (image-literal _ _ (image (c .before))), s .pre)
+low c = let s = c .before .before .before .before .before .before .before .before .before in omega (arith, its c, literal-high _ _ (image-literal _ _ (image (c .before .before))), s .pre)
 
 returns : tie.Need-returns Inv-loop μ-loop
 returns c = sym (row-length _ _ (c .if1 .taken))
@@ -40,8 +40,8 @@ loop-holds c = passed-none _ _
 
 returns-2 : tie.Need-returns-2 Inv-loop μ-loop
 returns-2 c =
-    let at = c .before .before .before .before .before in
-    sym (row-image _ _ (at .loop .i) (search needs) (ap (isImage _) (sym (c .before .before .wide .ensures .0)) ∙ sym (c .before .is-image .ensures) ∙ not-true _ (c .if2 .taken)))
+    let at = c .before .before .before .before in
+    sym (row-image _ _ (at .loop .i) (search needs) (sym (c .before .is-image .ensures) ∙ not-true _ (c .if2 .taken)))
 
 array-read-if3 : tie.Need-array-read-if3 Inv-loop μ-loop
 array-read-if3 c = low c
@@ -57,7 +57,7 @@ array-write-seen c = low (c .before)
 loop-again : tie.Need-loop-again Inv-loop μ-loop
 loop-again c =
     let at = c .before .before .before .before .before .before .before in
-    passed-more _ _ _ _ _ (at .loop .inv) (search needs) (its (c .before)) (low (c .before)) (image (c .before .before)) (c .if3 .left)
+    passed-more _ _ _ _ _ (at .loop .inv) (search needs) (its (c .before)) (low (c .before)) (image (c .before .before .before)) (c .if3 .left)
 
 returns-4 : tie.Need-returns-4 Inv-loop μ-loop
 returns-4 c = sym (row-all _ _ _ _ (c .before .loop .inv) (c .before .before .if1 .left) (search needs))
@@ -65,5 +65,5 @@ returns-4 c = sym (row-all _ _ _ _ (c .before .loop .inv) (c .before .before .if
 pub is-row-spec : {M : Type 1} → statement M
 is-row-spec =
     tie.close
-    (tie.spec Inv-loop μ-loop returns loop-holds (search needs) (search needs) (search needs) (search needs) returns-2 (search needs)
+    (tie.spec Inv-loop μ-loop returns loop-holds (search needs) (search needs) (search needs) returns-2 (search needs) (search needs)
     array-read-if3 returns-3 array-write-seen (search needs) (search needs) loop-again returns-4)

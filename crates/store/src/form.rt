@@ -115,7 +115,7 @@ fn literals_within(literals: &[u16], n: usize) -> bool
 }
 
 // Whether a code is that of a literal of 1..n. One test serves for both ends: less 2, the codes 0 and 1 wrap to numbers that are not below 2 n.
-// It is of 16 bits and has no branch (std's wrapping_sub_u16 has one), for the loop above.
+// It wraps by a remainder, as std's wrapping_sub_u16 goes two ways, and compares 16 bits: so the loop above has eight codes to a step.
 fn is_literal(code: u16, n: usize) -> bool
     requires { ⌜ n ≤ maxVariables ⌝ }
     ensures { λ r. ⌜ r ≡ isLiteral n code ⌝ }

@@ -29,4 +29,5 @@ returns c = sym (c .before .loop .inv .1 ∙ rising-end (c .before .loop .rise) 
 pub ends-rise-spec : {M : Type 1} → statement M
 ends-rise-spec =
     tie.close
-    (tie.spec Inv-loop μ-loop loop-holds (search needs) (search needs) (search needs) (search needs) (search needs) (search needs) (search needs) (search needs) loop-again returns)
+    (tie.spec Inv-loop μ-loop loop-holds (search needs) (search needs) (search needs) (search needs) (search needs) (search needs)
+    (search needs) (search needs) loop-again returns)

@@ -1,6 +1,5 @@
 -- `store::form::is_image` meets its contract. Assumes nothing.
 use mathlib.Core.Path.{_≡_, sym, ap, _∙_}
-use mathlib.Core.Bool.{Bool}
 use Prim.Native.Nat.{ℕ}
 use Rattle.store.specs.Literals.{isNegative}
 use Rattle.store.proofs.FormLaws.{image-negative, image-positive}

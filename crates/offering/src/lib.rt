@@ -36,12 +36,11 @@ pub fn offer(
 {
     let n = counts.variables;
     let rows = counts.rows;
-    let stated = permutation::check(names, values, n);
+    let mut row = [0u16; Record::MAX_VARIABLES];
+    let stated = permutation::state(names, values, n, &mut row);
     if let Stated::Refused(refusal) = stated {
         return Offered::Refused(refusal);
     }
-    let mut row = [0u16; Record::MAX_VARIABLES];
-    permutation::fill_row(names, values, n, &mut row);
     let missing = symmetry::first_missing(literals, ends, keys, counts.clauses, &row[..n], table);
     if missing != 0 {
         return Offered::Refused(Refusal::NoSymmetry(missing));

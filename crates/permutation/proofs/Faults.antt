@@ -2,27 +2,24 @@
 use mathlib.Core.Path.{_≡_, refl, sym, _∙_}
 use mathlib.Core.Bool.{Bool, true, false, cond, not, _&&_, and-false}
 use mathlib.Core.List.{List, [], _∷_}
-use mathlib.Core.Logic.{⊎-elim}
 use Prim.Native.Nat.{ℕ, _≤_, _<_}
 use native.Mathlib.Omega.{arith}
 use borrow.Author.Tests.{lt-ltb, le-ltb}
 use lib.ListN.{length}
-use Rattle.lists.specs.Tests.{has}
-use Rattle.lists.proofs.Cases.{never, and-l, not-so, lt-or-le}
-use Rattle.dimacs.specs.Words.{Piece, isBlank, runEnd, wordsAt}
-use Rattle.dimacs.specs.Numbers.{readingAt}
+use Rattle.lists.specs.Tests.{anyOf, has}
+use Rattle.lists.proofs.Cases.{never, and-l, not-so}
+use Rattle.dimacs.specs.Words.{Piece, wordsAt}
 use Rattle.dimacs.specs.declared.Number.{Number}
-use Rattle.dimacs.specs.declared.Reading.{Reading}
-use Rattle.dimacs.proofs.WordLaws.{no-word}
 use Rattle.store.specs.Literals.{variableOf}
 use Rattle.store.specs.Stores.{isImage}
 use Rattle.store.specs.Numerals.{codeIn}
 use Rattle.permutation.specs.Lines.{notNumber, badNameAfter, badName, badValueAfter}
+use Rattle.permutation.specs.Names.{Named}
 use Rattle.permutation.specs.declared.Fault.{Fault}
-use Rattle.permutation.proofs.Walks.{Word, Stray, word-refused}
+use Rattle.permutation.proofs.Walks.{Word, Stray}
 use Rattle.permutation.proofs.Marks.{isFree}
 use Rattle.permutation.proofs.NameLaws.{nameIn, IsName, image-sign, name-some}
-use Rattle.permutation.proofs.InOrder.{Named, isValue, value-image}
+use Rattle.permutation.proofs.InOrder.{isValue, value-image}
 
 -- ---- 7 and 9
 
@@ -38,15 +35,6 @@ pub number-on : {line : List ℕ} {at place next : ℕ} {x : Number} → Word li
     → notNumber (wordsAt line at) ≡ notNumber (wordsAt line next)
 unfolding notNumber
 number-on w = rw (w .words, w .number)
-
--- on a line of numbers `read` refuses only at the end
-pub all-read : (line : List ℕ) (at place p : ℕ) → place ≡ runEnd isBlank line at → notNumber (wordsAt line at) ≡ Fault.Nowhere
-    → readingAt line place ≡ Reading.Refused p → wordsAt line at ≡ []
-all-read line at place p found none e =
-    ⊎-elim
-    (λ h. let z : _≡_ {A = ℕ} 0 1 = cc (number-stray (word-refused line at place found h p e)) in absurd (omega arith))
-    (no-word line at place found)
-    (lt-or-le place (length line))
 
 -- ---- 8
 
@@ -76,9 +64,44 @@ module _ (n : ℕ) (seen : List ℕ) where
     unfolding badNameAfter
     name-on name i h = rw (e, i .is, h, i .image)
 
+-- which names are before matters, and not their order
+pub name-same : (n : ℕ) (seen more : List ℕ) → ((v : ℕ) → has seen v ≡ has more v) → (words : List Piece)
+    → badNameAfter n seen words ≡ badNameAfter n more words
+unfolding badNameAfter anyOf
+name-same n seen more e [] = refl
+name-same n seen more e (w ∷ words) =
+    let v : ℕ = variableOf (codeIn w) in
+    rw (e v, name-same n (v ∷ seen) (v ∷ more) (λ u. rw (e u)) words)
+
+-- what rule 8 finds from a place on, after the names before it
+pub badNameFrom : ℕ → ℕ → List ℕ → List Piece → Fault
+badNameFrom n end [] words = badName n end words
+badNameFrom n end (v ∷ seen) words = badNameAfter n (v ∷ seen) words
+
+module _ (n end : ℕ) where
+  pub from-start : (words : List Piece) → badName n end words ≡ badNameFrom n end [] words
+  unfolding badNameFrom
+  from-start words = refl
+
+  pub from-none : (seen : List ℕ) {words : List Piece} → length seen ≡ 0 → words ≡ [] → badNameFrom n end seen words ≡ Fault.At end
+  unfolding badNameFrom
+  from-none [] z e = name-missing n end e
+  from-none (v ∷ seen) z e = absurd (omega arith)
+
+  pub from-some : (seen : List ℕ) (words : List Piece) → 1 ≤ length seen → badNameFrom n end seen words ≡ badNameAfter n seen words
+  unfolding badNameFrom
+  from-some [] words h = absurd (omega arith)
+  from-some (v ∷ seen) words h = refl
+
+  pub from-word : (seen : List ℕ) {words : List Piece} {w : Piece} {rest : List Piece} → words ≡ w ∷ rest
+      → badNameFrom n end seen words ≡ badNameAfter n seen words
+  unfolding badNameFrom
+  from-word [] e = name-first n end e
+  from-word (v ∷ seen) e = refl
+
 -- ---- 10
 
-free-some : {n : ℕ} {names : List ℕ} → Named n names → (used : List ℕ) (v : ℕ) → isFree names used v ≡ true → v ≡ 0 → ⊥
+pub free-some : {n : ℕ} {names : List ℕ} → Named n names → (used : List ℕ) (v : ℕ) → isFree names used v ≡ true → v ≡ 0 → ⊥
 free-some {names = names} named used v f e = omega (arith, named .low v (and-l (has names v) (not (has used v)) f))
 
 pub zero-taken : {n : ℕ} {names : List ℕ} → Named n names → (used : List ℕ) → isFree names used 0 ≡ false

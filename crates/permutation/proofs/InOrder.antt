@@ -2,26 +2,30 @@
 use mathlib.Core.Path.{_≡_, refl, sym, _∙_}
 use mathlib.Core.Bool.{Bool, true, false, cond, not, _&&_}
 use mathlib.Core.List.{List, [], _∷_, map, map-map}
-use Prim.Native.Nat.{ℕ, _+_, _%_, _≤_}
+use Prim.Native.Nat.{ℕ, suc, _+_, _-_, _%_, _≤_}
 use native.Mathlib.Omega.{arith}
 use borrow.Author.Tests.{not-true, eqb-true, eqb-false, ltb-false}
 use lib.ListN.{length, getD, length-map}
 use lib.Dec.{eqb, ltb}
 use Rattle.lists.specs.Tests.{anyOf, allOf, has, distinct}
+use Rattle.lists.specs.Tables.{table}
 use Rattle.lists.proofs.Cases.{never, and-l, and-r, and-both, or-cases, or-r-false, not-so}
-use Rattle.lists.proofs.Members.{place, all-at, all-has, has-head, has-rest}
+use Rattle.lists.proofs.Members.{place, placed, all-at, all-has, has-head, has-rest}
+use Rattle.lists.proofs.TableLaws.{length-table, getD-table}
 use Rattle.dimacs.specs.Words.{Piece, wordsAt}
+use Rattle.dimacs.specs.Numbers.{Numeral, numeralOf}
 use Rattle.store.specs.Literals.{variableOf, isNegative}
 use Rattle.store.specs.Stores.{isImage}
 use Rattle.store.specs.declared.refusal.Refusal.{Refusal}
 use Rattle.store.proofs.FormLaws.{variables, variable-at, literal-low, literal-high, image-literal}
-use Rattle.store.specs.Numerals.{codeIn}
+use Rattle.store.specs.Numerals.{isNumeral, numeralCode, codeIn}
 use Rattle.permutation.specs.Lines.{notNumber, badNameAfter, badName, badValueAfter, namesOn, valuesOn}
 use Rattle.permutation.specs.Stated.{orElse, statedBy}
 use Rattle.permutation.specs.declared.Fault.{Fault}
 use Rattle.permutation.specs.declared.Stated.{Stated}
+use Rattle.permutation.specs.Names.{Named}
 use Rattle.permutation.proofs.Lists.{rest-differ, no-longer}
-use Rattle.permutation.proofs.NameLaws.{is-image}
+use Rattle.permutation.proofs.NameLaws.{is-image, no-image}
 
 -- ---- codes that pass a test, with variables that are new
 
@@ -63,16 +67,30 @@ names-sifted n seen (w ∷ words) e =
 
 -- ---- the names
 
-pub record Named (n : ℕ) (names : List ℕ) : Type 0 where
-  pub low : (v : ℕ) → has names v ≡ true → 1 ≤ v
-  pub high : (v : ℕ) → has names v ≡ true → v ≤ n
-  pub differ : distinct names ≡ true
-
 pub named-rest : {n a : ℕ} {names rest : List ℕ} → Named n names → names ≡ a ∷ rest → Named n rest
 named-rest {a = a} {rest = rest} m e = record {
   low = λ v h. m .low v (rw e (has-rest a rest v h));
   high = λ v h. m .high v (rw e (has-rest a rest v h));
   differ = rest-differ a rest (rw e at (m .differ));
+}
+
+-- names that all differ are no more than n
+pub named-few : {n : ℕ} {names : List ℕ} → Named n names → length names ≤ n
+named-few {n} {names} m = omega (arith, no-longer names (table n suc) (m .differ) within, length-table n suc)
+  where
+    within : (v : ℕ) → has names v ≡ true → has (table n suc) v ≡ true
+    within v h =
+        let low = m .low v h in
+        let high = m .high v h in
+        let next : suc (v - 1) ≡ v = omega arith in
+        placed (table n suc) v (v - 1) (omega (arith, length-table n suc)) (getD-table n suc (v - 1) 0 (omega arith) ∙ next)
+
+pub named-more : {n v : ℕ} {names : List ℕ} → Named n names → 1 ≤ v → v ≤ n → has names v ≡ false → Named n (v ∷ names)
+unfolding anyOf distinct
+named-more {n} {v} {names} m low high new = record {
+  low = λ u h. or-cases (eqb v u) (has names u) h (λ q. omega (arith, eqb-true v u q)) (m .low u);
+  high = λ u h. or-cases (eqb v u) (has names u) h (λ q. omega (arith, eqb-true v u q)) (m .high u);
+  differ = rw new (m .differ);
 }
 
 -- a variable of a list of codes is that of a code in the list
@@ -90,14 +108,15 @@ names-of n codes s = record {
   differ = s .differ;
 }
 
-pub named-on : (n end : ℕ) (line : List ℕ) → badName n end (wordsAt line 0) ≡ Fault.Nowhere → Named n (namesOn line)
-unfolding namesOn badName badNameAfter
+name-after : (n end : ℕ) (words : List Piece) → badName n end words ≡ Fault.Nowhere → badNameAfter n [] words ≡ Fault.Nowhere
+unfolding badName badNameAfter
+name-after n end [] e = refl
+name-after n end (w ∷ words) e = e
+
+named-on : (n end : ℕ) (line : List ℕ) → badName n end (wordsAt line 0) ≡ Fault.Nowhere → Named n (namesOn line)
+unfolding namesOn
 named-on n end line e =
-    rw (← (map-map variableOf codeIn (wordsAt line 0))) (names-of n _ (names-sifted n [] (wordsAt line 0) (after (wordsAt line 0) e)))
-  where
-    after : (words : List Piece) → badName n end words ≡ Fault.Nowhere → badNameAfter n [] words ≡ Fault.Nowhere
-    after [] q = refl
-    after (w ∷ words) q = q
+    rw (← (map-map variableOf codeIn (wordsAt line 0))) (names-of n _ (names-sifted n [] (wordsAt line 0) (name-after n end (wordsAt line 0) e)))
 
 -- ---- the values
 
@@ -127,11 +146,36 @@ values-sifted names end used (w ∷ words) e =
     let rest = values-sifted names end (variableOf (codeIn w) ∷ used) words (p .1) in
     (sifted-more (isValue names) used (codeIn w) (map codeIn words) (p .0) (rest .0), omega (arith, rest .1))
 
+-- ---- a line without a fault of 8 or 10 has none of 7 or 9
+
+-- a word whose code is an image is a number
+image-number : (n : ℕ) (w : Piece) → isImage n (codeIn w) ≡ true → isNumeral (numeralOf (w .bytes)) ≡ true
+unfolding codeIn
+image-number n w e = by (numeralOf (w .bytes)) e
+  where
+    by : (m : Numeral) → isImage n (numeralCode m) ≡ true → isNumeral m ≡ true
+    by (Numeral.Is x) i = refl
+    by Numeral.Not i = never (sym (no-image n 0 refl) ∙ i)
+
+all-numbers : (n : ℕ) (pass : ℕ → Bool) → ((code : ℕ) → pass code ≡ true → isImage n code ≡ true) → (words : List Piece)
+    → allOf pass (map codeIn words) ≡ true → notNumber words ≡ Fault.Nowhere
+unfolding notNumber allOf
+all-numbers n pass only [] e = refl
+all-numbers n pass only (w ∷ words) e =
+    rw (image-number n w (only (codeIn w) (and-l (pass (codeIn w)) (allOf pass (map codeIn words)) e)))
+    (all-numbers n pass only words (and-r (pass (codeIn w)) (allOf pass (map codeIn words)) e))
+
+pub names-numbers : (n end : ℕ) (words : List Piece) → badName n end words ≡ Fault.Nowhere → notNumber words ≡ Fault.Nowhere
+names-numbers n end words e = all-numbers n (isImage n) (λ code i. i) words (names-sifted n [] words (name-after n end words e) .passes)
+
+pub values-numbers : (n : ℕ) (names : List ℕ) (end : ℕ) (words : List Piece) → Named n names
+    → badValueAfter names end [] words ≡ Fault.Nowhere → notNumber words ≡ Fault.Nowhere
+values-numbers n names end words named e =
+    all-numbers n (isValue names) (λ code. value-image n names code named) words (values-sifted names end [] words e .0 .passes)
+
 -- ---- both lines
 
 pub record InOrder (n : ℕ) (names values : List ℕ) : Type 0 where
-  pub name-numbers : notNumber (wordsAt names 0) ≡ Fault.Nowhere
-  pub value-numbers : notNumber (wordsAt values 0) ≡ Fault.Nowhere
   pub named : Named n (namesOn names)
   pub among : (code : ℕ) → has (valuesOn values) code ≡ true → has (namesOn names) (variableOf code) ≡ true
   pub image : (code : ℕ) → has (valuesOn values) code ≡ true → isImage n code ≡ true
@@ -139,7 +183,7 @@ pub record InOrder (n : ℕ) (names values : List ℕ) : Type 0 where
   pub as-many : length (valuesOn values) ≡ length (namesOn names)
 
 -- a rule that no refusal comes of
-passed : (f : Fault) (refusal : ℕ → Refusal) (next : Stated) → orElse f refusal next ≡ Stated.Permutation
+pub passed : (f : Fault) (refusal : ℕ → Refusal) (next : Stated) → orElse f refusal next ≡ Stated.Permutation
     → (f ≡ Fault.Nowhere) × (next ≡ Stated.Permutation)
 passed (Fault.At place) refusal next e = let z : _≡_ {A = ℕ} 0 1 = cc in absurd (omega arith)
 passed Fault.Nowhere refusal next e = (refl, e)
@@ -147,11 +191,11 @@ passed Fault.Nowhere refusal next e = (refl, e)
 pub in-order : (n : ℕ) (names values : List ℕ) → statedBy n names values ≡ Stated.Permutation → InOrder n names values
 unfolding statedBy valuesOn
 in-order n names values e =
-    let first = passed _ _ _ e in
-    let second = passed _ _ _ (first .1) in
-    let third = passed _ _ _ (second .1) in
-    let fourth = passed _ _ _ (third .1) in
     let words : List Piece = wordsAt values 0 in
+    let first = passed (notNumber (wordsAt names 0)) Refusal.NameNotNumber _ e in
+    let second = passed _ Refusal.BadName _ (first .1) in
+    let third = passed (notNumber words) Refusal.ValueNotNumber _ (second .1) in
+    let fourth = passed _ Refusal.BadValue Stated.Permutation (third .1) in
     let named : Named n (namesOn names) = named-on n (length names) names (second .0) in
     let s = values-sifted (namesOn names) (length values) [] words (fourth .0) in
     let value : (code : ℕ) → has (map codeIn words) code ≡ true → isValue (namesOn names) code ≡ true =
@@ -160,8 +204,6 @@ in-order n names values e =
     λ v h. let c = variable-in (isValue (namesOn names)) (map codeIn words) v (s .0 .passes) h in rw (← (c .2)) (value-among (namesOn names) (c .0) (c .1)) in
     let most = no-longer (variables (map codeIn words)) (namesOn names) (s .0 .differ) name in
     record {
-      name-numbers = first .0;
-      value-numbers = third .0;
       named = named;
       among = λ code h. value-among (namesOn names) code (value code h);
       image = λ code h. value-image n (namesOn names) code named (value code h);

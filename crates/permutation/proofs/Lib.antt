@@ -4,6 +4,9 @@ pub mod Marks
 pub mod NameLaws
 pub mod InOrder
 pub mod Faults
+pub mod Listing
 pub mod RowLaws
+pub mod Using
+pub mod StateLaws
 pub mod Theorem
 pub mod Examples

@@ -57,6 +57,11 @@ pub record IsName (n code name : ℕ) : Type 0 where
   pub image : isImage n code ≡ true
   pub is : variableOf code ≡ name
 
+pub name-range : {n code name : ℕ} → IsName n code name → (1 ≤ name) × (name ≤ n)
+name-range {n} {code} i =
+    let literal = image-literal n code (i .image) in
+    (omega (arith, i .is, literal-low n code literal), omega (arith, i .is, literal-high n code literal))
+
 module _ (n code name : ℕ) (e : name ≡ nameIn n code) where
   name-or : IsName n code name ⊎ ((isImage n code ≡ false) × (name ≡ 0))
   name-or = by (isImage n code) refl e
@@ -66,10 +71,10 @@ module _ (n code name : ℕ) (e : name ≡ nameIn n code) where
       by false i q = inr (i, q)
 
   pub name-high : name ≤ n
-  name-high = ⊎-elim (λ i. omega (arith, i .is, literal-high n code (image-literal n code (i .image)))) (λ o. omega arith) name-or
+  name-high = ⊎-elim (λ i. name-range i .1) (λ o. omega arith) name-or
 
   pub name-none : name ≡ 0 → isImage n code ≡ false
-  name-none z = ⊎-elim (λ i. absurd (omega (arith, i .is, literal-low n code (image-literal n code (i .image))))) (λ o. o .0) name-or
+  name-none z = ⊎-elim (λ i. absurd (omega (arith, name-range i))) (λ o. o .0) name-or
 
   pub name-some : (name ≡ 0 → ⊥) → IsName n code name
   name-some z = ⊎-elim (λ i. i) (λ o. absurd (z (o .1))) name-or

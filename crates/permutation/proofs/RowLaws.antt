@@ -15,16 +15,14 @@ use lib.Dec.{eqb}
 use Rattle.lists.specs.Tests.{anyOf, has, distinct}
 use Rattle.lists.specs.Tables.{table}
 use Rattle.lists.proofs.Cases.{never, or-l-false, or-r-false, not-so, lt-or-le}
-use Rattle.lists.proofs.Members.{placed, has-head, has-rest}
+use Rattle.lists.proofs.Members.{placed, has-head}
 use Rattle.lists.proofs.Steps.{drop-step}
 use Rattle.lists.proofs.TableLaws.{length-table, getD-table, table-snoc}
-use Rattle.store.specs.Literals.{variableOf}
-use Rattle.store.specs.Stores.{isImage}
-use Rattle.store.proofs.FormLaws.{literal-high, image-literal}
 use Rattle.permutation.specs.Lines.{namesOn, valuesOn}
 use Rattle.permutation.specs.Stated.{imageAmong, rowStated}
+use Rattle.permutation.specs.Names.{Named, rowOf}
 use Rattle.permutation.proofs.Lists.{head-once, rest-differ, stored}
-use Rattle.permutation.proofs.InOrder.{Named, named-rest, InOrder}
+use Rattle.permutation.proofs.InOrder.{named-rest}
 
 -- ---- a table that a loop writes over the start of a list
 
@@ -75,9 +73,6 @@ module _ (n : ℕ) (names values : List ℕ) where
   unfolding rowStated
   row-length = length-table n (λ k. imageAmong (namesOn names) (valuesOn values) (suc k))
 
-  pub row-over : (row : List ℕ) → n ≤ length row → length (rowStated n names values ++ drop n row) ≡ length row
-  row-over row h = simp (length-append, row-length, length-drop) (omega arith)
-
   pub row-at : (i : ℕ) → i < n → getD (rowStated n names values) i 0 ≡ imageAmong (namesOn names) (valuesOn values) (suc i)
   unfolding rowStated
   row-at i h = getD-table n (λ k. imageAmong (namesOn names) (valuesOn values) (suc k)) i 0 h
@@ -91,48 +86,41 @@ pub record Placing (n : ℕ) (final names values row : List ℕ) : Type 0 where
   pub room : length row ≡ length final
   pub fits : n ≤ length row
   pub named : Named n names
-  pub image : (code : ℕ) → has values code ≡ true → isImage n code ≡ true
-  pub enough : length names ≤ length values
   pub is : (j : ℕ) → getD final j 0 ≡ leftOrPlaced names values row j
 
-pub placing-none : (n : ℕ) (names values row : List ℕ) → InOrder n names values → n ≤ length row → take n row ≡ table n (λ k. 2 * suc k)
-    → Placing n (rowStated n names values ++ drop n row) (namesOn names) (valuesOn values) row
-placing-none n names values row o fits e = record {
-  room = sym (row-over n names values row fits);
+pub placing-none : (n : ℕ) (names values row : List ℕ) → Named n names → n ≤ length row → take n row ≡ table n (λ k. 2 * suc k)
+    → Placing n (rowOf n names values ++ drop n row) names values row
+placing-none n names values row named fits e = record {
+  room = sym (simp (length-append, size, length-drop) (omega arith));
   fits = fits;
-  named = o .named;
-  image = o .image;
-  enough = omega (arith, o .as-many);
+  named = named;
   is = λ j. ⊎-elim (inside j) (outside j) (lt-or-le j n);
 }
   where
-    final : List ℕ
-    final = rowStated n names values ++ drop n row
+    image : ℕ → ℕ
+    image k = imageAmong names values (suc k)
 
-    size : length (rowStated n names values) ≡ n
-    size = row-length n names values
+    size : length (rowOf n names values) ≡ n
+    size = length-table n image
 
-    inside : (j : ℕ) → j < n → getD final j 0 ≡ leftOrPlaced (namesOn names) (valuesOn values) row j
+    inside : (j : ℕ) → j < n → getD (rowOf n names values ++ drop n row) j 0 ≡ leftOrPlaced names values row j
     inside j h =
-        List·getD-append (rowStated n names values) (drop n row) 0 j (omega (arith, size))
-        ∙ row-at n names values j h
-        ∙ by (has (namesOn names) (suc j)) refl
+        List·getD-append (rowOf n names values) (drop n row) 0 j (omega (arith, size)) ∙ getD-table n image j 0 h ∙ by (has names (suc j)) refl
       where
         stays : getD row j 0 ≡ 2 * suc j
         stays = sym (getD-take n row j 0 h) ∙ rw e (getD-table n (λ k. 2 * suc k) j 0 h)
 
-        by : (t : Bool) → has (namesOn names) (suc j) ≡ t
-            → imageAmong (namesOn names) (valuesOn values) (suc j) ≡ cond t (imageAmong (namesOn names) (valuesOn values) (suc j)) (getD row j 0)
+        by : (t : Bool) → has names (suc j) ≡ t → image j ≡ cond t (image j) (getD row j 0)
         by true q = refl
-        by false q = among-elsewhere (namesOn names) (valuesOn values) (suc j) q ∙ sym stays
+        by false q = among-elsewhere names values (suc j) q ∙ sym stays
 
-    outside : (j : ℕ) → n ≤ j → getD final j 0 ≡ leftOrPlaced (namesOn names) (valuesOn values) row j
+    outside : (j : ℕ) → n ≤ j → getD (rowOf n names values ++ drop n row) j 0 ≡ leftOrPlaced names values row j
     outside j h =
-        let unnamed : has (namesOn names) (suc j) ≡ false = not-so _ (λ t. omega (arith, o .named .high (suc j) t)) in
-        let past : j ≡ length (rowStated n names values) + (j - n) = omega (arith, size) in
+        let unnamed : has names (suc j) ≡ false = not-so _ (λ t. omega (arith, named .high (suc j) t)) in
+        let past : j ≡ length (rowOf n names values) + (j - n) = omega (arith, size) in
         let here : n + (j - n) ≡ j = omega arith in
-        ap (λ (k : ℕ). getD final k 0) past
-        ∙ getD-append-add (rowStated n names values) (drop n row) (j - n) 0
+        ap (λ (k : ℕ). getD (rowOf n names values ++ drop n row) k 0) past
+        ∙ getD-append-add (rowOf n names values) (drop n row) (j - n) 0
         ∙ getD-drop n row (j - n) 0
         ∙ rw (unnamed, here)
 
@@ -142,12 +130,6 @@ module _ {n : ℕ} {final names values row : List ℕ} (p : Placing n final name
       let here : has names a ≡ true = rw e (has-head a rest) in
       (p .named .low a here, p .named .high a here)
 
-  pub placing-value : {b : ℕ} {rest : List ℕ} → values ≡ b ∷ rest → variableOf b ≤ n
-  placing-value {b} {rest} e = literal-high n b (image-literal n b (p .image b (rw e (has-head b rest))))
-
-  pub placing-short : {a : ℕ} {rest : List ℕ} → names ≡ a ∷ rest → values ≡ [] → ⊥
-  placing-short e f = omega (arith, p .enough, ap length e, ap length f)
-
   pub placing-more : {a : ℕ} {names′ : List ℕ} {b : ℕ} {values′ : List ℕ} → names ≡ a ∷ names′ → values ≡ b ∷ values′
       → Placing n final names′ values′ (set row (a - 1) b)
   unfolding imageAmong anyOf
@@ -155,8 +137,6 @@ module _ {n : ℕ} {final names values row : List ℕ} (p : Placing n final name
     room = simp length-set (p .room);
     fits = simp length-set (p .fits);
     named = named-rest (p .named) e;
-    image = λ code h. p .image code (rw f (has-rest b values′ code h));
-    enough = omega (arith, p .enough, ap length e, ap length f);
     is = λ j. p .is j ∙ rw (e, f, stored row (a - 1) j b 0 (omega (arith, placing-name e, p .fits))) (by j (ℕ-discrete a (suc j)));
   }
     where

@@ -22,7 +22,6 @@ pub record Word (line : List ℕ) (at place : ℕ) (x : Number) (next : ℕ) : T
   pub number : isNumeral (numeralOf (wordAt line place)) ≡ true
   pub code : codeIn (pieceAt line place) ≡ codeOf (x .size) (x .negative)
   pub size : variableOf (codeIn (pieceAt line place)) ≡ x .size
-  pub inside : at < length line
   pub forward : at < next
 
 -- that word is no number
@@ -48,7 +47,6 @@ module _ (line : List ℕ) (at place : ℕ) (found : place ≡ runEnd isBlank li
             number = rw (n .number);
             code = rw (n .number);
             size = rw (n .number) (half (x .size) (x .negative));
-            inside = omega arith;
             forward = rw (n .past) (word-forward line at place found h);
           }
 
@@ -67,10 +65,3 @@ namesFrom line at = map (λ w. variableOf (codeIn w)) (wordsAt line at)
 
 abbrev pub codesFrom : List ℕ → ℕ → List ℕ
 codesFrom line at = map codeIn (wordsAt line at)
-
-module _ {line : List ℕ} {at place next : ℕ} {x : Number} (w : Word line at place x next) where
-  pub name-next : namesFrom line at ≡ x .size ∷ namesFrom line next
-  name-next = rw (w .words, w .size)
-
-  pub code-next : codesFrom line at ≡ codeOf (x .size) (x .negative) ∷ codesFrom line next
-  code-next = rw (w .words, w .code)

@@ -1,22 +1,24 @@
 // The permutation that the two lines of an offer state (document 01, "Permutations", and refusals 7 to 10). Each rule is tried over its
-// whole line before the next. The idea of the proofs: a line is the list of its words, and a rule is a search through that list.
+// whole line before the next. A word that is no number is no name and no value either, so that a line in which 8 or 10 finds no fault has
+// none of 7 or 9: each line is walked once, and a second time only to be refused. The idea of the proofs: a line is the list of its words,
+// and a rule is a search through that list.
 use dimacs::Number;
 use dimacs::Reading;
 use store::record::Record;
 use store::refusal::Refusal;
 ghost use mathlib.Core.Path.{_≡_};
-ghost use mathlib.Core.Bool.{true, false, cond};
+ghost use mathlib.Core.Bool.{false, cond};
 ghost use mathlib.Core.List.{[], _++_};
-ghost use Prim.Native.Nat.{ℕ, suc, _*_, _≤_};
-ghost use lib.ListN.{length, getD, take, drop};
+ghost use Prim.Native.Nat.{suc, _*_, _≤_};
+ghost use lib.ListN.{length, take, drop, replicate};
 ghost use Rattle.lists.specs.Tests.{has};
 ghost use Rattle.lists.specs.Tables.{table};
-ghost use Rattle.dimacs.specs.Words.{wordsAt, isBlank, runEnd};
-ghost use Rattle.dimacs.specs.Numbers.{readingAt};
+ghost use Rattle.dimacs.specs.Words.{wordsAt};
 ghost use Rattle.store.specs.Literals.{codeOf};
 ghost use Rattle.store.specs.Stores.{maxVariables, isImage};
-ghost use Rattle.permutation.specs.Lines.{notNumber, badName, badValueAfter, namesOn};
-ghost use Rattle.permutation.specs.Stated.{statedBy, rowStated};
+ghost use Rattle.permutation.specs.Lines.{notNumber, badValueAfter, valuesOn};
+ghost use Rattle.permutation.specs.Stated.{orElse, statedBy, rowStated};
+ghost use Rattle.permutation.specs.Names.{Named, Marks, Walked, rowOf};
 
 // A mark for each variable, and one for 0.
 const MARKS: usize = Record::MAX_VARIABLES + 1;
@@ -33,39 +35,93 @@ pub enum Stated {
     Refused(Refusal),
 }
 
-// The names on a line: a mark for each variable that is one, and their count.
-struct Names {
-    marks: [bool; MARKS],
-    count: usize,
+// What rule 8 finds on a line: so many names, or where the first bad one stands.
+enum Names {
+    Listed(usize),
+    Bad(usize),
 }
 
-// What the two lines state, by the rules 7, 8, 9 and 10 in that order.
-pub fn check(names: &[u8], values: &[u8], n: usize) -> Stated
-    requires { ⌜ n ≤ maxVariables ⌝ }
-    ensures { λ r. ⌜ r ≡ statedBy n (now (names .entry)) (now (values .entry)) ⌝ }
+// What the two lines state, by the rules 7, 8, 9 and 10 in that order, and its row over the first n entries. The row is the caller's scratch
+// memory: after a refusal it may hold anything.
+pub fn state(names: &[u8], values: &[u8], n: usize, row: &mut [u16]) -> Stated
+    requires { ⌜ (n ≤ maxVariables) × (n ≤ length (now row)) ⌝ }
+    ensures answer { λ r. ⌜ r ≡ statedBy n (now (names .entry)) (now (values .entry)) ⌝ }
+    ensures row { λ r. ⌜ (r ≡ Stated.Permutation
+        → now (row .exit) ≡ rowStated n (now (names .entry)) (now (values .entry)) ++ drop n (now (row .entry))) ⌝ }
 {
-    if let Fault::At(place) = not_number(names) {
-        return Stated::Refused(Refusal::NameNotNumber(place));
+    let mut marks = [false; MARKS];
+    let mut order = [0u16; Record::MAX_VARIABLES];
+    match list_names(names, n, &mut marks, &mut order) {
+        Names::Bad(place) => refuse_names(names, place),
+        Names::Listed(count) => {
+            identity(n, row);
+            if let Fault::At(place) = place_values(&order[..count], &mut marks, values, n, row) {
+                return refuse_values(values, place);
+            }
+            Stated::Permutation
+        }
     }
-    if let Fault::At(place) = bad_name(names, n) {
-        return Stated::Refused(Refusal::BadName(place));
-    }
-    if let Fault::At(place) = not_number(values) {
-        return Stated::Refused(Refusal::ValueNotNumber(place));
-    }
-    if let Fault::At(place) = bad_value(names, values, n) {
-        return Stated::Refused(Refusal::BadValue(place));
-    }
-    Stated::Permutation
 }
 
-// Writes the row that the two lines state over the first n entries.
-pub fn fill_row(names: &[u8], values: &[u8], n: usize, row: &mut [u16])
-    requires { ⌜ (n ≤ maxVariables) × (n ≤ length (now row)) × (statedBy n (now names) (now values) ≡ Stated.Permutation) ⌝ }
-    ensures { λ _. ⌜ now (row .exit) ≡ rowStated n (now (names .entry)) (now (values .entry)) ++ drop n (now (row .entry)) ⌝ }
+// 8: lists the names in their order and marks them, up to the first outside 1..n or repeated; the line's end is bad where there is no name.
+fn list_names(
+    names: &[u8],
+    n: usize,
+    marks: &mut [bool; MARKS],
+    order: &mut [u16; Record::MAX_VARIABLES],
+) -> Names
+    requires { ⌜ (n ≤ maxVariables) × (now marks ≡ replicate 513 false) × (n ≤ length (now order)) ⌝ }
+    ensures { λ r. ⌜ Walked n (now (names .entry)) (now (marks .exit)) (now (order .exit)) r ⌝ }
 {
-    identity(n, row);
-    place_values(names, values, n, row);
+    let mut count = 0;
+    let mut at = 0;
+    loop {
+        let place = dimacs::next_word(names, at);
+        if names.len() <= place {
+            if count == 0 {
+                return Names::Bad(names.len());
+            }
+            return Names::Listed(count);
+        }
+        let Reading::Found(number, next) = dimacs::read(names, place) else {
+            return Names::Bad(place);
+        };
+        let name = name_of(number, n);
+        if name == 0 {
+            return Names::Bad(place);
+        }
+        if marks[name] {
+            return Names::Bad(place);
+        }
+        marks[name] = true;
+        order[count] = name as u16;
+        count += 1;
+        at = next.at;
+    }
+}
+
+// The variable of 1..n that a number names, and 0 where it names none.
+fn name_of(number: Number, n: usize) -> usize
+    ensures { λ r. ⌜ r ≡ cond (isImage n (codeOf (number .size) (number .negative))) (number .size) 0 ⌝ }
+{
+    if number.negative {
+        return 0;
+    }
+    let size = number.size as usize;
+    if n < size {
+        return 0;
+    }
+    size
+}
+
+// 7 before 8: the refusal of a line whose first bad name stands at `place`.
+fn refuse_names(names: &[u8], place: usize) -> Stated
+    ensures { λ r. ⌜ r ≡ orElse (notNumber (wordsAt (now (names .entry)) 0)) Refusal.NameNotNumber (Stated.Refused (Refusal.BadName place)) ⌝ }
+{
+    if let Fault::At(first) = not_number(names) {
+        return Stated::Refused(Refusal::NameNotNumber(first));
+    }
+    Stated::Refused(Refusal::BadName(place))
 }
 
 // 7 and 9: the first word that is no number.
@@ -85,115 +141,6 @@ fn not_number(line: &[u8]) -> Fault
     }
 }
 
-// 8: the first name outside 1..n or repeated, or the line's end where there is no name.
-fn bad_name(names: &[u8], n: usize) -> Fault
-    requires { ⌜ n ≤ maxVariables ⌝ }
-    ensures { λ r. ⌜ r ≡ badName n (length (now (names .entry))) (wordsAt (now (names .entry)) 0) ⌝ }
-{
-    if names.len() <= dimacs::next_word(names, 0) {
-        return Fault::At(names.len());
-    }
-    let mut seen = [false; MARKS];
-    let mut at = 0;
-    loop {
-        let place = dimacs::next_word(names, at);
-        if names.len() <= place {
-            return Fault::Nowhere;
-        }
-        let Reading::Found(number, next) = dimacs::read(names, place) else {
-            return Fault::At(place);
-        };
-        let name = name_of(number, n);
-        if name == 0 {
-            return Fault::At(place);
-        }
-        if seen[name] {
-            return Fault::At(place);
-        }
-        seen[name] = true;
-        at = next.at;
-    }
-}
-
-// The variable of 1..n that a number names, and 0 where it names none.
-fn name_of(number: Number, n: usize) -> usize
-    ensures { λ r. ⌜ r ≡ cond (isImage n (codeOf (number .size) (number .negative))) (number .size) 0 ⌝ }
-{
-    if number.negative {
-        return 0;
-    }
-    let size = number.size as usize;
-    if n < size {
-        return 0;
-    }
-    size
-}
-
-// 10: the first value that is no name or repeated, or the line's end where there are too few. A name is free until a value
-// uses it; 0, which is no name, never is.
-fn bad_value(names: &[u8], values: &[u8], n: usize) -> Fault
-    requires { ⌜ (n ≤ maxVariables)
-        × (notNumber (wordsAt (now names) 0) ≡ Fault.Nowhere)
-        × (badName n (length (now names)) (wordsAt (now names) 0) ≡ Fault.Nowhere) ⌝ }
-    ensures { λ r. let line = now (values .entry) in
-        ⌜ r ≡ badValueAfter (namesOn (now (names .entry))) (length line) [] (wordsAt line 0) ⌝ }
-{
-    let stated = mark_names(names);
-    let mut free = stated.marks;
-    let mut used = 0;
-    let mut at = 0;
-    loop {
-        let place = dimacs::next_word(values, at);
-        if values.len() <= place {
-            if used < stated.count {
-                return Fault::At(values.len());
-            }
-            return Fault::Nowhere;
-        }
-        let Reading::Found(number, next) = dimacs::read(values, place) else {
-            return Fault::At(place);
-        };
-        let value = name_of(number, n);
-        if !free[value] {
-            return Fault::At(place);
-        }
-        free[value] = false;
-        used += 1;
-        at = next.at;
-    }
-}
-
-// Marks and counts the names on a line of numbers.
-fn mark_names(names: &[u8]) -> Names
-    requires { ⌜ (notNumber (wordsAt (now names) 0) ≡ Fault.Nowhere)
-        × ((v : ℕ) → has (namesOn (now names)) v ≡ true → v ≤ maxVariables) ⌝ }
-    ensures { λ r. ⌜ (r .count ≡ length (namesOn (now (names .entry))))
-        × (length (r .marks) ≡ 513)
-        × ((v : ℕ) → getD (r .marks) v false ≡ has (namesOn (now (names .entry))) v) ⌝ }
-{
-    let mut marks = [false; MARKS];
-    let mut count = 0;
-    let mut at = 0;
-    loop {
-        let Reading::Found(name, next) = next_number(names, at) else {
-            return Names {
-                marks: marks,
-                count: count,
-            };
-        };
-        marks[name.size as usize] = true;
-        count += 1;
-        at = next.at;
-    }
-}
-
-// The number that the first word at or after `at` is; refused where it is none, and at the line's end.
-fn next_number(line: &[u8], at: usize) -> Reading
-    ensures { λ r. ⌜ r ≡ readingAt (now (line .entry)) (runEnd isBlank (now (line .entry)) at) ⌝ }
-{
-    dimacs::read(line, dimacs::next_word(line, at))
-}
-
 // Every variable stays.
 fn identity(n: usize, row: &mut [u16])
     requires { ⌜ (n ≤ maxVariables) × (n ≤ length (now row)) ⌝ }
@@ -206,26 +153,56 @@ fn identity(n: usize, row: &mut [u16])
     }
 }
 
-// Puts each value in its name's place of a row in which every variable stays.
-fn place_values(names: &[u8], values: &[u8], n: usize, row: &mut [u16])
+// 10: the first value that is no name or repeated, or the line's end where there are too few. Each value before it is put in the row, in
+// the place of the name that stands where it does in its line. A name is free until a value uses it; 0, which is no name, never is.
+fn place_values(
+    order: &[u16],
+    free: &mut [bool; MARKS],
+    values: &[u8],
+    n: usize,
+    row: &mut [u16],
+) -> Fault
     requires { ⌜ (n ≤ maxVariables)
+        × Named n (now order)
+        × Marks (has (now order)) (now free)
         × (n ≤ length (now row))
-        × (statedBy n (now names) (now values) ≡ Stated.Permutation)
         × (take n (now row) ≡ table n (λ k. 2 * suc k)) ⌝ }
-    ensures { λ _. ⌜ now (row .exit) ≡ rowStated n (now (names .entry)) (now (values .entry)) ++ drop n (now (row .entry)) ⌝ }
+    ensures answer { λ r. let line = now (values .entry) in
+        ⌜ r ≡ badValueAfter (now (order .entry)) (length line) [] (wordsAt line 0) ⌝ }
+    ensures row { λ r. ⌜ (r ≡ Fault.Nowhere
+        → now (row .exit) ≡ rowOf n (now (order .entry)) (valuesOn (now (values .entry))) ++ drop n (now (row .entry))) ⌝ }
 {
+    let mut used = 0;
     let mut at = 0;
-    let mut value_at = 0;
     loop {
-        let Reading::Found(name, next) = next_number(names, at) else {
-            return;
+        let place = dimacs::next_word(values, at);
+        if values.len() <= place {
+            if used < order.len() {
+                return Fault::At(values.len());
+            }
+            return Fault::Nowhere;
+        }
+        let Reading::Found(number, next) = dimacs::read(values, place) else {
+            return Fault::At(place);
         };
-        let Reading::Found(value, next_value) = next_number(values, value_at) else {
-            return;
-        };
-        let place = name.size as usize;
-        row[place - 1] = store::literal::code(value.size as u16, value.negative);
+        let value = name_of(number, n);
+        if !free[value] {
+            return Fault::At(place);
+        }
+        free[value] = false;
+        let name = order[used] as usize;
+        used += 1;
+        row[name - 1] = store::literal::code(value as u16, false);
         at = next.at;
-        value_at = next_value.at;
     }
+}
+
+// 9 before 10: the refusal of a line whose first bad value stands at `place`.
+fn refuse_values(values: &[u8], place: usize) -> Stated
+    ensures { λ r. ⌜ r ≡ orElse (notNumber (wordsAt (now (values .entry)) 0)) Refusal.ValueNotNumber (Stated.Refused (Refusal.BadValue place)) ⌝ }
+{
+    if let Fault::At(first) = not_number(values) {
+        return Stated::Refused(Refusal::ValueNotNumber(first));
+    }
+    Stated::Refused(Refusal::BadValue(place))
 }

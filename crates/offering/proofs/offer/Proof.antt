@@ -1,10 +1,10 @@
 -- `offering::offer` meets its contract: the lines state a permutation, its row is filled in scratch memory and checked, and then appended. Assumes
 -- nothing.
 use mathlib.Core.Path.{_≡_, refl, sym, ap, _∙_}
-use mathlib.Core.List.{List}
+use mathlib.Core.List.{List, _++_}
 use Prim.Native.Nat.{ℕ, _+_, _*_, _≤_}
 use native.Mathlib.Nat.{mul-le-mul}
-use lib.ListN.{length, take}
+use lib.ListN.{length, take, drop, replicate}
 use lib.Seq.{length-take-le}
 use Rattle.store.specs.Stores.{Store, lent, plainOf, appended}
 use Rattle.store.proofs.Formed.{Formed, formed}
@@ -30,70 +30,71 @@ facts c = formed (S c) (c .pre .0)
 abbrev R : tie.Start → List ℕ
 R c = rowFor (S c) (c .args .names .now) (c .args .values .now)
 
--- the two lines state a permutation
-stated : (c : tie.After-enum-told) → let s = c .before .before .before .before .before .before .before .before .before in
-    statedBy (s .args .counts .variables) (s .args .names .now) (s .args .values .now) ≡ Stated.Permutation
-stated c = sym (c .before .before .check .ensures) ∙ c .enum-told .given .1
-
--- the start, from where the row has been filled
-abbrev begun : tie.After-fill-row → tie.Start
+-- the start, from where a permutation has been stated
+abbrev begun : tie.After-enum-told → tie.Start
 begun c = c .before .before .before .before .before .before .before .before .before .before .before
 
+-- the two lines state a permutation
+stated : (c : tie.After-enum-told) → let s = begun c in
+    statedBy (s .args .counts .variables) (s .args .names .now) (s .args .values .now) ≡ Stated.Permutation
+stated c = sym (c .before .before .before .state .ensures .0) ∙ c .enum-told .given .1
+
 -- the row that was filled
-abbrev filled : tie.After-fill-row → List ℕ
-filled c = c .fill-row .last .1 .1 .1 .0
+abbrev filled : tie.After-enum-told → List ℕ
+filled c = c .before .before .before .state .last .1 .1 .1 .0
 
-filled-is : (c : tie.After-fill-row) → take (begun c .args .counts .variables) (filled c) ≡ R (begun c)
-filled-is c = filled-row _ _ _ _ (filled c) (c .fill-row .ensures)
+filled-whole : (c : tie.After-enum-told) → filled c ≡ R (begun c) ++ drop (begun c .args .counts .variables) (replicate 512 0)
+filled-whole c = c .before .before .before .state .ensures .1 (c .enum-told .given .1)
 
-filled-size : (c : tie.After-fill-row) → begun c .args .counts .variables ≤ length (filled c)
+filled-is : (c : tie.After-enum-told) → take (begun c .args .counts .variables) (filled c) ≡ R (begun c)
+filled-is c = filled-row _ _ _ _ (filled c) (filled-whole c)
+
+filled-size : (c : tie.After-enum-told) → begun c .args .counts .variables ≤ length (filled c)
 filled-size c =
     let f = facts (begun c) in
-    omega (arith, filled-length _ _ _ _ (filled c) (c .fill-row .ensures) (f .variables-fit), f .variables-fit)
+    omega (arith, filled-length _ _ _ _ (filled c) (filled-whole c) (f .variables-fit), f .variables-fit)
 
-filled-prefix : (c : tie.After-fill-row) → length (take (begun c .args .counts .variables) (filled c)) ≡ begun c .args .counts .variables
+filled-prefix : (c : tie.After-enum-told) → length (take (begun c .args .counts .variables) (filled c)) ≡ begun c .args .counts .variables
 filled-prefix c = length-take-le _ _ (filled-size c)
 
 -- what was found missing
-missing-is : (c : tie.After-first-missing) → let s = begun (c .before .before .before) in
+missing-is : (c : tie.After-first-missing) → let s = begun (c .before .before) in
     c .first-missing .result ≡ firstMissing (R s) (plainOf (S s))
 unfolding plainOf
 missing-is c =
-    let s = begun (c .before .before .before) in
-    c .first-missing .ensures ∙ ap (λ (row : List ℕ). firstMissing row (plainOf (S s))) (filled-is (c .before .before .before))
+    let s = begun (c .before .before) in
+    c .first-missing .ensures ∙ ap (λ (row : List ℕ). firstMissing row (plainOf (S s))) (filled-is (c .before .before))
 
-check-requires : tie.Need-check-requires
-check-requires c κs = facts (c .before .before .before .before .before .before) .variables-fit
+state-requires : tie.Need-state-requires
+state-requires c κs = let small = facts (c .before .before .before .before .before .before .before) .variables-fit in (small, small)
 
 returns : tie.Need-returns
 returns c =
-    let told = c .before .before .before in
-    (sym (not-stated (S (told .before .before .before .before .before .before .before)) _ _ _ (sym (told .check .ensures) ∙ c .before .stated .given .1)), refl)
-
-fill-row-requires : tie.Need-fill-row-requires
-fill-row-requires c κs = let small = facts (c .before .before .before .before .before .before .before .before .before .before) .variables-fit in (small, small, stated (c .before))
+    let told = c .before .before .before .before in
+    let s = told .before .before .before .before .before .before .before .before in
+    (sym (not-stated (S s) _ _ _ (sym (told .state .ensures .0) ∙ c .before .stated .given .1)), refl)
 
 array-share-prefix-row : tie.Need-array-share-prefix-row
-array-share-prefix-row c = filled-size (c .before)
+array-share-prefix-row c = filled-size c
 
 slice-aggregate-first-missing : tie.Need-slice-aggregate-first-missing
-slice-aggregate-first-missing c = sym (filled-prefix (c .before .before))
+slice-aggregate-first-missing c = sym (filled-prefix (c .before))
 
 first-missing-requires : tie.Need-first-missing-requires
 first-missing-requires c κs =
-    let s = begun (c .before .before) in
-    let row = c .before .before in
-    (row-fits (S s) (s .args .keys .now) _ (s .pre .0) (s .pre .1) (filled-prefix row) (rw (filled-is row) (stated-row _ _ _ (stated (row .before .before)))), s .pre .3)
+    let row = c .before in
+    let s = begun row in
+    (row-fits (S s) (s .args .keys .now) _ (s .pre .0) (s .pre .1) (filled-prefix row) (rw (filled-is row) (stated-row _ _ _ (stated row))), s .pre .3)
 
 returns-2 : tie.Need-returns-2
 returns-2 c =
     let m = c .before in
-    let row = m .before .before .before in
-    (sym (not-symmetric (S (begun row)) _ _ (stated (row .before .before)) _ (missing-is m) (c .if1 .taken)), refl)
+    let row = m .before .before in
+    (sym (not-symmetric (S (begun row)) _ _ (stated row) _ (missing-is m) (c .if1 .taken)), refl)
 
 mul-needed : tie.Need-mul-needed
 mul-needed c =
-    let s = begun (c .before .before .before .before) in
+    let s = begun (c .before .before .before) in
     let few : s .args .counts .rows + 1 ≤ 64 = omega (arith, s .pre .2) in
     let most : (s .args .counts .rows + 1) * s .args .counts .variables ≤ 64 * 512 = mul-le-mul few (facts s .variables-fit) in
     omega arith
@@ -101,25 +102,25 @@ mul-needed c =
 returns-3 : tie.Need-returns-3
 returns-3 c =
     let m = c .before .before in
-    let row = m .before .before .before in
-    (sym (no-room (S (begun row)) _ _ (stated (row .before .before)) _ (missing-is m) (c .before .if1 .left) (c .if2 .taken)), refl)
+    let row = m .before .before in
+    (sym (no-room (S (begun row)) _ _ (stated row) _ (missing-is m) (c .before .if1 .left) (c .if2 .taken)), refl)
 
 array-share-prefix-row-2 : tie.Need-array-share-prefix-row-2
-array-share-prefix-row-2 c = filled-size (c .before .before .before .before .before .before)
+array-share-prefix-row-2 c = filled-size (c .before .before .before .before .before)
 
 slice-aggregate-append : tie.Need-slice-aggregate-append
-slice-aggregate-append c = sym (filled-prefix (c .before .before .before .before .before .before .before))
+slice-aggregate-append c = sym (filled-prefix (c .before .before .before .before .before .before))
 
 append-requires : tie.Need-append-requires
-append-requires c κs = (filled-prefix (c .before .before .before .before .before .before .before), omega (arith, c .before .before .if2 .left))
+append-requires c κs = (filled-prefix (c .before .before .before .before .before .before), omega (arith, c .before .before .if2 .left))
 
 returns-4 : tie.Need-returns-4
 returns-4 c =
     let e = c .before .before .before .before .before in
     let m = e .before .before in
-    let row = m .before .before .before in
+    let row = m .before .before in
     let s = begun row in (
-      sym (held (S s) _ _ (stated (row .before .before)) _ (missing-is m) (e .before .if1 .left) (e .if2 .left)),
+      sym (held (S s) _ _ (stated row) _ (missing-is m) (e .before .if1 .left) (e .if2 .left)),
       c .before .before .append .ensures
           ∙ ap (λ (row : List ℕ). appended (s .args .counts .variables) (s .args .counts .rows) row (s .args .images .now)) (filled-is row),
     )
@@ -127,6 +128,6 @@ returns-4 c =
 pub offer-spec : {M : Type 1} → statement M
 offer-spec =
     tie.close
-    (tie.spec check-requires (search needs) returns (search needs) (search needs) fill-row-requires array-share-prefix-row
-    slice-aggregate-first-missing first-missing-requires returns-2 (search needs) mul-needed returns-3 array-share-prefix-row-2
-    slice-aggregate-append append-requires (search needs) returns-4)
+    (tie.spec (search needs) state-requires (search needs) returns (search needs) array-share-prefix-row slice-aggregate-first-missing
+    first-missing-requires returns-2 (search needs) mul-needed returns-3 array-share-prefix-row-2 slice-aggregate-append append-requires
+    (search needs) returns-4)

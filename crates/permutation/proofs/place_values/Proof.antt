@@ -1,123 +1,147 @@
--- `permutation::place_values` meets its contract. The invariant: from `at` and `value_at` on there are only numbers, and each image is among the names
--- and values there or in its place (`Placing`). Assumes nothing.
-use mathlib.Core.Path.{_≡_, refl, sym, ap, _∙_}
-use Prim.Native.Nat.{_-_, _≤_}
-use mathlib.Core.List.{_++_, map}
-use lib.ListN.{length, drop}
-use Rattle.dimacs.specs.Words.{isBlank, runEnd, wordsAt}
-use Rattle.store.specs.Literals.{codeOf, variableOf}
+-- `permutation::place_values` meets its contract. The invariant: each value before `at` has used a name and stands in the row, and the line's first
+-- bad value is the first from `at` on (`Using`). Assumes nothing.
+use mathlib.Core.Path.{_≡_, refl, sym, _∙_}
+use Prim.Native.Nat.{ℕ, _-_, _≤_, _<_}
+use mathlib.Core.Bool.{true, false}
+use mathlib.Core.List.{_++_}
+use lib.ListN.{length, getD, drop, length-set}
+use borrow.Author.Tests.{not-true, not-false}
+use Rattle.dimacs.proofs.WordLaws.{pieceAt, no-word}
 use Rattle.store.specs.Numerals.{codeIn}
-use Rattle.permutation.specs.Lines.{notNumber, namesOn, valuesOn}
-use Rattle.permutation.specs.Stated.{rowStated}
+use Rattle.permutation.specs.Lines.{valuesOn}
+use Rattle.permutation.specs.Names.{Named, rowOf}
 use Rattle.permutation.specs.declared.Fault.{Fault}
-use Rattle.permutation.proofs.Walks.{Word, word-read, namesFrom, codesFrom, name-next, code-next}
-use Rattle.permutation.proofs.InOrder.{in-order}
-use Rattle.permutation.proofs.Faults.{all-read, number-on}
-use Rattle.permutation.proofs.RowLaws.{row-over, Placing, placing-none, placing-name, placing-value, placing-short, placing-more, placing-all}
+use Rattle.permutation.proofs.Walks.{Word, word-read, word-refused}
+use Rattle.permutation.proofs.NameLaws.{nameIn, named, no-name, name-high}
+use Rattle.permutation.proofs.Using.{Using, using-none, using-few, using-all, using-stop, using-zero, Step, using-step, using-more}
 use borrow.Author.Needs.{needs}
 use native.Mathlib.Omega.{arith}
 use Rattle.permutation.proofs.place_values.Statement.{statement}
 use Rattle.permutation.proofs.place_values.Tie as tie
 
 abbrev Inv-loop : tie.InvT-loop
-Inv-loop names values n row₀ at₀ value-at₀ row at value-at =
-    (notNumber (wordsAt names at) ≡ Fault.Nowhere)
-    × (notNumber (wordsAt values value-at) ≡ Fault.Nowhere)
-    × Placing n (rowStated n names values ++ drop n row₀) (namesFrom names at) (codesFrom values value-at) row
+Inv-loop order free₀ values n row₀ used₀ at₀ free row used at =
+    Using n order values (rowOf n order (valuesOn values) ++ drop n row₀) free row used at × (length row ≡ length row₀)
 
 abbrev μ-loop : tie.MeasureT-loop
-μ-loop names values n row₀ at₀ value-at₀ row at value-at = length names - at
+μ-loop order free₀ values n row₀ used₀ at₀ free row used at = length values - at
 
--- the row keeps its length
-kept : (c : tie.At-loop Inv-loop μ-loop) → length (c .loop .row) ≡ length (c .before .before .before .before .args .row .now)
-kept c = c .loop .inv .2 .room ∙ row-over _ _ _ _ (c .before .before .before .before .pre .1)
+-- the names
+names : (c : tie.At-loop Inv-loop μ-loop) → let start = c .before .before .before .before in Named (start .args .n) (start .args .order .now)
+names c = c .before .before .before .before .pre .1
 
--- the name and the value that are read
-name-found : (c : tie.After-known-told Inv-loop μ-loop) → let at = c .before .before .before .before in
-    let read = c .before .name .given .0 in
-    let names = at .before .before .before .before .args .names .now in
-    Word names (at .loop .at) (runEnd isBlank names (at .loop .at)) (read .0) (read .1 .0 .at)
-name-found c = word-read _ _ _ refl _ _ (sym (c .before .before .before .next-number .ensures) ∙ c .before .name .given .1)
+-- the number that `read` found, and what `name_of` says of it
+found : (c : tie.After-known-told Inv-loop μ-loop) → let at = c .before .before .before .before in
+    let read = c .before .number .given .0 in
+    let values = at .before .before .before .before .before .before .args .values .now in
+    Word values (at .before .before .loop .at) (at .before .next-word .result) (read .0) (read .1 .0 .at)
+found c =
+    let at = c .before .before .before .before in
+    word-read _ _ _ (at .before .next-word .ensures) _ _ (sym (c .before .before .before .read .ensures) ∙ c .before .number .given .1)
 
-value-found : (c : tie.After-known-told2 Inv-loop μ-loop) → let at = c .before .before .before .before .before .before .before .before in
-    let read = c .before .value .given .0 in
-    let values = at .before .before .before .before .args .values .now in
-    Word values (at .loop .value-at) (runEnd isBlank values (at .loop .value-at)) (read .0) (read .1 .0 .at)
-value-found c = word-read _ _ _ refl _ _ (sym (c .before .before .before .next-number2 .ensures) ∙ c .before .value .given .1)
+says : (c : tie.After-name-of Inv-loop μ-loop) → let at = c .before .before .before .before .before in
+    let start = at .before .before .before .before .before .before in
+    c .name-of .result ≡ nameIn (start .args .n) (codeIn (pieceAt (start .args .values .now) (at .before .next-word .result)))
+says c = named _ _ (found (c .before)) (c .name-of .ensures)
 
--- the name has a place in the row, and the value a code
-fits : (c : tie.After-known-told2 Inv-loop μ-loop) → let name = c .before .before .before .before in
-    let at = name .before .before .before .before in
-    let n = at .before .before .before .before .args .n in
-    let size = name .before .name .given .0 .0 .size in
-    let value = c .before .value .given .0 .0 in
-    (1 ≤ size) × (size ≤ n) × (variableOf (codeOf (value .size) (value .negative)) ≤ n) × (n ≤ length (at .loop .row))
+small : (c : tie.After-name-of Inv-loop μ-loop) → c .name-of .result < 513
+small c = omega (arith, name-high _ _ _ (says c))
+
+-- the value is free, so that a name is left for it, and there is room for both in the row
+free : (c : tie.Else3 Inv-loop μ-loop) → let loop = c .before .before .before .before .before .before .before .before .before .loop in
+    getD (loop .free) (c .before .before .name-of .result) false ≡ true
+free c = not-false _ (c .if3 .left)
+
+fits : (c : tie.Else3 Inv-loop μ-loop) → let at = c .before .before .before .before .before .before .before .before .before in
+    let start = at .before .before .before .before in
+    let n = start .args .n in
+    Step n (start .args .order .now) (at .loop .used) (c .before .before .name-of .result) × (n ≤ 512) × (n ≤ length (at .loop .row))
 fits c =
-    let name = c .before .before .before .before in
-    let p = name .before .before .before .before .loop .inv .2 in
-    let a = placing-name p (name-next (name-found name)) in
-    (a .0, a .1, placing-value p (code-next (value-found c)), p .fits)
+    let at = c .before .before .before .before .before .before .before .before .before in
+    let inv = at .loop .inv .0 in
+    (using-step (names at) inv _ (free c), at .before .before .before .before .pre .0, inv .placing .fits)
+
+-- at a fault nothing is asked of the row
+at-fault : {place : ℕ} {A : Type 0} → Fault.At place ≡ Fault.Nowhere → A
+at-fault e = let z : _≡_ {A = ℕ} 0 1 = cc in absurd (omega arith)
 
 loop-holds : tie.Need-loop-holds Inv-loop μ-loop
-unfolding namesOn valuesOn
-loop-holds c =
-    let start = c .before .before .before in
-    let o = in-order _ _ _ (start .pre .2) in
-    (o .name-numbers, o .value-numbers, placing-none _ _ _ _ o (start .pre .1) (start .pre .3))
-
-same-length : tie.Need-same-length Inv-loop μ-loop
-same-length c = kept (c .before .before .before)
+loop-holds c = let pre = c .before .before .before .pre in (using-none (pre .1) _ _ _ (pre .2) (pre .3) (pre .4), refl)
 
 returns : tie.Need-returns Inv-loop μ-loop
 returns c =
-    let at = c .before .before in
-    let inv = at .before .loop .inv in
-    placing-all (inv .2) (ap (map _) (all-read _ _ _ _ refl (inv .0) (sym (at .next-number .ensures) ∙ c .enum-told .given .1)))
-
-same-length-2 : tie.Need-same-length-2 Inv-loop μ-loop
-same-length-2 c = kept (c .before .before .before .before .before .before .before)
+    let at = c .before in
+    let loop = at .before .before in
+    (sym (using-few (names loop) (loop .loop .inv .0) (no-word _ _ _ (at .before .next-word .ensures) (at .if1 .taken)) (c .if2 .taken)), at-fault)
 
 returns-2 : tie.Need-returns-2 Inv-loop μ-loop
 returns-2 c =
-    let at = c .before .before in
-    let name = at .before in
-    let inv = name .before .before .before .before .loop .inv in
-    let ended = all-read _ _ _ _ refl (inv .1) (sym (at .next-number2 .ensures) ∙ c .enum-told2 .given .1) in
-    absurd (placing-short (inv .2) (name-next (name-found name)) (ap (map codeIn) ended))
+    let at = c .before in
+    let loop = at .before .before in
+    let all = using-all (names loop) (loop .loop .inv .0) (no-word _ _ _ (at .before .next-word .ensures) (at .if1 .taken)) (c .if2 .left) in
+    (sym (all .0), λ _. all .1)
 
-cast-place : tie.Need-cast-place Inv-loop μ-loop
-cast-place c = omega (arith, fits (c .before))
+returns-3 : tie.Need-returns-3 Inv-loop μ-loop
+returns-3 c =
+    let at = c .before .before .before in
+    let loop = at .before .before in
+    let stray = word-refused _ _ _ (at .before .next-word .ensures) (at .if1 .left) _ (sym (c .before .before .read .ensures) ∙ c .enum-told .given .1) in
+    (sym (using-stop (names loop) (loop .loop .inv .0) (stray .words) 0 (no-name _ _ (stray .code)) (using-zero (names loop) (loop .loop .inv .0))), at-fault)
+
+element-copy-out-if3 : tie.Need-element-copy-out-if3 Inv-loop μ-loop
+element-copy-out-if3 c = small c
+
+returns-4 : tie.Need-returns-4 Inv-loop μ-loop
+returns-4 c =
+    let name = c .before .before in
+    let loop = name .before .before .before .before .before .before .before in
+    (sym (using-stop (names loop) (loop .loop .inv .0) (found (name .before) .words) _ (says name) (not-true _ (c .if3 .taken))), at-fault)
+
+element-write-free : tie.Need-element-write-free Inv-loop μ-loop
+element-write-free c = small (c .before .before)
+
+mul-name : tie.Need-mul-name Inv-loop μ-loop
+mul-name c = omega (arith, fits c)
+
+shared-slice-read-name : tie.Need-shared-slice-read-name Inv-loop μ-loop
+shared-slice-read-name c = fits (c .before) .0 .left
+
+cast-name : tie.Need-cast-name Inv-loop μ-loop
+cast-name c = omega (arith, fits (c .before))
+
+add-used : tie.Need-add-used Inv-loop μ-loop
+add-used c = omega (arith, fits (c .before))
 
 cast-code : tie.Need-cast-code Inv-loop μ-loop
-cast-code c = omega (arith, fits (c .before .before))
+cast-code c = omega (arith, fits (c .before))
 
 code-requires : tie.Need-code-requires Inv-loop μ-loop
-code-requires c κs = omega (arith, fits (c .before .before))
+code-requires c κs = omega (arith, fits (c .before))
 
 sub-row : tie.Need-sub-row Inv-loop μ-loop
-sub-row c = omega (arith, fits (c .before .before .before))
+sub-row c = omega (arith, fits (c .before .before))
 
 mul-row : tie.Need-mul-row Inv-loop μ-loop
-mul-row c = omega (arith, fits (c .before .before .before))
+mul-row c = omega (arith, fits (c .before .before))
 
 slice-write-row : tie.Need-slice-write-row Inv-loop μ-loop
-slice-write-row c = omega (arith, fits (c .before .before .before))
+slice-write-row c = omega (arith, fits (c .before .before))
 
 loop-less : tie.Need-loop-less Inv-loop μ-loop
-loop-less c = omega (arith, name-found (c .before .before .before .before .before .before .before))
+loop-less c = omega (arith, found (c .before .before .before .before .before) .forward)
 
 loop-again : tie.Need-loop-again Inv-loop μ-loop
 loop-again c =
-    let value = c .before .before .before in
-    let name = value .before .before .before .before in
-    let inv = name .before .before .before .before .loop .inv in (
-      sym (number-on (name-found name)) ∙ inv .0,
-      sym (number-on (value-found value)) ∙ inv .1,
-      rw (c .code .ensures) (placing-more (inv .2) (name-next (name-found name)) (code-next (value-found value))),
+    let value = c .before .before in
+    let name = value .before .before in
+    let loop = name .before .before .before .before .before .before .before in (
+      rw (c .code .ensures) (using-more (names loop) (loop .loop .inv .0) _ (free value) (found (name .before)) (says name) (small name)),
+      simp length-set (loop .loop .inv .1),
     )
 
 pub place-values-spec : {M : Type 1} → statement M
 place-values-spec =
     tie.close
-    (tie.spec Inv-loop μ-loop loop-holds (search needs) (search needs) (search needs) same-length returns (search needs) (search needs)
-    (search needs) same-length-2 returns-2 cast-place cast-code code-requires sub-row mul-row slice-write-row loop-less loop-again)
+    (tie.spec Inv-loop μ-loop loop-holds (search needs) (search needs) returns (search needs) returns-2 (search needs) (search needs) (search needs)
+    (search needs) returns-3 (search needs) element-copy-out-if3 (search needs) returns-4 element-write-free mul-name shared-slice-read-name
+    cast-name add-used cast-code code-requires sub-row mul-row slice-write-row loop-less loop-again)

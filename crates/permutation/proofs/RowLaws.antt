@@ -19,8 +19,8 @@ use Rattle.lists.proofs.Members.{placed, has-head}
 use Rattle.lists.proofs.Steps.{drop-step}
 use Rattle.lists.proofs.TableLaws.{length-table, getD-table, table-snoc}
 use Rattle.permutation.specs.Lines.{namesOn, valuesOn}
-use Rattle.permutation.specs.Stated.{imageAmong, rowStated}
-use Rattle.permutation.specs.Names.{Named, rowOf}
+use Rattle.permutation.specs.Stated.{imageAmong, rowStated, rowOf}
+use Rattle.permutation.specs.Names.{Named}
 use Rattle.permutation.proofs.Lists.{head-once, rest-differ, stored}
 use Rattle.permutation.proofs.InOrder.{named-rest}
 

@@ -9,8 +9,8 @@ use Rattle.lists.specs.Tables.{table}
 use Rattle.dimacs.specs.Words.{wordsAt}
 use Rattle.store.specs.declared.refusal.Refusal.{Refusal}
 use Rattle.permutation.specs.Lines.{notNumber, badName, badValueAfter, valuesOn}
-use Rattle.permutation.specs.Stated.{orElse, statedBy, rowStated}
-use Rattle.permutation.specs.Names.{Listed, rowOf}
+use Rattle.permutation.specs.Stated.{orElse, statedBy, rowStated, rowOf}
+use Rattle.permutation.specs.Names.{Listed}
 use Rattle.permutation.specs.declared.Fault.{Fault}
 use Rattle.permutation.specs.declared.Stated.{Stated}
 use Rattle.permutation.proofs.InOrder.{passed, names-numbers, values-numbers}

@@ -18,7 +18,8 @@ use Rattle.dimacs.proofs.WordLaws.{pieceAt}
 use Rattle.store.specs.Literals.{codeOf}
 use Rattle.store.specs.Numerals.{codeIn}
 use Rattle.permutation.specs.Lines.{badValueAfter, valuesOn}
-use Rattle.permutation.specs.Names.{Named, Marks, rowOf}
+use Rattle.permutation.specs.Stated.{rowOf}
+use Rattle.permutation.specs.Names.{Named, Marks}
 use Rattle.permutation.specs.declared.Fault.{Fault}
 use Rattle.permutation.proofs.Lists.{no-longer}
 use Rattle.permutation.proofs.Walks.{Word, codesFrom}

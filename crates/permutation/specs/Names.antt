@@ -2,13 +2,11 @@
 use mathlib.Core.Path.{_≡_}
 use mathlib.Core.Bool.{Bool, true, false}
 use mathlib.Core.List.{List}
-use Prim.Native.Nat.{ℕ, suc, _≤_}
+use Prim.Native.Nat.{ℕ, _≤_}
 use lib.ListN.{length, getD, take}
 use Rattle.lists.specs.Tests.{has, distinct}
-use Rattle.lists.specs.Tables.{table}
 use Rattle.dimacs.specs.Words.{wordsAt}
 use Rattle.permutation.specs.Lines.{badName, namesOn}
-use Rattle.permutation.specs.Stated.{imageAmong}
 use Rattle.permutation.specs.declared.Fault.{Fault}
 use Rattle.permutation.specs.declared.Names.{Names}
 
@@ -22,10 +20,6 @@ pub record Named (n : ℕ) (names : List ℕ) : Type 0 where
 pub record Marks (test : ℕ → Bool) (marks : List Bool) : Type 0 where
   pub room : length marks ≡ 513
   pub is : (v : ℕ) → getD marks v false ≡ test v
-
--- the row of n images that names and values in their order state
-abbrev pub rowOf : ℕ → List ℕ → List ℕ → List ℕ
-rowOf n names values = table n (λ k. imageAmong names values (suc k))
 
 -- a line on which rule 8 finds no fault: its names are the first `count` of `order`, and are marked
 pub record Listed (n : ℕ) (line : List ℕ) (marks : List Bool) (order : List ℕ) (count : ℕ) : Type 0 where

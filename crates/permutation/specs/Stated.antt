@@ -31,6 +31,9 @@ imageAmong [] values i = 2 * i
 imageAmong (name ∷ names) [] i = 2 * i
 imageAmong (name ∷ names) (value ∷ values) i = cond (eqb name i) value (imageAmong names values i)
 
--- the row of n images: that of variable i at index i - 1
+-- the row of n images: that of variable i at index i - 1; and the row that two lines state
+abbrev pub rowOf : ℕ → List ℕ → List ℕ → List ℕ
+rowOf n names values = table n (λ k. imageAmong names values (suc k))
+
 unfoldable pub rowStated : ℕ → List ℕ → List ℕ → List ℕ
-rowStated n names values = table n (λ k. imageAmong (namesOn names) (valuesOn values) (suc k))
+rowStated n names values = rowOf n (namesOn names) (valuesOn values)

@@ -17,8 +17,8 @@ ghost use Rattle.dimacs.specs.Words.{wordsAt};
 ghost use Rattle.store.specs.Literals.{codeOf};
 ghost use Rattle.store.specs.Stores.{maxVariables, isImage};
 ghost use Rattle.permutation.specs.Lines.{notNumber, badValueAfter, valuesOn};
-ghost use Rattle.permutation.specs.Stated.{orElse, statedBy, rowStated};
-ghost use Rattle.permutation.specs.Names.{Named, Marks, Walked, rowOf};
+ghost use Rattle.permutation.specs.Stated.{orElse, statedBy, rowStated, rowOf};
+ghost use Rattle.permutation.specs.Names.{Named, Marks, Walked};
 
 // A mark for each variable, and one for 0.
 const MARKS: usize = Record::MAX_VARIABLES + 1;

@@ -9,7 +9,8 @@ use borrow.Author.Tests.{not-true, not-false}
 use Rattle.dimacs.proofs.WordLaws.{pieceAt, no-word}
 use Rattle.store.specs.Numerals.{codeIn}
 use Rattle.permutation.specs.Lines.{valuesOn}
-use Rattle.permutation.specs.Names.{Named, rowOf}
+use Rattle.permutation.specs.Stated.{rowOf}
+use Rattle.permutation.specs.Names.{Named}
 use Rattle.permutation.specs.declared.Fault.{Fault}
 use Rattle.permutation.proofs.Walks.{Word, word-read, word-refused}
 use Rattle.permutation.proofs.NameLaws.{nameIn, named, no-name, name-high}

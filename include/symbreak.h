@@ -28,7 +28,7 @@ extern "C" {
 
 /* No call has more bytes than this on the stack, from its return address down, with what it keeps below the stack pointer (the red zone); only an offer has
  * more than 16,384. Outside the library only memcpy and memset are called; what they have comes on top. On x86-64 the registers of SSE2 are used. */
-#define SYMBREAK_MAX_STACK 40960
+#define SYMBREAK_MAX_STACK 36864
 
 /* Refusals, each with its place. Those of a text or a line have the offset in bytes, from 0, of the word that offends, unless the comment says which
  * other place; 11 and 23 have a number, as said there; the place of 12, 13, 14, 20, 21, 22 and 30 is always 0. */

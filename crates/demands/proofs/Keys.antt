@@ -1,11 +1,10 @@
 -- Document 02, CR 5: `TheKeys` holds of whatever is lent. Assumes nothing.
-use mathlib.Core.Path.{_≡_, refl, sym, ap, _∙_}
-use mathlib.Core.Bool.{true, cond}
+use mathlib.Core.Path.{_≡_, refl}
 use mathlib.Core.List.{List}
 use Prim.Native.Nat.{ℕ}
 use native.Mathlib.Omega.{arith}
 use Rattle.lists.specs.Writing.{overwritten}
-use Rattle.store.specs.Refusals.{done, refused}
+use Rattle.store.specs.Refusals.{done}
 use Rattle.store.specs.Stores.{plainOf}
 use Rattle.numbers.proofs.Theorem.{well-chosen}
 use Rattle.keys.specs.Keys.{keysOf}
@@ -17,7 +16,7 @@ use Rattle.opening.specs.declared.Opened.{Opened}
 use Rattle.symmetry.proofs.SetLaws.{sameSet-iff}
 use Rattle.symmetry.proofs.KeyLaws.{same-keys}
 use Rattle.calls.specs.Calls.{Dimensions, accepted as yes, takenBack, saidOpened, openedIn, openSays, openStore, offerSays, offerStore, withdrawSays, withdrawStore}
-use Rattle.demands.specs.Keys.{EachRight, TheKeys}
+use Rattle.demands.specs.Keys.{TheKeys}
 use Rattle.demands.proofs.AfterCalls.{Ending, ending, answered, turned}
 use Rattle.demands.proofs.Acceptance.{store-refused, store-accepted}
 use Rattle.demands.proofs.Withdrawal.{withdrawn-refused, withdrawn-row}

@@ -2,7 +2,7 @@
 -- one are among the other's, they have the same. Assumes nothing.
 use mathlib.Core.Path.{_≡_, refl, sym, ap, _∙_}
 use mathlib.Core.Bool.{Bool, true, false, cond}
-use mathlib.Core.List.{List, map}
+use mathlib.Core.List.{List}
 use mathlib.Core.Logic.{⊎-elim}
 use Prim.Native.Nat.{ℕ, zero, suc, _+_, _-_, _%_, _^_, _≤_, _<_}
 use native.Mathlib.Nat.{not-suc-le-zero}
@@ -15,7 +15,7 @@ use Rattle.numbers.proofs.Theorem.{well-chosen}
 use Rattle.store.specs.Literals.{isLiteral}
 use Rattle.store.specs.Stores.{maxVariables}
 use Rattle.store.proofs.FormLaws.{literal-low, literal-high}
-use Rattle.keys.specs.Keys.{different, total, numberIn, keyBy, keyOf}
+use Rattle.keys.specs.Keys.{numberIn, keyBy, keyOf}
 use Rattle.keys.proofs.Sums.{summed, by-members}
 
 -- how many numbers below k pass a test

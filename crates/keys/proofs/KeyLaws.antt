@@ -1,14 +1,13 @@
 -- The key of a clause by a loop from its end: the codes from i on, a code more, no code. Clauses with the same literals have the same key. Assumes nothing.
-use mathlib.Core.Path.{_≡_, refl, sym, ap, _∙_}
-use mathlib.Core.Bool.{Bool, true, false}
-use mathlib.Core.List.{List, [], _∷_, map}
+use mathlib.Core.Path.{_≡_, ap}
+use mathlib.Core.Bool.{true, false}
+use mathlib.Core.List.{List, _∷_, map}
 use Prim.Native.Nat.{ℕ, _+_, _-_, _%_, _^_, _≤_, _<_}
 use native.Mathlib.Omega.{arith}
 use lib.ListN.{length, getD, drop, drop-of-length-le}
 use Rattle.lists.specs.Tests.{has}
 use Rattle.lists.proofs.Steps.{drop-step}
-use Rattle.numbers.specs.Numbers.{numbers}
-use Rattle.keys.specs.Keys.{different, total, numberIn, keyBy, keyOf}
+use Rattle.keys.specs.Keys.{different, total, numberIn, keyBy}
 use Rattle.keys.proofs.Sums.{same-total}
 
 -- "independent of order, proved equal for equal sets" (document 01, "Forms and where they belong"): neither order nor repeats matter

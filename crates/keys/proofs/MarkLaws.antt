@@ -12,7 +12,6 @@ use lib.Dec.{eqb}
 use Rattle.lists.specs.Tests.{anyOf, allOf, has}
 use Rattle.lists.proofs.Cases.{and-l, and-r, and-both, lt-or-le, eq-or-ne}
 use Rattle.lists.proofs.Members.{has-head, has-other, has-again}
-use Rattle.lists.proofs.Steps.{drop-step}
 use Rattle.numbers.specs.Numbers.{numbers, numberCount}
 use Rattle.store.specs.Literals.{isLiteral}
 use Rattle.store.specs.Stores.{maxVariables}

@@ -4,7 +4,7 @@ use Prim.Native.Nat.{ℕ}
 use mathlib.Core.Bool.{Bool, cond, not, _&&_}
 use mathlib.Core.List.{List}
 use denote.Ref.{RefT}
-use Rattle.store.specs.Stores.{Store, lent, stored, plainOf, isFormed}
+use Rattle.store.specs.Stores.{Store, stored, plainOf, isFormed}
 use Rattle.store.specs.declared.record.Record.{Record}
 use Rattle.store.specs.declared.refusal.Refusal.{Refusal}
 use Rattle.keys.specs.Keys.{rightKeys}

@@ -1,13 +1,13 @@
 -- The image of a literal: its variable and its sign, and that a row sends different literals to different literals. Assumes nothing.
-use mathlib.Core.Path.{_≡_, refl, sym, ap, _∙_}
+use mathlib.Core.Path.{_≡_, refl, sym, ap}
 use mathlib.Core.Bool.{Bool, true, false, cond}
 use mathlib.Core.List.{List, List·Memᴰ, Memᴰ·map, Memᴰ·of-map, Memᴰ·cast}
-use Prim.Native.Nat.{ℕ, _+_, _-_, _/_, _%_, _<_}
+use Prim.Native.Nat.{ℕ, _+_, _-_, _/_, _%_}
 use native.Mathlib.Omega.{arith}
 use borrow.Author.Tests.{eqb-true, eqb-false}
-use lib.ListN.{length, getD, length-map}
+use lib.ListN.{getD}
 use Rattle.lists.specs.Tests.{allOf}
-use Rattle.lists.proofs.Members.{all-at, map-at, all-has}
+use Rattle.lists.proofs.Members.{all-has}
 use Rattle.store.specs.Literals.{variableOf, isNegative, oppositeOf, isLiteral}
 use Rattle.store.proofs.FormLaws.{literal-low, literal-high, literal-within}
 use Rattle.store.proofs.Formed.{Row}

@@ -1,8 +1,7 @@
 -- `calls::open` meets its contract: the record is new where the text was opened. Assumes nothing.
-use mathlib.Core.Path.{_≡_, refl, sym, ap}
+use mathlib.Core.Path.{_≡_, sym, ap}
 use mathlib.Core.List.{[]}
 use Rattle.store.specs.Stores.{lent}
-use Rattle.store.specs.declared.record.Record.{Record}
 use Rattle.standing.specs.Keyed.{Keyed, withKeys}
 use Rattle.opening.specs.declared.Opened.{Opened}
 use Rattle.calls.specs.Calls.{countsOpened, saidOpened, openSays, openStore}

@@ -1,13 +1,12 @@
 -- `keys::are_right` meets its contract. The invariant: the answer is that for the clauses from clause c on, and no mark is above c. Assumes nothing.
-use mathlib.Core.Path.{_≡_, refl, sym, ap, _∙_}
+use mathlib.Core.Path.{_≡_, refl, sym, _∙_}
 use mathlib.Core.List.{List, []}
-use Prim.Native.Nat.{ℕ, _+_, _-_, _≤_, _<_}
+use Prim.Native.Nat.{ℕ, _+_, _-_, _<_}
 use lib.ListN.{length, getD, drop}
 use Rattle.store.specs.Stores.{clausesIn, maxVariables}
 use Rattle.store.proofs.Cuts.{clauses-count, clause-is}
 use Rattle.store.proofs.Within.{clause-good}
-use Rattle.numbers.specs.Numbers.{numbers}
-use Rattle.keys.specs.Keys.{keyBy, keyOf, rightKeys}
+use Rattle.keys.specs.Keys.{keyOf, rightKeys}
 use Rattle.keys.specs.Marks.{Below}
 use Rattle.keys.proofs.MarkLaws.{unmarked, own-places, own-key}
 use Rattle.keys.proofs.RightLaws.{right-short, right-here, wrong-here, right-end}

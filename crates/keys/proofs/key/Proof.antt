@@ -1,5 +1,5 @@
 -- `keys::key` meets its contract. The invariant: the sum is the key of what the literals from i on are sent to, and that is marked. Assumes nothing.
-use mathlib.Core.Path.{_≡_, refl, sym, ap, _∙_}
+use mathlib.Core.Path.{_≡_, sym, ap, _∙_}
 use mathlib.Core.Bool.{true}
 use mathlib.Core.List.{List}
 use Prim.Native.Nat.{ℕ, _+_, _-_, _≤_, _<_}
@@ -7,7 +7,6 @@ use lib.ListN.{length, getD, drop, length-map}
 use Rattle.lists.proofs.Members.{all-at, map-at}
 use Rattle.store.specs.Literals.{isLiteral}
 use Rattle.store.specs.Stores.{maxVariables}
-use Rattle.store.proofs.FormLaws.{literal-low}
 use Rattle.numbers.specs.Numbers.{numberCount}
 use Rattle.keys.specs.Keys.{keyBy}
 use Rattle.keys.specs.Marks.{Below, Marked, sentTo, sentClause}

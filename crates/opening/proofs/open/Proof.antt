@@ -10,7 +10,7 @@ use Rattle.opening.specs.declared.Problem.{Problem}
 use Rattle.opening.specs.declared.Scanned.{Scanned}
 use Rattle.opening.specs.declared.Opened.{Opened}
 use Rattle.opening.proofs.ProblemLaws.{line-limits}
-use Rattle.opening.proofs.OpeningLaws.{opened-refused, body-past, opened-past, opened-scan, short-literals, short-ends, short-keys, long-enough}
+use Rattle.opening.proofs.OpeningLaws.{opened-refused, body-past, opened-scan, short-literals, short-ends, short-keys, long-enough}
 use Rattle.opening.proofs.Theorem.{openedStore, opened-formula, opened-plain}
 use borrow.Author.Needs.{needs}
 use Rattle.opening.proofs.open.Statement.{statement}

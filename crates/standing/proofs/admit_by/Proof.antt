@@ -2,7 +2,6 @@
 use mathlib.Core.Path.{sym, _∙_}
 use borrow.Author.Tests.{not-true, not-false}
 use Rattle.standing.proofs.StandingLaws.{not-open, badly-formed, ready-of}
-use borrow.Author.Needs.{needs}
 use Rattle.standing.proofs.admit_by.Statement.{statement}
 use Rattle.standing.proofs.admit_by.Tie as tie
 

@@ -1,6 +1,6 @@
 -- `symmetry::is_image_at` meets its contract: clauses with different keys are different, and the others are compared in full. Assumes nothing.
 use mathlib.Core.Path.{_≡_, sym, ap, _∙_}
-use mathlib.Core.List.{List, []}
+use mathlib.Core.List.{List}
 use Prim.Native.Nat.{ℕ, _<_}
 use lib.ListN.{length, getD}
 use Rattle.store.specs.Stores.{clauseAt, clausesIn, maxVariables}

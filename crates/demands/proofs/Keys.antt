@@ -8,6 +8,7 @@ use Rattle.store.specs.Refusals.{done}
 use Rattle.store.specs.Stores.{plainOf}
 use Rattle.numbers.proofs.Theorem.{well-chosen}
 use Rattle.keys.specs.Keys.{keysOf}
+use Rattle.keys.proofs.Counts.{key-counts}
 use Rattle.keys.proofs.RightLaws.{right-long, right-at, right-all}
 use Rattle.standing.specs.Keyed.{Keyed}
 use Rattle.standing.proofs.StandingLaws.{ready-of, its-form, its-keys, well-formed}
@@ -43,6 +44,7 @@ module _ (s : Keyed) where
   the-keys = record {
     chosen = well-chosen;
     alike = λ a b same. same-keys a b (sameSet-iff a b .1 same);
+    counts = key-counts;
     opened = opened-keys;
     offered = λ names values. offered-keys names values (ending (offerSays s names values));
     withdrawn = withdrawn-keys (ending (withdrawSays s));

@@ -4,14 +4,16 @@ use mathlib.Core.Path.{_≡_}
 use mathlib.Core.Bool.{true, cond}
 use mathlib.Core.List.{List, []}
 use mathlib.Core.Logic.{_↔_}
-use Prim.Native.Nat.{ℕ, _≤_, _<_}
+use Prim.Native.Nat.{ℕ, _%_, _≤_, _<_}
 use lib.ListN.{length, getD}
 use lib.Dec.{eqb}
+use Rattle.lists.specs.Tests.{allOf}
 use Rattle.lists.specs.Writing.{overwritten}
 use Rattle.store.specs.Refusals.{done, refused}
-use Rattle.store.specs.Stores.{plainOf, isFormed, maxRows}
-use Rattle.numbers.specs.Numbers.{numbers, WellChosen}
-use Rattle.keys.specs.Keys.{keyOf, keysOf}
+use Rattle.store.specs.Literals.{isLiteral}
+use Rattle.store.specs.Stores.{plainOf, isFormed, maxVariables, maxRows}
+use Rattle.numbers.specs.Numbers.{numbers, countRange, WellChosen}
+use Rattle.keys.specs.Keys.{different, keyOf, keysOf}
 use Rattle.standing.specs.Keyed.{Keyed, wellFormed}
 use Rattle.opening.specs.Opening.{formulaOf}
 use Rattle.symmetry.specs.Sets.{SameSet}
@@ -29,6 +31,8 @@ module _ (s : Keyed) where
     pub chosen : WellChosen numbers
     -- "the wrapping sum of one fixed number for each different literal": clauses with the same literals have the same key, repeats and order notwithstanding
     pub alike : (a b : List ℕ) → SameSet a b → keyOf a ≡ keyOf b
+    -- by our choice of the numbers the last eleven bits of a key are the count of these literals, as docs/KEYS.md says
+    pub counts : (clause : List ℕ) → allOf (isLiteral maxVariables) clause ≡ true → keyOf clause % countRange ≡ length (different clause)
     -- opening writes one a clause, and "Entries past those in use stay"; no other call writes keys
     pub opened : (text : List ℕ) (sizes : Dimensions) → openSays s text ≡ done sizes → openStore s text .keys ≡ overwritten (keysOf (formulaOf text)) (s .keys)
     pub offered : (names values : List ℕ) → offerStore s names values .keys ≡ s .keys

@@ -2,11 +2,12 @@
 -- one are among the other's, they have the same. Assumes nothing.
 use mathlib.Core.Path.{_≡_, refl, sym, ap, _∙_}
 use mathlib.Core.Bool.{Bool, true, false, cond}
-use mathlib.Core.List.{List}
+use mathlib.Core.List.{List, [], _∷_, map}
 use mathlib.Core.Logic.{⊎-elim}
 use Prim.Native.Nat.{ℕ, zero, suc, _+_, _-_, _%_, _^_, _≤_, _<_}
 use native.Mathlib.Nat.{not-suc-le-zero}
 use native.Mathlib.Omega.{arith}
+use lib.ListN.{length}
 use Rattle.lists.specs.Tests.{allOf, has}
 use Rattle.lists.proofs.Cases.{never, eq-or-ne}
 use Rattle.lists.proofs.Members.{all-has}
@@ -15,12 +16,17 @@ use Rattle.numbers.proofs.Theorem.{well-chosen}
 use Rattle.store.specs.Literals.{isLiteral}
 use Rattle.store.specs.Stores.{maxVariables}
 use Rattle.store.proofs.FormLaws.{literal-low, literal-high}
-use Rattle.keys.specs.Keys.{numberIn, keyBy, keyOf}
+use Rattle.keys.specs.Keys.{different, total, numberIn, keyBy, keyOf}
 use Rattle.keys.proofs.Sums.{summed, by-members}
 
 -- how many numbers below k pass a test
 abbrev counted : (ℕ → Bool) → ℕ → ℕ
 counted p k = summed (λ x. 1) p k
+
+total-ones : (l : List ℕ) → total (map (λ x. 1) l) ≡ length l
+unfolding total
+total-ones [] = refl
+total-ones (x ∷ l) = omega (arith, total-ones l)
 
 -- a sum of numbers that count one each, and their count
 module _ (f : ℕ → ℕ) (p : ℕ → Bool) (ones : (x : ℕ) → p x ≡ true → f x % countRange ≡ 1) where
@@ -80,12 +86,16 @@ module _ (clause : List ℕ) (good : allOf (isLiteral maxVariables) clause ≡ t
       let g = all-has (isLiteral maxVariables) clause x good h in
       (omega (arith, literal-low maxVariables x g), omega (arith, literal-high maxVariables x g))
 
-  pub key-counts : keyOf clause % countRange ≡ counted (has clause) end
+  different-counted : length (different clause) ≡ counted (has clause) end
+  different-counted = sym (total-ones (different clause)) ∙ by-members (λ x. 1) clause end (λ x h. its-literal x h .1)
+
+  pub key-counts : keyOf clause % countRange ≡ length (different clause)
   unfolding keyBy
   key-counts =
       let ones : (x : ℕ) → has clause x ≡ true → numberIn numbers x % countRange ≡ 1 =
       λ x h. well-chosen .each-counts (x - 2) (omega (arith, its-literal x h)) in
       bits _ _ (by-members (numberIn numbers) clause end (λ x h. its-literal x h .1)) (last-bits (numberIn numbers) (has clause) ones end) (few (has clause) end)
+      ∙ sym different-counted
     where
       bits : (t s : ℕ) {c : ℕ} → t ≡ s → s % countRange ≡ c % countRange → c ≤ end → t % 2 ^ 64 % countRange ≡ c
       bits t s e g h = omega arith
@@ -94,4 +104,5 @@ module _ (clause : List ℕ) (good : allOf (isLiteral maxVariables) clause ≡ t
 pub whole : (a b : List ℕ) → allOf (isLiteral maxVariables) a ≡ true → allOf (isLiteral maxVariables) b ≡ true → keyOf a ≡ keyOf b
     → ((x : ℕ) → has a x ≡ true → has b x ≡ true) → (x : ℕ) → has b x ≡ true → has a x ≡ true
 whole a b ga gb e into x h =
-    no-more (has a) (has b) into end (sym (key-counts a ga) ∙ ap (λ (key : ℕ). key % countRange) e ∙ key-counts b gb) x (its-literal b gb x h .1) h
+    let as-many = sym (key-counts a ga) ∙ ap (λ (key : ℕ). key % countRange) e ∙ key-counts b gb in
+    no-more (has a) (has b) into end (sym (different-counted a ga) ∙ as-many ∙ different-counted b gb) x (its-literal b gb x h .1) h

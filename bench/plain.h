@@ -26,6 +26,8 @@ enum { PLAIN_SLOTS = 4 * SYMBREAK_MAX_CLAUSES };
 typedef struct {
     uint16_t heads[PLAIN_SLOTS], nexts[SYMBREAK_MAX_CLAUSES];
 } plain_index;
+
+/* A key's chain, of 2^14; its last bits are a count and the same for most clauses. */
 static inline size_t plain_slot(uint64_t key) { return key >> 50; }
 
 /* Makes the index of a store, which serves until the next opening, and tests the store on the way: refusals 20 and 21, or 0. */

@@ -1,7 +1,7 @@
 """The 1,024 numbers of the keys, made as docs/KEYS.md says: run by itself, this prints that page's table."""
 SEED = 0x243F6A8885A308D3  # the first 64 bits after the point of pi
 COUNT = 1024
-PLACES = 2048  # the last eleven bits of a number are 1, so that those of a key count literals
+COUNT_RANGE = 2048  # the last eleven bits of a number are 1, so that those of a key count literals
 
 
 def splitmix64(seed, count):
@@ -19,7 +19,7 @@ def splitmix64(seed, count):
 
 def made():
     """The numbers in rising order: those of 1, -1, 2, -2, .., 512, -512."""
-    return sorted(number // PLACES * PLACES + 1 for number in splitmix64(SEED, COUNT))
+    return sorted(number // COUNT_RANGE * COUNT_RANGE + 1 for number in splitmix64(SEED, COUNT))
 
 
 if __name__ == "__main__":

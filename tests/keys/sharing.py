@@ -18,12 +18,12 @@ PARTS = [LITERALS[at:at + 128] for at in range(0, 1024, 256)]
 
 def sums(part):
     """The sums of any three numbers of a part's literals, but for their last eleven bits."""
-    return list(map(sum, itertools.combinations([NUMBERS[literal] // literal_numbers.PLACES for literal in part], 3)))
+    return list(map(sum, itertools.combinations([NUMBERS[literal] // literal_numbers.COUNT_RANGE for literal in part], 3)))
 
 
 def summed(part, total):
     """Three literals of a part with this sum."""
-    return next([*three] for three in itertools.combinations(part, 3) if sum(NUMBERS[literal] // literal_numbers.PLACES for literal in three) == total)
+    return next([*three] for three in itertools.combinations(part, 3) if sum(NUMBERS[literal] // literal_numbers.COUNT_RANGE for literal in three) == total)
 
 
 def differences(minuends, subtrahends, rest):

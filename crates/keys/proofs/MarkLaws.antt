@@ -82,7 +82,7 @@ sent-literals table places (code ∷ clause) e =
     (sent-literals table places clause (and-r (isLiteral maxVariables code) (allOf (isLiteral maxVariables) clause) e))
 
 module _ (own : List ℕ) (places : OwnPlaces own) where
-  pub sent-own : (clause : List ℕ) → allOf (isLiteral maxVariables) clause ≡ true → sentClause own clause ≡ clause
+  sent-own : (clause : List ℕ) → allOf (isLiteral maxVariables) clause ≡ true → sentClause own clause ≡ clause
   unfolding allOf
   sent-own [] e = refl
   sent-own (code ∷ clause) e =

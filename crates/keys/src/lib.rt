@@ -57,7 +57,7 @@ pub fn are_right(
 }
 
 // Each literal sent to itself.
-pub fn own_places() -> [u16; numbers::COUNT]
+fn own_places() -> [u16; numbers::COUNT]
     ensures { λ r. ⌜ OwnPlaces r ⌝ }
 {
     let mut own = [0u16; numbers::COUNT];
@@ -120,7 +120,7 @@ fn key(
 }
 
 // A place that stands in a table.
-pub fn wide(place: u16) -> usize
+fn wide(place: u16) -> usize
     ensures { λ r. ⌜ r ≡ place ⌝ }
 {
     place as usize

@@ -7,10 +7,9 @@ use Rattle.lists.specs.Tables.{table}
 use Rattle.dimacs.specs.Words.{isBlank, run, wordsFrom}
 use Rattle.dimacs.specs.Numbers.{isDigit, decimalFrom, digitsOf, sizeOf, numeralOf}
 use Rattle.store.specs.Literals.{isLiteral}
-use Rattle.store.specs.Stores.{isImage}
 use Rattle.store.specs.declared.refusal.Refusal.{Refusal}
 use Rattle.store.specs.Numerals.{codeIn}
-use Rattle.permutation.specs.Lines.{notNumber, badNameAfter, badName, badValueAfter, namesOn, valuesOn}
+use Rattle.permutation.specs.Lines.{isName, notNumber, badNameAfter, badName, badValueAfter, namesOn, valuesOn}
 use Rattle.permutation.specs.Stated.{statedBy, imageAmong, rowStated}
 use Rattle.permutation.specs.declared.Stated.{Stated}
 
@@ -19,33 +18,43 @@ record Offer : Type 0 where
   names : List ℕ
   values : List ℕ
 
--- `1 3` with the values `3 1`, `3`, `3 3`, `3 3 x` and `-3`; the names `1 1`, `4`, `4 x` and two blanks with the value `1`
+-- `1 3` with the values `3 1`, `-3 1`, `3`, `3 3`, `3 -3`, `3 3 x` and `-2`; the names `1 1`, `-1`, `4`, `4 x` and two blanks with the value `1`
 answers :
     map (λ (o : Offer). statedBy 3 (o .names) (o .values))
     (record { names = 49 ∷ 32 ∷ 51 ∷ []; values = 51 ∷ 32 ∷ 49 ∷ [] }
+    ∷ record { names = 49 ∷ 32 ∷ 51 ∷ []; values = 45 ∷ 51 ∷ 32 ∷ 49 ∷ [] }
     ∷ record { names = 49 ∷ 32 ∷ 51 ∷ []; values = 51 ∷ [] }
     ∷ record { names = 49 ∷ 32 ∷ 51 ∷ []; values = 51 ∷ 32 ∷ 51 ∷ [] }
+    ∷ record { names = 49 ∷ 32 ∷ 51 ∷ []; values = 51 ∷ 32 ∷ 45 ∷ 51 ∷ [] }
     ∷ record { names = 49 ∷ 32 ∷ 51 ∷ []; values = 51 ∷ 32 ∷ 51 ∷ 32 ∷ 120 ∷ [] }
-    ∷ record { names = 49 ∷ 32 ∷ 51 ∷ []; values = 45 ∷ 51 ∷ [] }
+    ∷ record { names = 49 ∷ 32 ∷ 51 ∷ []; values = 45 ∷ 50 ∷ [] }
     ∷ record { names = 49 ∷ 32 ∷ 49 ∷ []; values = 49 ∷ [] }
+    ∷ record { names = 45 ∷ 49 ∷ []; values = 49 ∷ [] }
     ∷ record { names = 52 ∷ []; values = 49 ∷ [] }
     ∷ record { names = 52 ∷ 32 ∷ 120 ∷ []; values = 49 ∷ [] }
     ∷ record { names = 32 ∷ 32 ∷ []; values = 49 ∷ [] }
     ∷ [])
     ≡ Stated.Permutation
+    ∷ Stated.Permutation
     ∷ Stated.Refused (Refusal.BadValue 1)
+    ∷ Stated.Refused (Refusal.BadValue 2)
     ∷ Stated.Refused (Refusal.BadValue 2)
     ∷ Stated.Refused (Refusal.ValueNotNumber 4)
     ∷ Stated.Refused (Refusal.BadValue 0)
     ∷ Stated.Refused (Refusal.BadName 2)
     ∷ Stated.Refused (Refusal.BadName 0)
+    ∷ Stated.Refused (Refusal.BadName 0)
     ∷ Stated.Refused (Refusal.NameNotNumber 2)
     ∷ Stated.Refused (Refusal.BadName 2)
     ∷ []
-unfolding statedBy notNumber badName badNameAfter badValueAfter namesOn codeIn isImage isLiteral anyOf allOf isDigit decimalFrom digitsOf sizeOf numeralOf isBlank run wordsFrom
+unfolding statedBy notNumber badName badNameAfter badValueAfter namesOn codeIn isName isLiteral anyOf allOf isDigit decimalFrom digitsOf sizeOf numeralOf isBlank run wordsFrom
 answers = refl
 
--- the row that `1 3` with `3 1` states
+-- the rows that `1 3` states with `3 1` and with `-3 1`
 row : rowStated 3 (49 ∷ 32 ∷ 51 ∷ []) (51 ∷ 32 ∷ 49 ∷ []) ≡ 6 ∷ 4 ∷ 2 ∷ []
 unfolding rowStated imageAmong table namesOn valuesOn codeIn allOf isDigit decimalFrom digitsOf sizeOf numeralOf isBlank run wordsFrom
 row = refl
+
+signed : rowStated 3 (49 ∷ 32 ∷ 51 ∷ []) (45 ∷ 51 ∷ 32 ∷ 49 ∷ []) ≡ 7 ∷ 4 ∷ 2 ∷ []
+unfolding rowStated imageAmong table namesOn valuesOn codeIn allOf isDigit decimalFrom digitsOf sizeOf numeralOf isBlank run wordsFrom
+signed = refl

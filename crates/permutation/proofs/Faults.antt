@@ -10,16 +10,15 @@ use Rattle.lists.specs.Tests.{anyOf, has}
 use Rattle.lists.proofs.Cases.{never, and-l, not-so}
 use Rattle.dimacs.specs.Words.{Piece, wordsAt}
 use Rattle.dimacs.specs.declared.Number.{Number}
-use Rattle.store.specs.Literals.{variableOf}
-use Rattle.store.specs.Stores.{isImage}
+use Rattle.store.specs.Literals.{variableOf, isLiteral}
 use Rattle.store.specs.Numerals.{codeIn}
-use Rattle.permutation.specs.Lines.{notNumber, badNameAfter, badName, badValueAfter}
+use Rattle.permutation.specs.Lines.{isName, notNumber, badNameAfter, badName, badValueAfter}
 use Rattle.permutation.specs.Names.{Named}
 use Rattle.permutation.specs.declared.Fault.{Fault}
 use Rattle.permutation.proofs.Walks.{Word, Stray}
 use Rattle.permutation.proofs.Marks.{isFree}
-use Rattle.permutation.proofs.NameLaws.{nameIn, IsName, image-sign, name-some}
-use Rattle.permutation.proofs.InOrder.{isValue, value-image}
+use Rattle.permutation.proofs.NameLaws.{sizeIn, Passes, size-some}
+use Rattle.permutation.proofs.InOrder.{isValue, value-literal}
 
 -- ---- 7 and 9
 
@@ -52,17 +51,17 @@ module _ (n : ℕ) (seen : List ℕ) where
   name-end e = rw e
 
   module _ {words : List Piece} {w : Piece} {rest : List Piece} (e : words ≡ w ∷ rest) where
-    pub name-outside : isImage n (codeIn w) ≡ false → badNameAfter n seen words ≡ Fault.At (w .place)
+    pub name-outside : isName n (codeIn w) ≡ false → badNameAfter n seen words ≡ Fault.At (w .place)
     unfolding badNameAfter
     name-outside i = rw (e, i)
 
-    pub name-twice : (name : ℕ) → IsName n (codeIn w) name → has seen name ≡ true → badNameAfter n seen words ≡ Fault.At (w .place)
+    pub name-twice : (name : ℕ) → Passes (isName n) (codeIn w) name → has seen name ≡ true → badNameAfter n seen words ≡ Fault.At (w .place)
     unfolding badNameAfter
-    name-twice name i h = rw (e, i .is, h, and-false (isImage n (codeIn w)))
+    name-twice name i h = rw (e, i .is, h, and-false (isName n (codeIn w)))
 
-    pub name-on : (name : ℕ) → IsName n (codeIn w) name → has seen name ≡ false → badNameAfter n seen words ≡ badNameAfter n (name ∷ seen) rest
+    pub name-on : (name : ℕ) → Passes (isName n) (codeIn w) name → has seen name ≡ false → badNameAfter n seen words ≡ badNameAfter n (name ∷ seen) rest
     unfolding badNameAfter
-    name-on name i h = rw (e, i .is, h, i .image)
+    name-on name i h = rw (e, i .is, h, i .passes)
 
 -- which names are before matters, and not their order
 pub name-same : (n : ℕ) (seen more : List ℕ) → ((v : ℕ) → has seen v ≡ has more v) → (words : List Piece)
@@ -117,18 +116,16 @@ module _ (names : List ℕ) (end : ℕ) (used : List ℕ) where
   value-end e h = rw (e, le-ltb (length used) (length names) h)
 
   module _ {words : List Piece} {w : Piece} {rest : List Piece} (e : words ≡ w ∷ rest)
-      (n name : ℕ) (is : name ≡ nameIn n (codeIn w)) (named : Named n names) where
-    pub value-stop : isFree names used name ≡ false → badValueAfter names end used words ≡ Fault.At (w .place)
+      (n size : ℕ) (is : size ≡ sizeIn (isLiteral n) (codeIn w)) (named : Named n names) where
+    pub value-stop : isFree names used size ≡ false → badValueAfter names end used words ≡ Fault.At (w .place)
     unfolding badValueAfter
-    value-stop f = rw (e, not-free (isImage n (codeIn w)) refl is)
+    value-stop f = rw (e, not-free (isLiteral n (codeIn w)) refl is)
       where
-        not-free : (t : Bool) → isImage n (codeIn w) ≡ t → name ≡ cond t (variableOf (codeIn w)) 0
+        not-free : (t : Bool) → isLiteral n (codeIn w) ≡ t → size ≡ cond t (variableOf (codeIn w)) 0
             → (isValue names (codeIn w) && not (has used (variableOf (codeIn w)))) ≡ false
-        not-free true i q = rw (image-sign n (codeIn w) i, ← q) f
-        not-free false i q = rw (not-so (isValue names (codeIn w)) (λ t. never (sym i ∙ value-image n names (codeIn w) named t)))
+        not-free true i q = rw (← q) f
+        not-free false i q = rw (not-so (isValue names (codeIn w)) (λ t. never (sym i ∙ value-literal n names (codeIn w) named t)))
 
-    pub value-on : isFree names used name ≡ true → badValueAfter names end used words ≡ badValueAfter names end (name ∷ used) rest
+    pub value-on : isFree names used size ≡ true → badValueAfter names end used words ≡ badValueAfter names end (size ∷ used) rest
     unfolding badValueAfter
-    value-on f =
-        let i = name-some n (codeIn w) name is (free-some named used name f) in
-        rw (e, i .is, image-sign n (codeIn w) (i .image), f)
+    value-on f = let p = size-some n (isLiteral n) (λ code l. l) (codeIn w) size is (free-some named used size f) in rw (e, p .is, f)

@@ -14,18 +14,17 @@ use Rattle.lists.proofs.Members.{place, placed, all-at, all-has, has-head, has-
 use Rattle.lists.proofs.TableLaws.{length-table, getD-table}
 use Rattle.dimacs.specs.Words.{Piece, wordsAt}
 use Rattle.dimacs.specs.Numbers.{Numeral, numeralOf}
-use Rattle.store.specs.Literals.{variableOf, isNegative}
-use Rattle.store.specs.Stores.{isImage}
+use Rattle.store.specs.Literals.{variableOf, isLiteral}
 use Rattle.store.specs.declared.refusal.Refusal.{Refusal}
-use Rattle.store.proofs.FormLaws.{variables, variable-at, literal-low, literal-high, image-literal}
+use Rattle.store.proofs.FormLaws.{variables, variable-at, literal-zero, literal-low, literal-high, literal-within}
 use Rattle.store.specs.Numerals.{isNumeral, numeralCode, codeIn}
-use Rattle.permutation.specs.Lines.{notNumber, badNameAfter, badName, badValueAfter, namesOn, valuesOn}
+use Rattle.permutation.specs.Lines.{isName, notNumber, badNameAfter, badName, badValueAfter, namesOn, valuesOn}
 use Rattle.permutation.specs.Stated.{orElse, statedBy}
 use Rattle.permutation.specs.declared.Fault.{Fault}
 use Rattle.permutation.specs.declared.Stated.{Stated}
 use Rattle.permutation.specs.Names.{Named}
 use Rattle.permutation.proofs.Lists.{rest-differ, no-longer}
-use Rattle.permutation.proofs.NameLaws.{is-image, no-image}
+use Rattle.permutation.proofs.NameLaws.{name-literal}
 
 -- ---- codes that pass a test, with variables that are new
 
@@ -58,12 +57,12 @@ clear : (t : Bool) (next : Fault) (place : ℕ) → cond t next (Fault.At place)
 clear true next place e = (refl, e)
 clear false next place e = let z : _≡_ {A = ℕ} 0 1 = cc in absurd (omega arith)
 
-names-sifted : (n : ℕ) (seen : List ℕ) (words : List Piece) → badNameAfter n seen words ≡ Fault.Nowhere → Sifted (isImage n) seen (map codeIn words)
+names-sifted : (n : ℕ) (seen : List ℕ) (words : List Piece) → badNameAfter n seen words ≡ Fault.Nowhere → Sifted (isName n) seen (map codeIn words)
 unfolding badNameAfter
-names-sifted n seen [] e = sifted-none (isImage n) seen
+names-sifted n seen [] e = sifted-none (isName n) seen
 names-sifted n seen (w ∷ words) e =
     let p = clear _ _ (w .place) e in
-    sifted-more (isImage n) seen (codeIn w) (map codeIn words) (p .0) (names-sifted n _ words (p .1))
+    sifted-more (isName n) seen (codeIn w) (map codeIn words) (p .0) (names-sifted n _ words (p .1))
 
 -- ---- the names
 
@@ -101,10 +100,10 @@ variable-in pass codes v e h =
     let k : ℕ = p .0 in
     (getD codes k 0, all-at pass codes 0 e k (rw (length-map codes variableOf) at (p .1)), sym (variable-at codes k) ∙ p .2)
 
-names-of : (n : ℕ) (codes : List ℕ) → Sifted (isImage n) [] codes → Named n (variables codes)
+names-of : (n : ℕ) (codes : List ℕ) → Sifted (isName n) [] codes → Named n (variables codes)
 names-of n codes s = record {
-  low = λ v h. let c = variable-in (isImage n) codes v (s .passes) h in omega (arith, literal-low n (c .0) (image-literal n (c .0) (c .1)), c .2);
-  high = λ v h. let c = variable-in (isImage n) codes v (s .passes) h in omega (arith, literal-high n (c .0) (image-literal n (c .0) (c .1)), c .2);
+  low = λ v h. let c = variable-in (isName n) codes v (s .passes) h in omega (arith, literal-low n (c .0) (name-literal n (c .0) (c .1)), c .2);
+  high = λ v h. let c = variable-in (isName n) codes v (s .passes) h in omega (arith, literal-high n (c .0) (name-literal n (c .0) (c .1)), c .2);
   differ = s .differ;
 }
 
@@ -120,18 +119,12 @@ named-on n end line e =
 
 -- ---- the values
 
--- a name itself, as a code
+-- the size is a name
 abbrev pub isValue : List ℕ → ℕ → Bool
-isValue names code = not (isNegative code) && has names (variableOf code)
+isValue names code = has names (variableOf code)
 
-value-among : (names : List ℕ) (code : ℕ) → isValue names code ≡ true → has names (variableOf code) ≡ true
-value-among names code e = and-r (not (isNegative code)) (has names (variableOf code)) e
-
-pub value-image : (n : ℕ) (names : List ℕ) (code : ℕ) → Named n names → isValue names code ≡ true → isImage n code ≡ true
-value-image n names code named e =
-    let sign : isNegative code ≡ false = not-true (isNegative code) (and-l (not (isNegative code)) (has names (variableOf code)) e) in
-    let name = value-among names code e in
-    is-image n code (named .low _ name) (named .high _ name) (omega (arith, eqb-false (code % 2) 1 sign))
+pub value-literal : (n : ℕ) (names : List ℕ) (code : ℕ) → Named n names → isValue names code ≡ true → isLiteral n code ≡ true
+value-literal n names code named e = literal-within n code (named .low _ e) (named .high _ e)
 
 values-sifted : (names : List ℕ) (end : ℕ) (used : List ℕ) (words : List Piece) → badValueAfter names end used words ≡ Fault.Nowhere
     → Sifted (isValue names) used (map codeIn words) × (length names ≤ length used + length words)
@@ -148,37 +141,37 @@ values-sifted names end used (w ∷ words) e =
 
 -- ---- a line without a fault of 8 or 10 has none of 7 or 9
 
--- a word whose code is an image is a number
-image-number : (n : ℕ) (w : Piece) → isImage n (codeIn w) ≡ true → isNumeral (numeralOf (w .bytes)) ≡ true
+-- a word whose code is a literal is a number
+literal-number : (n : ℕ) (w : Piece) → isLiteral n (codeIn w) ≡ true → isNumeral (numeralOf (w .bytes)) ≡ true
 unfolding codeIn
-image-number n w e = by (numeralOf (w .bytes)) e
+literal-number n w e = by (numeralOf (w .bytes)) e
   where
-    by : (m : Numeral) → isImage n (numeralCode m) ≡ true → isNumeral m ≡ true
+    by : (m : Numeral) → isLiteral n (numeralCode m) ≡ true → isNumeral m ≡ true
     by (Numeral.Is x) i = refl
-    by Numeral.Not i = never (sym (no-image n 0 refl) ∙ i)
+    by Numeral.Not i = never (sym (literal-zero n 0 refl) ∙ i)
 
-all-numbers : (n : ℕ) (pass : ℕ → Bool) → ((code : ℕ) → pass code ≡ true → isImage n code ≡ true) → (words : List Piece)
+all-numbers : (n : ℕ) (pass : ℕ → Bool) → ((code : ℕ) → pass code ≡ true → isLiteral n code ≡ true) → (words : List Piece)
     → allOf pass (map codeIn words) ≡ true → notNumber words ≡ Fault.Nowhere
 unfolding notNumber allOf
 all-numbers n pass only [] e = refl
 all-numbers n pass only (w ∷ words) e =
-    rw (image-number n w (only (codeIn w) (and-l (pass (codeIn w)) (allOf pass (map codeIn words)) e)))
+    rw (literal-number n w (only (codeIn w) (and-l (pass (codeIn w)) (allOf pass (map codeIn words)) e)))
     (all-numbers n pass only words (and-r (pass (codeIn w)) (allOf pass (map codeIn words)) e))
 
 pub names-numbers : (n end : ℕ) (words : List Piece) → badName n end words ≡ Fault.Nowhere → notNumber words ≡ Fault.Nowhere
-names-numbers n end words e = all-numbers n (isImage n) (λ code i. i) words (names-sifted n [] words (name-after n end words e) .passes)
+names-numbers n end words e = all-numbers n (isName n) (name-literal n) words (names-sifted n [] words (name-after n end words e) .passes)
 
 pub values-numbers : (n : ℕ) (names : List ℕ) (end : ℕ) (words : List Piece) → Named n names
     → badValueAfter names end [] words ≡ Fault.Nowhere → notNumber words ≡ Fault.Nowhere
 values-numbers n names end words named e =
-    all-numbers n (isValue names) (λ code. value-image n names code named) words (values-sifted names end [] words e .0 .passes)
+    all-numbers n (isValue names) (λ code. value-literal n names code named) words (values-sifted names end [] words e .0 .passes)
 
 -- ---- both lines
 
 pub record InOrder (n : ℕ) (names values : List ℕ) : Type 0 where
   pub named : Named n (namesOn names)
   pub among : (code : ℕ) → has (valuesOn values) code ≡ true → has (namesOn names) (variableOf code) ≡ true
-  pub image : (code : ℕ) → has (valuesOn values) code ≡ true → isImage n code ≡ true
+  pub literal : (code : ℕ) → has (valuesOn values) code ≡ true → isLiteral n code ≡ true
   pub differ : distinct (variables (valuesOn values)) ≡ true
   pub as-many : length (valuesOn values) ≡ length (namesOn names)
 
@@ -201,12 +194,12 @@ in-order n names values e =
     let value : (code : ℕ) → has (map codeIn words) code ≡ true → isValue (namesOn names) code ≡ true =
     λ code h. all-has (isValue (namesOn names)) (map codeIn words) code (s .0 .passes) h in
     let name : (v : ℕ) → has (variables (map codeIn words)) v ≡ true → has (namesOn names) v ≡ true =
-    λ v h. let c = variable-in (isValue (namesOn names)) (map codeIn words) v (s .0 .passes) h in rw (← (c .2)) (value-among (namesOn names) (c .0) (c .1)) in
+    λ v h. let c = variable-in (isValue (namesOn names)) (map codeIn words) v (s .0 .passes) h in rw (← (c .2)) (c .1) in
     let most = no-longer (variables (map codeIn words)) (namesOn names) (s .0 .differ) name in
     record {
       named = named;
-      among = λ code h. value-among (namesOn names) code (value code h);
-      image = λ code h. value-image n (namesOn names) code named (value code h);
+      among = value;
+      literal = λ code h. value-literal n (namesOn names) code named (value code h);
       differ = s .0 .differ;
       as-many = omega (arith, s .1, most, length-map (map codeIn words) variableOf, length-map words codeIn);
     }

@@ -15,14 +15,13 @@ use Rattle.lists.proofs.Distinct.{has-more, distinct-more}
 use Rattle.dimacs.specs.Words.{Piece, wordsAt}
 use Rattle.dimacs.specs.declared.Number.{Number}
 use Rattle.dimacs.proofs.WordLaws.{pieceAt}
-use Rattle.store.specs.Stores.{isImage}
 use Rattle.store.specs.Numerals.{codeIn}
-use Rattle.permutation.specs.Lines.{badName, namesOn}
+use Rattle.permutation.specs.Lines.{isName, badName, namesOn}
 use Rattle.permutation.specs.Names.{Named, Marks, Listed}
 use Rattle.permutation.specs.declared.Fault.{Fault}
 use Rattle.permutation.proofs.Walks.{Word, namesFrom}
 use Rattle.permutation.proofs.Marks.{seen-none, seen-more}
-use Rattle.permutation.proofs.NameLaws.{IsName, name-range}
+use Rattle.permutation.proofs.NameLaws.{Passes, name-literal, size-range}
 use Rattle.permutation.proofs.InOrder.{named-few, named-more}
 use Rattle.permutation.proofs.Faults.{name-end, name-outside, name-twice, name-on, name-same, badNameFrom, from-start, from-none, from-some, from-word}
 
@@ -66,28 +65,28 @@ module _ {n : ℕ} {line : List ℕ} {marks : List Bool} {order : List ℕ} {cou
       }
 
   module _ {w : Piece} {rest : List Piece} (e : wordsAt line at ≡ w ∷ rest) where
-    pub listing-outside : isImage n (codeIn w) ≡ false → badName n (length line) (wordsAt line 0) ≡ Fault.At (w .place)
+    pub listing-outside : isName n (codeIn w) ≡ false → badName n (length line) (wordsAt line 0) ≡ Fault.At (w .place)
     listing-outside i = l .fault ∙ from-word n (length line) (take count order) e ∙ name-outside n (take count order) e i
 
-    pub listing-twice : (name : ℕ) → IsName n (codeIn w) name → getD marks name false ≡ true
+    pub listing-twice : (name : ℕ) → Passes (isName n) (codeIn w) name → getD marks name false ≡ true
         → badName n (length line) (wordsAt line 0) ≡ Fault.At (w .place)
     listing-twice name i h =
         l .fault ∙ from-word n (length line) (take count order) e ∙ name-twice n (take count order) e name i (sym (l .marked .is name) ∙ h)
 
-  module _ {code name : ℕ} (i : IsName n code name) (new : getD marks name false ≡ false) where
+  module _ {code name : ℕ} (i : Passes (isName n) code name) (new : getD marks name false ≡ false) where
     unseen : has (take count order) name ≡ false
     unseen = sym (l .marked .is name) ∙ new
 
     pub listing-room : count < n
     listing-room =
-        let range = name-range i in
+        let range = size-range n (isName n) (name-literal n) i in
         omega (arith, named-few (named-more (l .named) (range .0) (range .1) unseen), size)
 
-  pub listing-more : {place next : ℕ} {x : Number} → Word line at place x next → (name : ℕ) → IsName n (codeIn (pieceAt line place)) name
+  pub listing-more : {place next : ℕ} {x : Number} → Word line at place x next → (name : ℕ) → Passes (isName n) (codeIn (pieceAt line place)) name
       → getD marks name false ≡ false → name < 513 → Listing n line (set marks name true) (set order count name) (count + 1) next
   unfolding anyOf
   listing-more {place} {next} w name i new small =
-      let range = name-range i in
+      let range = size-range n (isName n) (name-literal n) i in
       record {
         fault = l .fault
             ∙ from-word n (length line) (take count order) (w .words)

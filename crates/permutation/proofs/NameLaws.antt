@@ -1,85 +1,100 @@
--- The variable of 1..n that a number names, or 0: what `name_of` answers. Assumes nothing.
+-- The size of a number where its code passes a test, or 0: what `name_of` answers of names, and `size_of` of literals. Assumes nothing.
 use mathlib.Core.Path.{_≡_, refl, sym, _∙_}
-use mathlib.Core.Bool.{Bool, true, false, cond, not}
+use mathlib.Core.Bool.{Bool, true, false, cond, not, and-false, and-true}
 use mathlib.Core.List.{List}
 use mathlib.Core.Logic.{_⊎_, inl, inr, ⊎-elim}
 use Prim.Native.Nat.{ℕ, _%_, _≤_, _<_}
 use native.Mathlib.Omega.{arith}
 use native.Mathlib.Decide.{ℕ-discrete}
-use borrow.Author.Tests.{eq-eqb, ne-eqb, not-true, le-leb}
-use Rattle.lists.proofs.Cases.{and-r, not-so}
+use borrow.Author.Tests.{eq-eqb, ne-eqb, not-true}
+use Rattle.lists.proofs.Cases.{and-l, and-r, not-so}
 use Rattle.dimacs.specs.declared.Number.{Number}
 use Rattle.dimacs.proofs.WordLaws.{pieceAt}
 use Rattle.store.specs.Literals.{codeOf, variableOf, isNegative, isLiteral}
-use Rattle.store.specs.Stores.{isImage}
-use Rattle.store.proofs.FormLaws.{literal-zero, literal-low, literal-high, image-negative, image-positive, image-literal}
+use Rattle.store.proofs.FormLaws.{literal-zero, literal-low, literal-high, literal-within}
 use Rattle.store.specs.Numerals.{codeIn}
-use Rattle.permutation.proofs.Walks.{Word}
+use Rattle.permutation.specs.Lines.{isName}
+use Rattle.permutation.proofs.Walks.{half, Word}
 
--- ---- codes that are images
+-- ---- names
 
-pub image-sign : (n code : ℕ) → isImage n code ≡ true → isNegative code ≡ false
-unfolding isImage
-image-sign n code e = not-true (isNegative code) (and-r (isLiteral n code) (not (isNegative code)) e)
+module _ (n code : ℕ) where
+  pub name-literal : isName n code ≡ true → isLiteral n code ≡ true
+  unfolding isName
+  name-literal e = and-l (isLiteral n code) (not (isNegative code)) e
 
-pub is-image : (n code : ℕ) → 1 ≤ variableOf code → variableOf code ≤ n → code % 2 ≡ 0 → isImage n code ≡ true
-unfolding isImage isLiteral
-is-image n code low high even = rw (le-leb 1 (variableOf code) low, le-leb (variableOf code) n high, ne-eqb (code % 2) 1 (λ e. omega arith))
+  pub name-sign : isName n code ≡ true → isNegative code ≡ false
+  unfolding isName
+  name-sign e = not-true (isNegative code) (and-r (isLiteral n code) (not (isNegative code)) e)
 
-pub no-image : (n code : ℕ) → code ≡ 0 → isImage n code ≡ false
-no-image n code e = image-positive n code (ne-eqb (code % 2) 1 (λ o. omega arith)) ∙ literal-zero n code (omega arith)
+  pub is-name : isLiteral n code ≡ true → isNegative code ≡ false → isName n code ≡ true
+  unfolding isName
+  is-name literal sign = rw (literal, sign)
 
--- ---- the ways out of `name_of`
+  pub no-name : code ≡ 0 → isName n code ≡ false
+  no-name e = not-so (isName n code) (λ i. omega (arith, literal-low n code (name-literal i)))
+
+-- ---- the ways out of `name_of` and `size_of`
 
 module _ (n s : ℕ) where
-  pub name-negative : 0 ≡ cond (isImage n (codeOf s true)) s 0
-  name-negative = rw (image-negative n (codeOf s true) (eq-eqb (codeOf s true % 2) 1 (omega arith)))
+  pub name-negative : 0 ≡ cond (isName n (codeOf s true)) s 0
+  unfolding isName
+  name-negative = rw (eq-eqb (codeOf s true % 2) 1 (omega arith), and-false (isLiteral n (codeOf s true)))
 
-  pub name-beyond : n < s → 0 ≡ cond (isImage n (codeOf s false)) s 0
-  name-beyond h = rw (not-so (isImage n (codeOf s false)) (λ i. omega (arith, literal-high n (codeOf s false) (image-literal n (codeOf s false) i))))
+  pub name-positive : isName n (codeOf s false) ≡ isLiteral n (codeOf s false)
+  unfolding isName
+  name-positive = rw (ne-eqb (codeOf s false % 2) 1 (λ e. omega arith)) (and-true (isLiteral n (codeOf s false)))
 
-  pub name-within : s ≤ n → s ≡ cond (isImage n (codeOf s false)) s 0
-  name-within h = by (ℕ-discrete s 0)
-    where
-      by : Dec (s ≡ 0) → s ≡ cond (isImage n (codeOf s false)) s 0
-      by (yes e) = rw (no-image n (codeOf s false) (omega arith)) e
-      by (no z) = rw (is-image n (codeOf s false) (omega arith) (omega arith) (omega arith))
+  module _ (negative : Bool) where
+    pub size-beyond : n < s → 0 ≡ cond (isLiteral n (codeOf s negative)) s 0
+    size-beyond h = rw (not-so (isLiteral n (codeOf s negative)) (λ l. omega (arith, literal-high n (codeOf s negative) l, half s negative)))
 
--- ---- what it answers for a code
+    pub size-within : s ≤ n → s ≡ cond (isLiteral n (codeOf s negative)) s 0
+    size-within h = by (ℕ-discrete s 0)
+      where
+        by : Dec (s ≡ 0) → s ≡ cond (isLiteral n (codeOf s negative)) s 0
+        by (yes e) = rw (literal-zero n (codeOf s negative) (half s negative ∙ e)) e
+        by (no z) = rw (literal-within n (codeOf s negative) (omega (arith, half s negative)) (omega (arith, half s negative)))
 
-abbrev pub nameIn : ℕ → ℕ → ℕ
-nameIn n code = cond (isImage n code) (variableOf code) 0
+-- ---- what they answer for a code
 
-pub no-name : (n code : ℕ) → code ≡ 0 → 0 ≡ nameIn n code
-no-name n code e = rw (no-image n code e)
+module _ (test : ℕ → Bool) where
+  abbrev pub sizeIn : ℕ → ℕ
+  sizeIn code = cond (test code) (variableOf code) 0
 
-pub record IsName (n code name : ℕ) : Type 0 where
-  pub image : isImage n code ≡ true
-  pub is : variableOf code ≡ name
+  -- the code passes, and this is its size
+  pub record Passes (code size : ℕ) : Type 0 where
+    pub passes : test code ≡ true
+    pub is : variableOf code ≡ size
 
-pub name-range : {n code name : ℕ} → IsName n code name → (1 ≤ name) × (name ≤ n)
-name-range {n} {code} i =
-    let literal = image-literal n code (i .image) in
-    (omega (arith, i .is, literal-low n code literal), omega (arith, i .is, literal-high n code literal))
+  pub no-size : (code : ℕ) → test code ≡ false → 0 ≡ sizeIn code
+  no-size code e = rw e
 
-module _ (n code name : ℕ) (e : name ≡ nameIn n code) where
-  name-or : IsName n code name ⊎ ((isImage n code ≡ false) × (name ≡ 0))
-  name-or = by (isImage n code) refl e
-    where
-      by : (t : Bool) → isImage n code ≡ t → name ≡ cond t (variableOf code) 0 → IsName n code name ⊎ ((isImage n code ≡ false) × (name ≡ 0))
-      by true i q = inl (record { image = i; is = sym q })
-      by false i q = inr (i, q)
+  -- of a word that is a number
+  pub size-read : {line : List ℕ} {at place next : ℕ} {x : Number} (size : ℕ) → Word line at place x next
+      → size ≡ cond (test (codeOf (x .size) (x .negative))) (x .size) 0 → size ≡ sizeIn (codeIn (pieceAt line place))
+  size-read size w e = rw (w .size, w .code) e
 
-  pub name-high : name ≤ n
-  name-high = ⊎-elim (λ i. name-range i .1) (λ o. omega arith) name-or
+-- of a test that only literals of 1..n pass
+module _ (n : ℕ) (test : ℕ → Bool) (only : (code : ℕ) → test code ≡ true → isLiteral n code ≡ true) where
+  pub size-range : {code size : ℕ} → Passes test code size → (1 ≤ size) × (size ≤ n)
+  size-range {code} p =
+      let literal = only code (p .passes) in
+      (omega (arith, p .is, literal-low n code literal), omega (arith, p .is, literal-high n code literal))
 
-  pub name-none : name ≡ 0 → isImage n code ≡ false
-  name-none z = ⊎-elim (λ i. absurd (omega (arith, name-range i))) (λ o. o .0) name-or
+  module _ (code size : ℕ) (e : size ≡ sizeIn test code) where
+    size-or : Passes test code size ⊎ ((test code ≡ false) × (size ≡ 0))
+    size-or = by (test code) refl e
+      where
+        by : (t : Bool) → test code ≡ t → size ≡ cond t (variableOf code) 0 → Passes test code size ⊎ ((test code ≡ false) × (size ≡ 0))
+        by true i q = inl (record { passes = i; is = sym q })
+        by false i q = inr (i, q)
 
-  pub name-some : (name ≡ 0 → ⊥) → IsName n code name
-  name-some z = ⊎-elim (λ i. i) (λ o. absurd (z (o .1))) name-or
+    pub size-high : size ≤ n
+    size-high = ⊎-elim (λ p. size-range p .1) (λ o. omega arith) size-or
 
--- and for a word that is a number
-pub named : {line : List ℕ} {at place next : ℕ} {x : Number} (n name : ℕ) → Word line at place x next
-    → name ≡ cond (isImage n (codeOf (x .size) (x .negative))) (x .size) 0 → name ≡ nameIn n (codeIn (pieceAt line place))
-named n name w e = rw (w .size, w .code) e
+    pub size-none : size ≡ 0 → test code ≡ false
+    size-none z = ⊎-elim (λ p. absurd (omega (arith, size-range p))) (λ o. o .0) size-or
+
+    pub size-some : (size ≡ 0 → ⊥) → Passes test code size
+    size-some z = ⊎-elim (λ p. p) (λ o. absurd (z (o .1))) size-or

@@ -11,14 +11,13 @@ use Rattle.lists.specs.Tests.{has}
 use Rattle.lists.proofs.Cases.{never}
 use Rattle.lists.proofs.Members.{place, placed, all-in}
 use Rattle.lists.proofs.Distinct.{distinct-inj}
-use Rattle.store.specs.Literals.{variableOf}
-use Rattle.store.specs.Stores.{isImage, isRow}
-use Rattle.store.proofs.FormLaws.{variables, variable-at}
+use Rattle.store.specs.Literals.{variableOf, isLiteral}
+use Rattle.store.specs.Stores.{isRow}
+use Rattle.store.proofs.FormLaws.{variables, variable-at, literal-within}
 use Rattle.permutation.specs.Lines.{namesOn, valuesOn}
 use Rattle.permutation.specs.Stated.{statedBy, imageAmong, rowStated}
 use Rattle.permutation.specs.declared.Stated.{Stated}
 use Rattle.permutation.proofs.Lists.{all-differ}
-use Rattle.permutation.proofs.NameLaws.{is-image}
 use Rattle.permutation.proofs.InOrder.{InOrder, in-order}
 use Rattle.permutation.proofs.RowLaws.{among-elsewhere, among-at, row-length, row-at}
 
@@ -66,10 +65,10 @@ module _ (n : ℕ) (names values : List ℕ) (o : InOrder n names values) where
   stated-at : (k : ℕ) → k < length stated → has stated (getD stated k 0) ≡ true
   stated-at k h = placed stated (getD stated k 0) k h refl
 
-  image-is : (v : ℕ) → 1 ≤ v → v ≤ n → isImage n (imageAmong named stated v) ≡ true
-  image-is v low high =
-      ⊎-elim (λ a. rw (a .value) (o .image _ (stated-at (a .k) (a .within))))
-      (λ s. rw (s .same) (is-image n (2 * v) (omega arith) (omega arith) (omega arith)))
+  image-literal : (v : ℕ) → 1 ≤ v → v ≤ n → isLiteral n (imageAmong named stated v) ≡ true
+  image-literal v low high =
+      ⊎-elim (λ a. rw (a .value) (o .literal _ (stated-at (a .k) (a .within))))
+      (λ s. rw (s .same) (literal-within n (2 * v) (omega arith) (omega arith)))
       (image-of v)
 
   -- no value is a variable that stays
@@ -97,13 +96,13 @@ module _ (n : ℕ) (names values : List ℕ) (o : InOrder n names values) where
   row-is =
       let row : List ℕ = rowStated n names values in
       let size : length row ≡ n = row-length n names values in
-      let images : (i : ℕ) → i < length row → isImage n (getD row i 0) ≡ true =
-      λ i h. rw (row-at n names values i (omega arith)) (image-is (suc i) (omega arith) (omega arith)) in
+      let images : (i : ℕ) → i < length row → isLiteral n (getD row i 0) ≡ true =
+      λ i h. rw (row-at n names values i (omega arith)) (image-literal (suc i) (omega arith) (omega arith)) in
       let many = length-map row variableOf in
       let at : (i : ℕ) → i < length (variables row) → getD (variables row) i 0 ≡ variableOf (imageAmong named stated (suc i)) =
       λ i h. variable-at row i ∙ rw (row-at n names values i (omega (arith, many))) in
       let different = all-differ (variables row) (λ i j h k q. omega (arith, one-place (suc i) (suc j) (sym (at i h) ∙ q ∙ at j k))) in
-      rw (eq-eqb (length row) n size, all-in (isImage n) row 0 images, different)
+      rw (eq-eqb (length row) n size, all-in (isLiteral n) row 0 images, different)
 
 pub stated-row : (n : ℕ) (names values : List ℕ) → statedBy n names values ≡ Stated.Permutation → isRow n (rowStated n names values) ≡ true
 stated-row n names values e = row-is n names values (in-order n names values e)

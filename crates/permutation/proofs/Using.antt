@@ -15,7 +15,7 @@ use Rattle.lists.proofs.Steps.{drop-step}
 use Rattle.dimacs.specs.Words.{Piece, wordsAt}
 use Rattle.dimacs.specs.declared.Number.{Number}
 use Rattle.dimacs.proofs.WordLaws.{pieceAt}
-use Rattle.store.specs.Literals.{codeOf}
+use Rattle.store.specs.Literals.{codeOf, isLiteral}
 use Rattle.store.specs.Numerals.{codeIn}
 use Rattle.permutation.specs.Lines.{badValueAfter, valuesOn}
 use Rattle.permutation.specs.Stated.{rowOf}
@@ -24,12 +24,12 @@ use Rattle.permutation.specs.declared.Fault.{Fault}
 use Rattle.permutation.proofs.Lists.{no-longer}
 use Rattle.permutation.proofs.Walks.{Word, codesFrom}
 use Rattle.permutation.proofs.Marks.{isFree, free-none, free-more}
-use Rattle.permutation.proofs.NameLaws.{nameIn, name-some, image-sign}
+use Rattle.permutation.proofs.NameLaws.{sizeIn, size-some}
 use Rattle.permutation.proofs.InOrder.{named-few}
 use Rattle.permutation.proofs.Faults.{free-some, zero-taken, value-few, value-end, value-stop, value-on}
 use Rattle.permutation.proofs.RowLaws.{Placing, placing-none, placing-name, placing-more, placing-all}
 
--- the values before `at` are names that all differ, as many as `used` says, the other names are marked, the line's first bad value is the first from
+-- the values before `at` have names as sizes that all differ, as many as `used` says, the other names are marked, the line's first bad value is the first from
 -- `at` on, and each image is among the names and values that are left or in its place
 pub record Using (n : ℕ) (names line final : List ℕ) (free : List Bool) (row : List ℕ) (used at : ℕ) : Type 0 where
   pub passed : List ℕ
@@ -74,7 +74,7 @@ module _ {n : ℕ} {names : List ℕ} (named : Named n names) where
       placing-all (u .placing) (drop-of-length-le names h),
     )
 
-    pub using-stop : {w : Piece} {rest : List Piece} → wordsAt line at ≡ w ∷ rest → (value : ℕ) → value ≡ nameIn n (codeIn w)
+    pub using-stop : {w : Piece} {rest : List Piece} → wordsAt line at ≡ w ∷ rest → (value : ℕ) → value ≡ sizeIn (isLiteral n) (codeIn w)
         → getD free value false ≡ false → badValueAfter names (length line) [] (wordsAt line 0) ≡ Fault.At (w .place)
     using-stop e value is f =
         u .fault ∙ value-stop names (length line) (u .passed) e n value is named (sym (u .marked .is value) ∙ f)
@@ -116,12 +116,11 @@ module _ {n : ℕ} {names : List ℕ} (named : Named n names) where
             value-high = named .high value free;
           }
 
-      pub using-more : {place next : ℕ} {x : Number} → Word line at place x next → value ≡ nameIn n (codeIn (pieceAt line place)) → value < 513
-          → Using n names line final (set free value false) (set row (getD names used 0 - 1) (codeOf value false)) (used + 1) next
-      using-more {place} {next} w is small =
-          let i = name-some n (codeIn (pieceAt line place)) value is (free-some named (u .passed) value unused) in
-          let even = eqb-false (codeIn (pieceAt line place) % 2) 1 (image-sign n (codeIn (pieceAt line place)) (i .image)) in
-          let code : codeIn (pieceAt line place) ≡ codeOf value false = omega (arith, i .is, even) in
+      pub using-more : {place next : ℕ} {x : Number} → Word line at place x next → value ≡ sizeIn (isLiteral n) (codeIn (pieceAt line place)) → value < 513
+          → Using n names line final (set free value false) (set row (getD names used 0 - 1) (codeOf value (x .negative))) (used + 1) next
+      using-more {place} {next} {x} w is small =
+          let size = sym (size-some n (isLiteral n) (λ code l. l) (codeIn (pieceAt line place)) value is (free-some named (u .passed) value unused) .is) ∙ w .size in
+          let code : codeIn (pieceAt line place) ≡ codeOf value (x .negative) = rw size (w .code) in
           record {
             passed = value ∷ u .passed;
             fault = u .fault ∙ value-on names (length line) (u .passed) (w .words) n value is named unused;

@@ -30,7 +30,7 @@ pub record Stray (line : List ℕ) (at place : ℕ) : Type 0 where
   pub number : isNumeral (numeralOf (wordAt line place)) ≡ false
   pub code : codeIn (pieceAt line place) ≡ 0
 
-half : (s : ℕ) (b : Bool) → variableOf (codeOf s b) ≡ s
+pub half : (s : ℕ) (b : Bool) → variableOf (codeOf s b) ≡ s
 half s true = omega arith
 half s false = omega arith
 

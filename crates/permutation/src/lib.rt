@@ -14,9 +14,9 @@ ghost use lib.ListN.{length, take, drop, replicate};
 ghost use Rattle.lists.specs.Tests.{has};
 ghost use Rattle.lists.specs.Tables.{table};
 ghost use Rattle.dimacs.specs.Words.{wordsAt};
-ghost use Rattle.store.specs.Literals.{codeOf};
-ghost use Rattle.store.specs.Stores.{maxVariables, isImage};
-ghost use Rattle.permutation.specs.Lines.{notNumber, badValueAfter, valuesOn};
+ghost use Rattle.store.specs.Literals.{codeOf, isLiteral};
+ghost use Rattle.store.specs.Stores.{maxVariables};
+ghost use Rattle.permutation.specs.Lines.{isName, notNumber, badValueAfter, valuesOn};
 ghost use Rattle.permutation.specs.Stated.{orElse, statedBy, rowStated, rowOf};
 ghost use Rattle.permutation.specs.Names.{Named, Marks, Walked};
 
@@ -100,13 +100,20 @@ fn list_names(
     }
 }
 
-// The variable of 1..n that a number names, and 0 where it names none.
+// The variable of 1..n that a number names, and 0 where it names none: no name is signed.
 fn name_of(number: Number, n: usize) -> usize
-    ensures { λ r. ⌜ r ≡ cond (isImage n (codeOf (number .size) (number .negative))) (number .size) 0 ⌝ }
+    ensures { λ r. ⌜ r ≡ cond (isName n (codeOf (number .size) (number .negative))) (number .size) 0 ⌝ }
 {
     if number.negative {
         return 0;
     }
+    size_of(number, n)
+}
+
+// The variable of 1..n that a number is or negates, and 0 where there is none.
+fn size_of(number: Number, n: usize) -> usize
+    ensures { λ r. ⌜ r ≡ cond (isLiteral n (codeOf (number .size) (number .negative))) (number .size) 0 ⌝ }
+{
     let size = number.size as usize;
     if n < size {
         return 0;
@@ -153,8 +160,9 @@ fn identity(n: usize, row: &mut [u16])
     }
 }
 
-// 10: the first value that is no name or repeated, or the line's end where there are too few. Each value before it is put in the row, in
-// the place of the name that stands where it does in its line. A name is free until a value uses it; 0, which is no name, never is.
+// 10: the first value whose size is no name or repeated, or the line's end where there are too few. Each value before it is put in the row,
+// with its sign, in the place of the name that stands where it does in its line. A name is free until a value uses it; 0, which is no name,
+// never is.
 fn place_values(
     order: &[u16],
     free: &mut [bool; MARKS],
@@ -185,14 +193,14 @@ fn place_values(
         let Reading::Found(number, next) = dimacs::read(values, place) else {
             return Fault::At(place);
         };
-        let value = name_of(number, n);
-        if !free[value] {
+        let size = size_of(number, n);
+        if !free[size] {
             return Fault::At(place);
         }
-        free[value] = false;
+        free[size] = false;
         let name = order[used] as usize;
         used += 1;
-        row[name - 1] = store::literal::code(value as u16, false);
+        row[name - 1] = store::literal::code(size as u16, number.negative);
         at = next.at;
     }
 }

@@ -15,7 +15,7 @@ use Rattle.lists.proofs.Members.{all-in, all-not}
 use Rattle.lists.proofs.Steps.{drop-step}
 use Rattle.lists.proofs.Distinct.{has-more, distinct-more, distinct-twice}
 use Rattle.store.specs.Literals.{variableOf, isNegative, isLiteral}
-use Rattle.store.specs.Stores.{maxVariables, rising, literalCount, isImage, isRow}
+use Rattle.store.specs.Stores.{maxVariables, rising, literalCount, isRow}
 
 -- ---- codes
 
@@ -23,14 +23,6 @@ module _ (n code : ℕ) where
   pub literal-zero : variableOf code ≡ 0 → isLiteral n code ≡ false
   unfolding isLiteral
   literal-zero h = rw (lt-leb 1 (variableOf code) (omega arith))
-
-  pub image-negative : isNegative code ≡ true → isImage n code ≡ false
-  unfolding isImage
-  image-negative e = rw (e, and-false (isLiteral n code))
-
-  pub image-positive : isNegative code ≡ false → isImage n code ≡ isLiteral n code
-  unfolding isImage
-  image-positive e = rw e (and-true (isLiteral n code))
 
   pub literal-low : isLiteral n code ≡ true → 1 ≤ variableOf code
   unfolding isLiteral
@@ -50,10 +42,6 @@ module _ (n code : ℕ) where
       bool-ext (ltb ((w + 65534) % 65536) (2 * n)) (isLiteral n code)
       (λ e. let below = ltb-true ((w + 65534) % 65536) (2 * n) e in literal-within (omega arith) (omega arith))
       (λ e. lt-ltb ((w + 65534) % 65536) (2 * n) (omega (arith, literal-low e, literal-high e)))
-
-  pub image-literal : isImage n code ≡ true → isLiteral n code ≡ true
-  unfolding isImage
-  image-literal e = and-l (isLiteral n code) (not (isNegative code)) e
 
 -- ---- the ends
 
@@ -90,10 +78,10 @@ variables row = map variableOf row
 pub variable-at : (row : List ℕ) (i : ℕ) → getD (variables row) i 0 ≡ variableOf (getD row i 0)
 variable-at row i = List·getD-map variableOf row i 0
 
--- The loop at index i: the codes before it are images with different variables, and `seen` marks these variables.
+-- The loop at index i: the codes before it are literals with different variables, and `seen` marks these variables.
 pub record RowPassed (n : ℕ) (row : List ℕ) (seen : List Bool) (i : ℕ) : Type 0 where
   pub room : length seen ≡ 513
-  pub images : (k : ℕ) → k < i → isImage n (getD row k 0) ≡ true
+  pub literals : (k : ℕ) → k < i → isLiteral n (getD row k 0) ≡ true
   pub different : distinct (take i (variables row)) ≡ true
   pub marked : (v : ℕ) → v < 513 → getD seen v false ≡ has (take i (variables row)) v
 
@@ -106,14 +94,14 @@ module _ (n : ℕ) (row : List ℕ) where
   unfolding anyOf distinct
   passed-none = record {
     room = length-replicate 513 false;
-    images = λ k l. absurd (omega arith);
+    literals = λ k l. absurd (omega arith);
     different = refl;
     marked = λ v l. getD-replicate 513 v false false l;
   }
 
-  pub row-image : (i : ℕ) → i < length row → isImage n (getD row i 0) ≡ false → isRow n row ≡ false
+  pub row-outside : (i : ℕ) → i < length row → isLiteral n (getD row i 0) ≡ false → isRow n row ≡ false
   unfolding isRow
-  row-image i h e = rw (all-not (isImage n) row 0 i h e, and-false (eqb (length row) n))
+  row-outside i h e = rw (all-not (isLiteral n) row 0 i h e, and-false (eqb (length row) n))
 
   -- v is the variable of the code at i
   module _ (seen : List Bool) (i v : ℕ) (p : RowPassed n row seen i) (h : i < length row) (is : v ≡ variableOf (getD row i 0)) (low : v < 513) where
@@ -128,19 +116,19 @@ module _ (n : ℕ) (row : List ℕ) where
 
     pub row-twice : getD seen v false ≡ true → isRow n row ≡ false
     unfolding isRow
-    row-twice e = rw (distinct-twice (variables row) i inside (seen-is true e), and-false (eqb (length row) n && allOf (isImage n) row))
+    row-twice e = rw (distinct-twice (variables row) i inside (seen-is true e), and-false (eqb (length row) n && allOf (isLiteral n) row))
 
-    pub passed-more : isImage n (getD row i 0) ≡ true → getD seen v false ≡ false → RowPassed n row (set seen v true) (i + 1)
-    passed-more image e = record {
+    pub passed-more : isLiteral n (getD row i 0) ≡ true → getD seen v false ≡ false → RowPassed n row (set seen v true) (i + 1)
+    passed-more literal e = record {
       room = simp length-set (p .room);
-      images = λ k l. more k (ℕ-discrete k i) l;
+      literals = λ k l. more k (ℕ-discrete k i) l;
       different = distinct-more (variables row) i inside (p .different) (seen-is false e);
       marked = λ w l. rw (has-more (variables row) i w inside, here) (mark w l (ℕ-discrete w v));
     }
       where
-        more : (k : ℕ) → Dec (k ≡ i) → k < i + 1 → isImage n (getD row k 0) ≡ true
-        more k (yes q) l = rw q image
-        more k (no q) l = p .images k (omega arith)
+        more : (k : ℕ) → Dec (k ≡ i) → k < i + 1 → isLiteral n (getD row k 0) ≡ true
+        more k (yes q) l = rw q literal
+        more k (no q) l = p .literals k (omega arith)
 
         mark : (w : ℕ) → w < 513 → Dec (w ≡ v) → getD (set seen v true) w false ≡ (has (take i (variables row)) w || eqb v w)
         mark w l (yes q) = rw (eq-eqb v w (sym q), or-true (has (take i (variables row)) w), q) (getD-set-same seen v true false (omega (arith, p .room)))
@@ -150,4 +138,4 @@ module _ (n : ℕ) (row : List ℕ) where
   unfolding isRow
   row-all seen i p e h =
       let all : distinct (variables row) ≡ true = rw (take-all i (variables row) (rw (length-map row variableOf) h)) at (p .different) in
-      rw (eq-eqb (length row) n e, all-in (isImage n) row 0 (λ k l. p .images k (omega arith)), all)
+      rw (eq-eqb (length row) n e, all-in (isLiteral n) row 0 (λ k l. p .literals k (omega arith)), all)

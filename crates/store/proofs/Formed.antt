@@ -13,9 +13,9 @@ use Rattle.lists.specs.Tests.{allOf, distinct}
 use Rattle.lists.proofs.Cases.{and-l, and-r}
 use Rattle.lists.proofs.Members.{all-at}
 use Rattle.lists.proofs.Distinct.{distinct-inj}
-use Rattle.store.specs.Literals.{variableOf, isNegative, isLiteral}
-use Rattle.store.specs.Stores.{Store, maxVariables, maxClauses, maxLiterals, maxRows, rising, literalCount, rowAt, heldRows, isImage, isRow, FormedRows, FormedClauses, isFormed}
-use Rattle.store.proofs.FormLaws.{variables, variable-at, literal-low, literal-high, image-literal, count-none, count-last}
+use Rattle.store.specs.Literals.{variableOf, isLiteral}
+use Rattle.store.specs.Stores.{Store, maxVariables, maxClauses, maxLiterals, maxRows, rising, literalCount, rowAt, heldRows, isRow, FormedRows, FormedClauses, isFormed}
+use Rattle.store.proofs.FormLaws.{variables, variable-at, literal-low, literal-high, count-none, count-last}
 use Rattle.store.proofs.RowLaws.{rows-at}
 use Rattle.store.proofs.Cuts.{end-is}
 use Rattle.store.proofs.Demands.{used, rest-of, rows-of}
@@ -26,34 +26,21 @@ pub record Row (n : ℕ) (row : List ℕ) : Type 0 where
   pub size : length row ≡ n
   pub low : (i : ℕ) → i < n → 1 ≤ variableOf (getD row i 0)
   pub high : (i : ℕ) → i < n → variableOf (getD row i 0) ≤ n
-  pub positive : (i : ℕ) → i < n → getD row i 0 % 2 ≡ 0
   pub one-place : (i j : ℕ) → i < n → j < n → variableOf (getD row i 0) ≡ variableOf (getD row j 0) → i ≡ j
-
-image-positive : (n code : ℕ) → isImage n code ≡ true → code % 2 ≡ 0
-unfolding isImage
-image-positive n code e =
-    let odd : code % 2 ≡ 1 → ⊥ = eqb-false (code % 2) 1 (not-true (isNegative code) (and-r (isLiteral n code) (not (isNegative code)) e)) in
-    by (code % 2) (omega arith) odd
-  where
-    by : (r : ℕ) → r < 2 → (r ≡ 1 → ⊥) → r ≡ 0
-    by zero h odd = refl
-    by (suc zero) h odd = absurd (odd refl)
-    by (suc (suc r)) h odd = absurd (omega arith)
 
 pub row-of : (n : ℕ) (row : List ℕ) → isRow n row ≡ true → Row n row
 unfolding isRow
 row-of n row e =
-    let first = and-l (eqb (length row) n && allOf (isImage n) row) (distinct (variables row)) e in
-    let size : length row ≡ n = eqb-true (length row) n (and-l (eqb (length row) n) (allOf (isImage n) row) first) in
-    let image : (i : ℕ) → i < n → isImage n (getD row i 0) ≡ true =
-    λ i h. all-at (isImage n) row 0 (and-r (eqb (length row) n) (allOf (isImage n) row) first) i (omega arith) in
-    let different = and-r (eqb (length row) n && allOf (isImage n) row) (distinct (variables row)) e in
+    let first = and-l (eqb (length row) n && allOf (isLiteral n) row) (distinct (variables row)) e in
+    let size : length row ≡ n = eqb-true (length row) n (and-l (eqb (length row) n) (allOf (isLiteral n) row) first) in
+    let literal : (i : ℕ) → i < n → isLiteral n (getD row i 0) ≡ true =
+    λ i h. all-at (isLiteral n) row 0 (and-r (eqb (length row) n) (allOf (isLiteral n) row) first) i (omega arith) in
+    let different = and-r (eqb (length row) n && allOf (isLiteral n) row) (distinct (variables row)) e in
     let many : length (variables row) ≡ n = length-map row variableOf ∙ size in
     record {
       size = size;
-      low = λ i h. literal-low n (getD row i 0) (image-literal n (getD row i 0) (image i h));
-      high = λ i h. literal-high n (getD row i 0) (image-literal n (getD row i 0) (image i h));
-      positive = λ i h. image-positive n (getD row i 0) (image i h);
+      low = λ i h. literal-low n (getD row i 0) (literal i h);
+      high = λ i h. literal-high n (getD row i 0) (literal i h);
       one-place = λ i j h k q. distinct-inj (variables row) different i j (omega arith) (omega arith) (variable-at row i ∙ q ∙ sym (variable-at row j));
     }
 

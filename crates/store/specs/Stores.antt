@@ -89,13 +89,10 @@ plainOf s = clausesIn (s .counts .clauses) (s .literals) (s .ends)
 unfoldable pub heldRows : Store → List (List ℕ)
 heldRows s = rowsOf (s .counts .variables) (s .counts .rows) (s .images)
 
--- the image of a variable: the code of a literal of 1..n, and one that is not negative
-unfoldable pub isImage : ℕ → ℕ → Bool
-isImage n code = isLiteral n code && not (isNegative code)
-
--- a row: n images whose variables are all different, so a permutation of 1..n
+-- "Rows hold signed values, and a row with a size that is 0, over n or repeated is badly formed" (document 02, CR 6): n literals, whose sizes, their variables,
+-- are in 1..n and all different. A row of positive ones is a permutation of 1..n.
 unfoldable pub isRow : ℕ → List ℕ → Bool
-isRow n row = eqb (length row) n && allOf (isImage n) row && distinct (map variableOf row)
+isRow n row = eqb (length row) n && allOf (isLiteral n) row && distinct (map variableOf row)
 
 -- the store with k rows, in these images
 abbrev pub withRows : Store → ℕ → List ℕ → Store

@@ -5,7 +5,7 @@ ghost use Prim.Native.Nat.{_*_, _≤_};
 ghost use lib.ListN.{length};
 ghost use Rattle.lists.specs.Tests.{allOf};
 ghost use Rattle.store.specs.Literals.{isLiteral};
-ghost use Rattle.store.specs.Stores.{stored, isFormed, rising, isImage, isRow, rowsOf, maxVariables};
+ghost use Rattle.store.specs.Stores.{stored, isFormed, rising, isRow, rowsOf, maxVariables};
 use crate::clauses;
 use crate::literal;
 use crate::record::Record;
@@ -48,7 +48,7 @@ pub fn is_formed(counts: Record, literals: &[u16], ends: &[u16], images: &[u16])
     rows_formed(images, n, k)
 }
 
-// Whether a row is a permutation of the variables 1..n.
+// Whether a row sends the variables 1..n to literals of which no two have one variable.
 pub fn is_row(row: &[u16], n: usize) -> bool
     requires { ⌜ n ≤ maxVariables ⌝ }
     ensures { λ r. ⌜ r ≡ isRow n (now (row .entry)) ⌝ }
@@ -60,7 +60,7 @@ pub fn is_row(row: &[u16], n: usize) -> bool
     let mut i = 0;
     while i < row.len() {
         let code = row[i];
-        if !is_image(code, n) {
+        if !is_literal(code, n) {
             return false;
         }
         let v = literal::variable(literal::wide(code));
@@ -122,15 +122,4 @@ fn is_literal(code: u16, n: usize) -> bool
 {
     let less = (literal::wide(code) + 65534) % 65536;
     (less as u16) < (2 * n) as u16
-}
-
-// Whether a code can stand in a row: that of one of the variables 1..n itself.
-fn is_image(code: u16, n: usize) -> bool
-    requires { ⌜ n ≤ maxVariables ⌝ }
-    ensures { λ r. ⌜ r ≡ isImage n code ⌝ }
-{
-    if literal::is_negative(literal::wide(code)) {
-        return false;
-    }
-    is_literal(code, n)
 }

@@ -5,8 +5,9 @@ use Prim.Native.Nat.{_-_, _<_}
 use lib.ListN.{length}
 use Rattle.dimacs.proofs.WordLaws.{pieceAt, no-word}
 use Rattle.store.specs.Numerals.{codeIn}
+use Rattle.permutation.specs.Lines.{isName}
 use Rattle.permutation.proofs.Walks.{Word, word-read, word-refused}
-use Rattle.permutation.proofs.NameLaws.{nameIn, IsName, named, no-image, name-high, name-none, name-some}
+use Rattle.permutation.proofs.NameLaws.{name-literal, no-name, sizeIn, Passes, size-read, size-high, size-none, size-some}
 use Rattle.permutation.proofs.Listing.{Listing, listing-none, listing-empty, listing-all, listing-outside, listing-twice, listing-room, listing-more}
 use borrow.Author.Needs.{needs}
 use native.Mathlib.Omega.{arith}
@@ -30,16 +31,16 @@ found c =
 
 says : (c : tie.After-name-of Inv-loop μ-loop) → let at = c .before .before .before .before .before in
     let start = at .before .before .before .before in
-    c .name-of .result ≡ nameIn (start .args .n) (codeIn (pieceAt (start .args .names .now) (at .before .next-word .result)))
-says c = named _ _ (found (c .before)) (c .name-of .ensures)
+    c .name-of .result ≡ sizeIn (isName (start .args .n)) (codeIn (pieceAt (start .args .names .now) (at .before .next-word .result)))
+says c = size-read (isName _) _ (found (c .before)) (c .name-of .ensures)
 
 small : (c : tie.After-name-of Inv-loop μ-loop) → c .name-of .result < 513
-small c = omega (arith, name-high _ _ _ (says c))
+small c = omega (arith, size-high _ _ (name-literal _) _ _ (says c))
 
 is-name : (c : tie.Else3 Inv-loop μ-loop) → let at = c .before .before .before .before .before .before in
     let start = at .before .before .before .before in
-    IsName (start .args .n) (codeIn (pieceAt (start .args .names .now) (at .before .next-word .result))) (c .before .name-of .result)
-is-name c = name-some _ _ _ (says (c .before)) (c .if3 .left)
+    Passes (isName (start .args .n)) (codeIn (pieceAt (start .args .names .now) (at .before .next-word .result))) (c .before .name-of .result)
+is-name c = size-some _ _ (name-literal _) _ _ (says (c .before)) (c .if3 .left)
 
 -- there is room for a name that is new
 room : (c : tie.Else4 Inv-loop μ-loop) → let at = c .before .before .before .before .before .before .before .before in
@@ -65,13 +66,13 @@ returns-3 : tie.Need-returns-3 Inv-loop μ-loop
 returns-3 c =
     let at = c .before .before .before in
     let stray = word-refused _ _ _ (at .before .next-word .ensures) (at .if1 .left) _ (sym (c .before .before .read .ensures) ∙ c .enum-told .given .1) in
-    listing-outside (at .before .before .loop .inv) (stray .words) (no-image _ _ (stray .code))
+    listing-outside (at .before .before .loop .inv) (stray .words) (no-name _ _ (stray .code))
 
 returns-4 : tie.Need-returns-4 Inv-loop μ-loop
 returns-4 c =
     let read = c .before .before in
     let inv = read .before .before .before .before .before .before .loop .inv in
-    listing-outside inv (found read .words) (name-none _ _ _ (says (c .before)) (c .if3 .taken))
+    listing-outside inv (found read .words) (size-none _ _ (name-literal _) _ _ (says (c .before)) (c .if3 .taken))
 
 element-copy-out-if4 : tie.Need-element-copy-out-if4 Inv-loop μ-loop
 element-copy-out-if4 c = small (c .before)

@@ -1,5 +1,6 @@
 -- `permutation::name_of` meets its contract, by one law for each way out. Assumes nothing.
-use Rattle.permutation.proofs.NameLaws.{name-negative, name-beyond, name-within}
+use mathlib.Core.Path.{_≡_}
+use Rattle.permutation.proofs.NameLaws.{name-negative, name-positive}
 use borrow.Author.Needs.{needs}
 use Rattle.permutation.proofs.name_of.Statement.{statement}
 use Rattle.permutation.proofs.name_of.Tie as tie
@@ -8,10 +9,7 @@ returns : tie.Need-returns
 returns c = rw (c .if1 .taken) (name-negative _ _)
 
 returns-2 : tie.Need-returns-2
-returns-2 c = rw (c .before .before .if1 .left) (name-beyond _ _ (c .if2 .taken))
-
-returns-3 : tie.Need-returns-3
-returns-3 c = rw (c .before .before .if1 .left) (name-within _ _ (c .if2 .left))
+returns-2 c = let at = c .before in rw (at .if1 .left, name-positive) (rw (at .if1 .left) at (c .size-of .ensures))
 
 pub name-of-spec : {M : Type 1} → statement M
-name-of-spec = tie.close (tie.spec returns (search needs) returns-2 returns-3)
+name-of-spec = tie.close (tie.spec returns (search needs) returns-2)

@@ -7,13 +7,15 @@ use mathlib.Core.List.{_++_}
 use lib.ListN.{length, getD, drop, length-set}
 use borrow.Author.Tests.{not-true, not-false}
 use Rattle.dimacs.proofs.WordLaws.{pieceAt, no-word}
+use Rattle.store.specs.Literals.{isLiteral}
 use Rattle.store.specs.Numerals.{codeIn}
+use Rattle.store.proofs.FormLaws.{literal-zero}
 use Rattle.permutation.specs.Lines.{valuesOn}
 use Rattle.permutation.specs.Stated.{rowOf}
 use Rattle.permutation.specs.Names.{Named}
 use Rattle.permutation.specs.declared.Fault.{Fault}
 use Rattle.permutation.proofs.Walks.{Word, word-read, word-refused}
-use Rattle.permutation.proofs.NameLaws.{nameIn, named, no-name, name-high}
+use Rattle.permutation.proofs.NameLaws.{sizeIn, no-size, size-read, size-high}
 use Rattle.permutation.proofs.Using.{Using, using-none, using-few, using-all, using-stop, using-zero, Step, using-step, using-more}
 use borrow.Author.Needs.{needs}
 use native.Mathlib.Omega.{arith}
@@ -31,7 +33,7 @@ abbrev μ-loop : tie.MeasureT-loop
 names : (c : tie.At-loop Inv-loop μ-loop) → let start = c .before .before .before .before in Named (start .args .n) (start .args .order .now)
 names c = c .before .before .before .before .pre .1
 
--- the number that `read` found, and what `name_of` says of it
+-- the number that `read` found, and what `size_of` says of it
 found : (c : tie.After-known-told Inv-loop μ-loop) → let at = c .before .before .before .before in
     let read = c .before .number .given .0 in
     let values = at .before .before .before .before .before .before .args .values .now in
@@ -40,23 +42,23 @@ found c =
     let at = c .before .before .before .before in
     word-read _ _ _ (at .before .next-word .ensures) _ _ (sym (c .before .before .before .read .ensures) ∙ c .before .number .given .1)
 
-says : (c : tie.After-name-of Inv-loop μ-loop) → let at = c .before .before .before .before .before in
+says : (c : tie.After-size-of Inv-loop μ-loop) → let at = c .before .before .before .before .before in
     let start = at .before .before .before .before .before .before in
-    c .name-of .result ≡ nameIn (start .args .n) (codeIn (pieceAt (start .args .values .now) (at .before .next-word .result)))
-says c = named _ _ (found (c .before)) (c .name-of .ensures)
+    c .size-of .result ≡ sizeIn (isLiteral (start .args .n)) (codeIn (pieceAt (start .args .values .now) (at .before .next-word .result)))
+says c = size-read (isLiteral _) _ (found (c .before)) (c .size-of .ensures)
 
-small : (c : tie.After-name-of Inv-loop μ-loop) → c .name-of .result < 513
-small c = omega (arith, name-high _ _ _ (says c))
+small : (c : tie.After-size-of Inv-loop μ-loop) → c .size-of .result < 513
+small c = omega (arith, size-high _ _ (λ code l. l) _ _ (says c))
 
 -- the value is free, so that a name is left for it, and there is room for both in the row
 free : (c : tie.Else3 Inv-loop μ-loop) → let loop = c .before .before .before .before .before .before .before .before .before .loop in
-    getD (loop .free) (c .before .before .name-of .result) false ≡ true
+    getD (loop .free) (c .before .before .size-of .result) false ≡ true
 free c = not-false _ (c .if3 .left)
 
 fits : (c : tie.Else3 Inv-loop μ-loop) → let at = c .before .before .before .before .before .before .before .before .before in
     let start = at .before .before .before .before in
     let n = start .args .n in
-    Step n (start .args .order .now) (at .loop .used) (c .before .before .name-of .result) × (n ≤ 512) × (n ≤ length (at .loop .row))
+    Step n (start .args .order .now) (at .loop .used) (c .before .before .size-of .result) × (n ≤ 512) × (n ≤ length (at .loop .row))
 fits c =
     let at = c .before .before .before .before .before .before .before .before .before in
     let inv = at .loop .inv .0 in
@@ -87,7 +89,7 @@ returns-3 c =
     let at = c .before .before .before in
     let loop = at .before .before in
     let stray = word-refused _ _ _ (at .before .next-word .ensures) (at .if1 .left) _ (sym (c .before .before .read .ensures) ∙ c .enum-told .given .1) in
-    (sym (using-stop (names loop) (loop .loop .inv .0) (stray .words) 0 (no-name _ _ (stray .code)) (using-zero (names loop) (loop .loop .inv .0))), at-fault)
+    (sym (using-stop (names loop) (loop .loop .inv .0) (stray .words) 0 (no-size (isLiteral _) _ (literal-zero _ _ (omega (arith, stray .code)))) (using-zero (names loop) (loop .loop .inv .0))), at-fault)
 
 element-copy-out-if3 : tie.Need-element-copy-out-if3 Inv-loop μ-loop
 element-copy-out-if3 c = small c

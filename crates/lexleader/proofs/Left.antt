@@ -1,6 +1,6 @@
 -- A loop over the rows: what is left is row r and those after it, and what that means for the counts and for the clause looked for. Assumes nothing.
 use mathlib.Core.Path.{_≡_, ap, _∙_}
-use mathlib.Core.Logic.{_⊎_, inl, inr, ⊎-elim}
+use mathlib.Core.Logic.{_⊎_, inl, inr}
 use mathlib.Core.List.{List, [], _++_}
 use Prim.Native.Nat.{ℕ, _+_, _-_, _*_, _≤_, _<_}
 use native.Mathlib.Omega.{arith}
@@ -9,16 +9,10 @@ use lib.Seq.{getD-append-add}
 use Rattle.lists.proofs.Cases.{lt-or-le}
 use Rattle.store.specs.Stores.{maxVariables, rowsOf, rowAt, rowsFrom, FormedRows}
 use Rattle.store.proofs.RowLaws.{from-first, from-here, from-end, row-size}
-use Rattle.lexleader.specs.Rows.{pairsOf}
 use Rattle.lexleader.specs.Made.{rowClauses, auxiliaries, rowsClauses, allAuxiliaries}
 use Rattle.lexleader.specs.Bounds.{maxBefore}
-use Rattle.lexleader.proofs.Walk.{pairs-length}
-use Rattle.lexleader.proofs.Numbers.{row-few, row-many, rows-length}
-use Rattle.lexleader.proofs.Bounds.{auxiliaries-most}
-
--- of two variables or more
-clauses-most : (e k : ℕ) (row : List ℕ) → length row ≤ k → 2 ≤ k → length (rowClauses e row) ≤ 6 * (k - 1)
-clauses-most e k row h many = ⊎-elim (λ l. omega (arith, row-few e row l)) (λ l. omega (arith, row-many e row l, pairs-length row)) (lt-or-le (length (pairsOf row)) 2)
+use Rattle.lexleader.proofs.Numbers.{rows-length}
+use Rattle.lexleader.proofs.Bounds.{auxiliaries-most, clauses-most}
 
 -- x auxiliaries and y clauses are what a row adds
 abbrev pub Adds : ℕ → ℕ → List ℕ → Type 0

@@ -18,32 +18,31 @@ use Rattle.store.proofs.Demands.{rows-of}
 use Rattle.store.proofs.Formed.{formed, formed-clauses}
 use Rattle.store.proofs.Within.{literals-within}
 use Rattle.symmetry.proofs.SetLaws.{mem-at}
-use Rattle.lexleader.specs.Made.{allAuxiliaries, madeVariables}
+use Rattle.lexleader.specs.Made.{madeVariables}
+use Rattle.lexleader.specs.Sizes.{sumOver, auxiliariesFor, clausesFor}
 use Rattle.lexleader.specs.Store.{madeOf, variablesOf, clausesOf}
-use Rattle.lexleader.specs.Bounds.{maxAuxiliaries, maxMadeVariables, maxMadeClauses}
+use Rattle.lexleader.specs.Bounds.{maxMadeVariables, maxMadeClauses}
 use Rattle.lexleader.proofs.Within.{made-within}
-use Rattle.lexleader.proofs.Bounds.{rows-six, all-auxiliaries-most, isShort, rows-short}
+use Rattle.lexleader.proofs.Bounds.{all-auxiliaries-most, all-clauses-most, isShort, rows-short}
+use Rattle.lexleader.proofs.Numbers.{rows-auxiliaries, rows-clauses}
 use Rattle.lexleader.proofs.MadeLaws.{addedOf, clauses-are, made-plain, made-added}
 
--- "N = n + the sum of (k-1) over the rows that move something"
-pub variables-sum : (s : Store) → variablesOf s ≡ s .counts .variables + allAuxiliaries (heldRows s)
+-- "N = n + the sum of (k-1) over the rows that move something", of every store
+pub variables-sum : (s : Store) → variablesOf s ≡ s .counts .variables + sumOver auxiliariesFor (heldRows s)
 unfolding variablesOf madeVariables
-variables-sum s = refl
+variables-sum s = omega (arith, rows-auxiliaries (heldRows s))
 
 module _ (s : Store) (well : isFormed s ≡ true) where
-  -- "M = m + 6 times that sum"
-  pub clauses-sum : clausesOf s ≡ s .counts .clauses + 6 * allAuxiliaries (heldRows s)
-  clauses-sum = clauses-are s well ∙ ap (λ (k : ℕ). s .counts .clauses + k) (rows-six (s .counts .variables) (s .counts .variables + 1) (heldRows s) (rows-of s well))
-
-  auxiliaries-few : allAuxiliaries (heldRows s) ≤ maxAuxiliaries
-  unfolding heldRows
-  auxiliaries-few =
-      let f = formed s well in
-      omega (arith, all-auxiliaries-most (s .counts .variables) (s .counts .rows) (s .images) (f .variables-fit), f .rows-fit)
+  -- "M = m + 6 times that sum", and 1 for a row that moves one variable
+  pub clauses-sum : clausesOf s ≡ s .counts .clauses + sumOver clausesFor (heldRows s)
+  clauses-sum = clauses-are s well ∙ ap (λ (k : ℕ). s .counts .clauses + k) (rows-clauses (s .counts .variables + 1) (heldRows s))
 
   -- "N is at most 33,216"
   pub variables-most : variablesOf s ≤ maxMadeVariables
-  variables-most = omega (arith, variables-sum s, auxiliaries-few, formed s well .variables-fit)
+  unfolding variablesOf madeVariables heldRows
+  variables-most =
+      let f = formed s well in
+      omega (arith, all-auxiliaries-most (s .counts .variables) (s .counts .rows) (s .images) (f .variables-fit), f .rows-fit, f .variables-fit)
 
   -- and an assignment of 1..N is never too long for a comparison
   pub words-most : wordCount (variablesOf s) ≤ maxWords
@@ -51,7 +50,16 @@ module _ (s : Store) (well : isFormed s ≡ true) where
   words-most = omega (arith, variables-most)
 
   pub clauses-most : clausesOf s ≤ maxMadeClauses
-  clauses-most = omega (arith, clauses-sum, auxiliaries-few, formed s well .clauses-fit)
+  unfolding heldRows
+  clauses-most =
+      let f = formed s well in
+      omega (
+        arith,
+        clauses-are s well,
+        all-clauses-most (s .counts .variables + 1) (s .counts .variables) (s .counts .rows) (s .images) (f .variables-fit),
+        f .rows-fit,
+        f .clauses-fit,
+      )
 
   -- every literal of the made formula is one of 1..N
   pub store-within : allOf (allOf (isLiteral (variablesOf s))) (madeOf s) ≡ true

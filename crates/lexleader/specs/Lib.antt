@@ -2,6 +2,7 @@ pub mod Models
 pub mod Rows
 pub mod Deciding
 pub mod Made
+pub mod Sizes
 pub mod Store
 pub mod Bounds
 pub mod Counted

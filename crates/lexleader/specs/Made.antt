@@ -36,7 +36,8 @@ unfoldable pub laterClauses : ℕ → Pair → List Pair → List (List ℕ)
 laterClauses d q [] = []
 laterClauses d q (p ∷ pairs) = laterSix (d + 1) d q p ++ laterClauses (d + 1) p pairs
 
--- the clauses of a list of pairs, whose first auxiliary is e. A single pair, which only a signed row can have, adds -x1 y1 and no auxiliary.
+-- the clauses of a list of pairs, whose first auxiliary is e. "A row with k = 1 adds the single
+-- clause -x1 y1 and no auxiliary" (document 02, CR 6).
 unfoldable pub pairClauses : ℕ → List Pair → List (List ℕ)
 pairClauses e [] = []
 pairClauses e (q ∷ []) = (oppositeOf (q .x) ∷ q .y ∷ []) ∷ []

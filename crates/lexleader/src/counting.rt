@@ -3,8 +3,8 @@
 // A row that moves the variables x1 < .. < xk compares an assignment with what the row makes of it at these k variables and no others, one
 // after the other (`places`). An auxiliary ej says that the comparison has found no difference up to xj; it is asked before xj+1 is
 // compared, so the last variable needs none. That makes k - 1 auxiliaries, and six clauses for each (`table`). Nothing moved is nothing
-// compared, and adds nothing. A permutation never moves exactly one variable, since the image of a moved variable is moved too
-// (`no-single`, proofs/Bounds.antt); a signed row may, by x1 to -x1, and then adds the one clause that compares it.
+// compared, and adds nothing. A row that moves exactly one variable sends it to its own negation, since the variable of the image of a moved
+// one is moved too; it adds the one clause that compares them, which says that the variable is false, and no auxiliary.
 //
 // How many clauses a row adds doesn't depend on the numbers of its auxiliaries, so counting needs no e: the contracts hold for every e.
 use store::record::Record;
@@ -46,7 +46,7 @@ pub fn pair_count(row: &[u16]) -> usize
     count as usize
 }
 
-// A row that moves k variables, k of 2 or more, adds k - 1 auxiliaries and six clauses for each.
+// A row that moves k variables adds k - 1 auxiliaries and six clauses for each, or the one clause where k is 1.
 pub fn added_by(row: &[u16]) -> Added
     requires { ⌜ length (now row) ≤ maxVariables ⌝ }
     ensures { λ r. let row = now (row .entry) in

@@ -47,7 +47,7 @@ pub fn first_place(row: &[u16], e: u32) -> Place
     }
 }
 
-// The clause at a place. A row that moves one variable only, which no permutation does, has the table's first clause and no auxiliary.
+// The clause at a place. A row that moves one variable only has the table's first clause and no auxiliary.
 pub fn clause_at(row: &[u16], place: Place) -> Clause
     requires { ⌜ ClauseStands (now row) place ⌝ }
     ensures { λ r. ⌜ ClauseIs r (getD (clausesAt (now (row .entry)) place) 0 []) ⌝ }

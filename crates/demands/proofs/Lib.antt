@@ -16,3 +16,4 @@ pub mod Efficiency
 pub mod Starred
 pub mod Examples
 pub mod Keys
+pub mod Signs

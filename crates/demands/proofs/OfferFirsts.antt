@@ -5,7 +5,7 @@ use mathlib.Core.List.{List, [], _∷_, _++_, map, List·Memᴰ, List·Memᴰ·h
 use mathlib.Core.Logic.{_↔_}
 use Prim.Native.Nat.{ℕ, _+_, _%_, _≤_}
 use native.Mathlib.Omega.{arith}
-use borrow.Author.Tests.{eq-eqb, ne-eqb, eqb-false, not-true}
+use borrow.Author.Tests.{eq-eqb, ne-eqb, not-true}
 use lib.ListN.{length, length-append, length-map}
 use lib.Dec.{eqb, ltb}
 use Rattle.lists.specs.Tests.{anyOf, has}
@@ -15,17 +15,16 @@ use Rattle.dimacs.specs.Numbers.{Numeral, numeralOf}
 use Rattle.dimacs.specs.declared.Number.{Number}
 use Rattle.store.specs.Literals.{codeOf, variableOf, isNegative}
 use Rattle.store.specs.Numerals.{codeIn}
-use Rattle.store.specs.Stores.{isImage}
-use Rattle.store.proofs.FormLaws.{literal-low, literal-high, image-literal}
+use Rattle.store.proofs.FormLaws.{literal-low, literal-high, literal-within}
 use Rattle.opening.proofs.CodeLaws.{coded}
-use Rattle.permutation.specs.Lines.{notNumber, badNameAfter, badValueAfter, namesOn}
+use Rattle.permutation.specs.Lines.{isName, notNumber, badNameAfter, badValueAfter, namesOn}
 use Rattle.permutation.specs.declared.Fault.{Fault}
 use Rattle.permutation.proofs.InOrder.{isValue}
-use Rattle.permutation.proofs.NameLaws.{image-sign, is-image, no-image}
+use Rattle.permutation.proofs.NameLaws.{name-literal, name-sign, is-name, no-name}
 use Rattle.symmetry.specs.Symmetry.{hasImage, missingFrom}
 use Rattle.symmetry.proofs.SetLaws.{has-iff}
 use Rattle.symmetry.proofs.Theorem.{hasImage-iff}
-use Rattle.demands.specs.Reasons.{AllPass, Reads, Numeric, Says, Name, Value, HasImage}
+use Rattle.demands.specs.Reasons.{AllPass, Reads, IsNumber, Numeric, HasSize, Name, Value, HasImage}
 use Rattle.demands.proofs.Firsts.{Turn, on, stop, Walked, walked}
 
 -- a fault at the place of the word at which the walk stops
@@ -48,7 +47,7 @@ number-turn before w after p = by (numeralOf (w .bytes)) refl
 pub number-walked : (words : List Piece) → Walked Numeric numberWalk faultAt words
 number-walked words = walked Numeric numberWalk faultAt number-turn words
 
--- ---- words that are numbers and not negative, as variables
+-- ---- words that are numbers, as variables
 
 abbrev pub variable : Piece → ℕ
 variable w = variableOf (codeIn w)
@@ -68,33 +67,21 @@ no-code : (w : Piece) → numeralOf (w .bytes) ≡ Numeral.Not → codeIn w ≡ 
 unfolding codeIn
 no-code w e = rw e
 
-same-number : {x y : Number} → x .negative ≡ y .negative → x .size ≡ y .size → x ≡ y
-same-number p q = λ i. record { negative = p i; size = q i }
-
 -- a member stands after some others
 split-at : {y : Piece} {l : List Piece} → List·Memᴰ y l → (before : List Piece) × (after : List Piece) × (l ≡ before ++ (y ∷ after))
 split-at (List·Memᴰ·head {xs = after} e) = ([], after, cc)
 split-at (List·Memᴰ·tail {x = x} m) = let r = split-at m in (x ∷ r .0, r .1, ap (λ (l : List Piece). x ∷ l) (r .2))
 
-abbrev Plain : List Piece → Type 0
-Plain words = (y : Piece) → List·Memᴰ y words → (x : Number) × Reads y x × (x .negative ≡ false)
+abbrev AllNumbers : List Piece → Type 0
+AllNumbers words = (y : Piece) → List·Memᴰ y words → IsNumber y
 
--- one of the words is of this variable
-abbrev WordOf : List Piece → ℕ → Type 0
-WordOf words v = (y : Piece) × List·Memᴰ y words × (variable y ≡ v)
-
-plain-says : {words : List Piece} (x : Number) → Plain words → x .negative ≡ false → WordOf words (x .size) ↔ Says words x
-plain-says x p plus = (
-  λ m. let r = p (m .0) (m .1) in
-      let same : r .0 ≡ x = same-number (r .2 ∙ sym plus) (sym (size-of (m .0) (r .0) (r .1)) ∙ m .2) in
-      (m .0, m .1, rw same at (r .1)),
-  λ m. (m .0, m .1, size-of (m .0) x (m .2)),
-)
-
-among-map : (words : List Piece) (v : ℕ) → (has (map variable words) v ≡ true) ↔ WordOf words v
-among-map words v = (
-  λ e. Memᴰ·of-map variable words (has-iff (map variable words) v .0 e),
-  λ m. has-iff (map variable words) v .1 (Memᴰ·cast (sym (m .2)) (Memᴰ·map variable (m .1))),
+-- where all words are numbers, a variable is theirs exactly where one has its size
+sized : (words : List Piece) → AllNumbers words → (v : ℕ) → (has (map variable words) v ≡ true) ↔ HasSize words v
+sized words numbers v = (
+  λ e. let m = Memᴰ·of-map variable words (has-iff (map variable words) v .0 e) in
+      let x = numbers (m .0) (m .1) in
+      (m .0, m .1, x .0, x .1, sym (size-of (m .0) (x .0) (x .1)) ∙ m .2),
+  λ m. has-iff (map variable words) v .1 (Memᴰ·cast (sym (size-of (m .0) (m .2) (m .3) ∙ m .4)) (Memᴰ·map variable (m .1))),
 )
 
 -- the variables of the words before, the last first
@@ -126,25 +113,25 @@ seen-has l (y ∷ before) v = seen-has (variable y ∷ l) before v ∙ by (eqb (
 abbrev pub seen : List Piece → List ℕ
 seen before = seen-from [] before
 
-seen-says : {words : List Piece} (x : Number) → Plain words → x .negative ≡ false → (has (seen words) (x .size) ≡ true) ↔ Says words x
-unfolding anyOf
-seen-says {words} x p plus = (
-  λ e. plain-says x p plus .0 (among-map words (x .size) .0 (sym (or-false (has (map variable words) (x .size))) ∙ sym (seen-has [] words (x .size)) ∙ e)),
-  λ m. seen-has [] words (x .size) ∙ or-false (has (map variable words) (x .size)) ∙ among-map words (x .size) .1 (plain-says x p plus .1 m),
-)
+-- a word is, by the walks' test, of another size than the words before
+module _ (before : List Piece) (numbers : AllNumbers before) (w : Piece) (x : Number) (reads : Reads w x) where
+  seen-sized : (has (seen before) (variable w) ≡ true) ↔ HasSize before (x .size)
+  unfolding anyOf
+  seen-sized =
+      let same : has (seen before) (variable w) ≡ has (map variable before) (x .size) =
+      rw (size-of w x reads) (seen-has [] before (x .size) ∙ or-false (has (map variable before) (x .size))) in
+      (λ e. sized before numbers (x .size) .0 (sym same ∙ e), λ m. same ∙ sized before numbers (x .size) .1 m)
 
--- a word is, by the walks' test, not one of the words before
-module _ (before : List Piece) (plain : Plain before) (w : Piece) (x : Number) (reads : Reads w x) (plus : x .negative ≡ false) where
-  new-word : not (has (seen before) (variable w)) ≡ true → Says before x → ⊥
-  new-word e m = never (sym (not-true (has (seen before) (variable w)) e) ∙ rw (size-of w x reads) (seen-says x plain plus .1 m))
+  new-word : not (has (seen before) (variable w)) ≡ true → HasSize before (x .size) → ⊥
+  new-word e m = never (sym (not-true (has (seen before) (variable w)) e) ∙ seen-sized .1 m)
 
-  new-test : (Says before x → ⊥) → not (has (seen before) (variable w)) ≡ true
-  new-test f = ap not (not-so (has (seen before) (variable w)) (λ t. f (seen-says x plain plus .0 (rw (size-of w x reads) at t))))
+  new-test : (HasSize before (x .size) → ⊥) → not (has (seen before) (variable w)) ≡ true
+  new-test f = ap not (not-so (has (seen before) (variable w)) (λ t. f (seen-sized .0 t)))
 
 -- ---- 8
 
-plain-names : (n : ℕ) (words : List Piece) → AllPass (Name n) words → Plain words
-plain-names n words all y m = let r = split-at m in let h = all (r .0) (r .1) y (r .2) in (h .0, h .1, h .2)
+name-numbers : (n : ℕ) (words : List Piece) → AllPass (Name n) words → AllNumbers words
+name-numbers n words all y m = let r = split-at m in let h = all (r .0) (r .1) y (r .2) in (h .0, h .1)
 
 abbrev pub nameWalk : ℕ → List Piece → List Piece → Fault
 nameWalk n before words = badNameAfter n (seen before) words
@@ -153,70 +140,55 @@ name-turn : (n : ℕ) (before : List Piece) (w : Piece) (after : List Piece) →
 unfolding badNameAfter
 name-turn n before w after p = by (numeralOf (w .bytes)) refl
   where
-    plain : Plain before
-    plain = plain-names n before p
+    numbers : AllNumbers before
+    numbers = name-numbers n before p
 
-    test : (x : Number) → Reads w x → (t : Bool) → (isImage n (codeIn w) && not (has (seen before) (variable w))) ≡ t → Turn (Name n) (nameWalk n) faultAt before w after
+    test : (x : Number) → Reads w x → (t : Bool) → (isName n (codeIn w) && not (has (seen before) (variable w))) ≡ t → Turn (Name n) (nameWalk n) faultAt before w after
     test x e true q =
-        let image : isImage n (codeIn w) ≡ true = and-l (isImage n (codeIn w)) (not (has (seen before) (variable w))) q in
-        let plus : x .negative ≡ false = sym (sign-of w x e) ∙ image-sign n (codeIn w) image in
-        let low : 1 ≤ x .size = omega (arith, literal-low n (codeIn w) (image-literal n (codeIn w) image), size-of w x e) in
-        let high : x .size ≤ n = omega (arith, literal-high n (codeIn w) (image-literal n (codeIn w) image), size-of w x e) in
+        let name : isName n (codeIn w) ≡ true = and-l (isName n (codeIn w)) (not (has (seen before) (variable w))) q in
+        let plus : x .negative ≡ false = sym (sign-of w x e) ∙ name-sign n (codeIn w) name in
+        let low : 1 ≤ x .size = omega (arith, literal-low n (codeIn w) (name-literal n (codeIn w) name), size-of w x e) in
+        let high : x .size ≤ n = omega (arith, literal-high n (codeIn w) (name-literal n (codeIn w) name), size-of w x e) in
         on
-        (x, e, plus, low, high, new-word before plain w x e plus (and-r (isImage n (codeIn w)) (not (has (seen before) (variable w))) q))
+        (x, e, plus, low, high, new-word before numbers w x e (and-r (isName n (codeIn w)) (not (has (seen before) (variable w))) q))
         (rw (q, seen-more [] before w))
-    test x e false q = stop (λ h. never (sym q ∙ and-both (image h) (new-test before plain w (h .0) (h .1) (h .2) (h .5)))) (rw q)
+    test x e false q = stop (λ h. never (sym q ∙ and-both (name h) (new-test before numbers w (h .0) (h .1) (h .5)))) (rw q)
       where
-        image : Name n before w → isImage n (codeIn w) ≡ true
-        image h =
+        name : Name n before w → isName n (codeIn w) ≡ true
+        name h =
             let size = size-of w (h .0) (h .1) in
-            is-image n (codeIn w) (omega (arith, size, h .3)) (omega (arith, size, h .4)) (omega (arith, eqb-false (codeIn w % 2) 1 (sign-of w (h .0) (h .1) ∙ h .2)))
+            is-name n (codeIn w) (literal-within n (codeIn w) (omega (arith, size, h .3)) (omega (arith, size, h .4))) (sign-of w (h .0) (h .1) ∙ h .2)
 
     by : (x : Numeral) → numeralOf (w .bytes) ≡ x → Turn (Name n) (nameWalk n) faultAt before w after
-    by (Numeral.Is x) e = test x e (isImage n (codeIn w) && not (has (seen before) (variable w))) refl
-    by Numeral.Not e = stop (λ h. let z : _≡_ {A = ℕ} 0 1 = cc (h .1) in omega arith) (rw (no-image n (codeIn w) (no-code w e)))
+    by (Numeral.Is x) e = test x e (isName n (codeIn w) && not (has (seen before) (variable w))) refl
+    by Numeral.Not e = stop (λ h. let z : _≡_ {A = ℕ} 0 1 = cc (h .1) in omega arith) (rw (no-name n (codeIn w) (no-code w e)))
 
 pub name-walked : (n : ℕ) (words : List Piece) → Walked (Name n) (nameWalk n) faultAt words
 name-walked n words = walked (Name n) (nameWalk n) faultAt (name-turn n) words
 
 -- ---- 10
 
--- a number that some of these words are is not negative
-says-plus : {words : List Piece} {x : Number} → Plain words → Says words x → x .negative ≡ false
-says-plus {x} plain m = let r = plain (m .0) (m .1) in let same : r .0 ≡ x = cc (r .1, m .2) in rw same at (r .2)
-
 module _ (n end : ℕ) (line : List ℕ) (all : AllPass (Name n) (wordsAt line 0)) where
   abbrev nameWords : List Piece
   nameWords = wordsAt line 0
 
-  names-plain : Plain nameWords
-  names-plain = plain-names n nameWords all
+  value-numbers : (words : List Piece) → AllPass (Value nameWords) words → AllNumbers words
+  value-numbers words pass y m = let r = split-at m in let h = pass (r .0) (r .1) y (r .2) in (h .0, h .1)
 
-  plain-values : (words : List Piece) → AllPass (Value nameWords) words → Plain words
-  plain-values words pass y m = let r = split-at m in let h = pass (r .0) (r .1) y (r .2) in (h .0, h .1, says-plus names-plain (h .2))
-
-  -- a word is, by the walk's test, a name
-  module _ (w : Piece) (x : Number) (reads : Reads w x) where
-    name-test : Says nameWords x → isValue (namesOn line) (codeIn w) ≡ true
-    unfolding namesOn
-    name-test m =
-        let plus = says-plus names-plain m in
-        and-both (ap not (sign-of w x reads ∙ plus)) (rw (size-of w x reads) (among-map nameWords (x .size) .1 (plain-says x names-plain plus .1 m)))
-
-    is-name : isValue (namesOn line) (codeIn w) ≡ true → (x .negative ≡ false) × Says nameWords x
-    unfolding namesOn
-    is-name e =
-        let plus : x .negative ≡ false = sym (sign-of w x reads) ∙ not-true (isNegative (codeIn w)) (and-l (not (isNegative (codeIn w))) (has (namesOn line) (variable w)) e) in
-        let name : has (namesOn line) (x .size) ≡ true = rw (size-of w x reads) at (and-r (not (isNegative (codeIn w))) (has (namesOn line) (variable w)) e) in
-        (plus, plain-says x names-plain plus .0 (among-map nameWords (x .size) .0 name))
-
-  no-name : (w : Piece) → numeralOf (w .bytes) ≡ Numeral.Not → isValue (namesOn line) (codeIn w) ≡ false
+  named : (v : ℕ) → (has (namesOn line) v ≡ true) ↔ HasSize nameWords v
   unfolding namesOn
-  no-name w e = not-so (isValue (namesOn line) (codeIn w)) (λ t.
-      let m = among-map nameWords (variable w) .0 (and-r (not (isNegative (codeIn w))) (has (namesOn line) (variable w)) t) in
+  named v = sized nameWords (name-numbers n nameWords all) v
+
+  -- a word whose size is a name, by the walk's test
+  named-word : (w : Piece) (x : Number) → Reads w x → (isValue (namesOn line) (codeIn w) ≡ true) ↔ HasSize nameWords (x .size)
+  named-word w x reads = rw (size-of w x reads) (named (x .size))
+
+  no-value : (w : Piece) → numeralOf (w .bytes) ≡ Numeral.Not → isValue (namesOn line) (codeIn w) ≡ false
+  no-value w e = not-so (isValue (namesOn line) (codeIn w)) (λ t.
+      let m = named (variable w) .0 t in
       let r = split-at (m .1) in
       let h = all (r .0) (r .1) (m .0) (r .2) in
-      omega (arith, h .3, size-of (m .0) (h .0) (h .1), m .2, no-code w e))
+      omega (arith, h .3, size-of (m .0) (h .0) (h .1), size-of (m .0) (m .2) (m .3), m .4, no-code w e))
 
   abbrev pub valueWalk : List Piece → List Piece → Fault
   valueWalk before words = badValueAfter (namesOn line) end (seen before) words
@@ -225,24 +197,22 @@ module _ (n end : ℕ) (line : List ℕ) (all : AllPass (Name n) (wordsAt line 0
   unfolding badValueAfter
   value-turn before w after p = by (numeralOf (w .bytes)) refl
     where
-      plain : Plain before
-      plain = plain-values before p
+      numbers : AllNumbers before
+      numbers = value-numbers before p
 
       test : (x : Number) → Reads w x → (t : Bool) → (isValue (namesOn line) (codeIn w) && not (has (seen before) (variable w))) ≡ t
           → Turn (Value nameWords) valueWalk faultAt before w after
       test x e true q =
-          let name = is-name w x e (and-l (isValue (namesOn line) (codeIn w)) (not (has (seen before) (variable w))) q) in
+          let name = named-word w x e .0 (and-l (isValue (namesOn line) (codeIn w)) (not (has (seen before) (variable w))) q) in
           on
-          (x, e, name .1, new-word before plain w x e (name .0) (and-r (isValue (namesOn line) (codeIn w)) (not (has (seen before) (variable w))) q))
+          (x, e, name, new-word before numbers w x e (and-r (isValue (namesOn line) (codeIn w)) (not (has (seen before) (variable w))) q))
           (rw (q, seen-more [] before w))
       test x e false q =
-          stop
-          (λ h. never (sym q ∙ and-both (name-test w (h .0) (h .1) (h .2)) (new-test before plain w (h .0) (h .1) (says-plus names-plain (h .2)) (h .3))))
-          (rw q)
+          stop (λ h. never (sym q ∙ and-both (named-word w (h .0) (h .1) .1 (h .2)) (new-test before numbers w (h .0) (h .1) (h .3)))) (rw q)
 
       by : (x : Numeral) → numeralOf (w .bytes) ≡ x → Turn (Value nameWords) valueWalk faultAt before w after
       by (Numeral.Is x) e = test x e (isValue (namesOn line) (codeIn w) && not (has (seen before) (variable w))) refl
-      by Numeral.Not e = stop (λ h. let z : _≡_ {A = ℕ} 0 1 = cc (h .1) in omega arith) (rw (no-name w e))
+      by Numeral.Not e = stop (λ h. let z : _≡_ {A = ℕ} 0 1 = cc (h .1) in omega arith) (rw (no-value w e))
 
   pub value-walked : (words : List Piece) → Walked (Value nameWords) valueWalk faultAt words
   value-walked words = walked (Value nameWords) valueWalk faultAt value-turn words

@@ -6,3 +6,4 @@ pub mod Demand3
 pub mod TakingBack
 pub mod Efficiency
 pub mod Keys
+pub mod Signs

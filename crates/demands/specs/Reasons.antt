@@ -129,12 +129,13 @@ Numeric before w = IsNumber w
 abbrev pub wordNotNumber : ℕ → List ℕ → Reason
 wordNotNumber number line = record { number = number; at = λ p. (f : FirstFailing Numeric (wordsAt line 0)) × (p ≡ f .it .place) }
 
--- one of these words is the number x
-abbrev pub Says : List Piece → Number → Type 0
-Says words x = (y : Piece) × List·Memᴰ y words × Reads y x
+-- one of these words is a number of this size
+abbrev pub HasSize : List Piece → ℕ → Type 0
+HasSize words size = (y : Piece) × List·Memᴰ y words × (x : Number) × Reads y x × (x .size ≡ size)
 
+-- names are never signed, so no two are of one size
 abbrev pub Name : ℕ → List Piece → Piece → Type 0
-Name n before w = (x : Number) × Reads w x × (x .negative ≡ false) × (1 ≤ x .size) × (x .size ≤ n) × (Says before x → ⊥)
+Name n before w = (x : Number) × Reads w x × (x .negative ≡ false) × (1 ≤ x .size) × (x .size ≤ n) × (HasSize before (x .size) → ⊥)
 
 -- "8. A name outside 1..n or repeated, or no name (place: length)."
 abbrev pub badName : ℕ → List ℕ → Reason
@@ -143,8 +144,9 @@ badName n line = record {
   at = λ p. ((f : FirstFailing (Name n) (wordsAt line 0)) × (p ≡ f .it .place)) ⊎ ((wordsAt line 0 ≡ []) × (p ≡ length line));
 }
 
+-- "A value may now be -i: its size must be a name not yet used, by the old rule 10." (document 02, CR 6)
 abbrev pub Value : List Piece → List Piece → Piece → Type 0
-Value names before w = (x : Number) × Reads w x × Says names x × (Says before x → ⊥)
+Value names before w = (x : Number) × Reads w x × HasSize names (x .size) × (HasSize before (x .size) → ⊥)
 
 -- "10. A value that isn't a name or is repeated, or too few (place: length)."
 abbrev pub badValue : List Piece → List ℕ → Reason

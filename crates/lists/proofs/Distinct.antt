@@ -2,7 +2,7 @@
 use mathlib.Core.Path.{_≡_, refl, sym, ap, _∙_}
 use mathlib.Core.Bool.{Bool, true, false, not, _||_, or-assoc, or-false}
 use mathlib.Core.List.{List, [], _∷_, _++_}
-use Prim.Native.Nat.{ℕ, zero, suc, _+_, _<_}
+use Prim.Native.Nat.{ℕ, zero, suc, _+_, _<_, suc-le-suc}
 use native.Mathlib.Nat.{not-suc-le-zero, le-of-suc-le-suc}
 use native.Mathlib.Numerals.{add-one}
 use native.Mathlib.Omega.{arith}
@@ -25,6 +25,14 @@ distinct-inj (x ∷ l) e (suc i) zero h k q =
     never (sym (not-true (has l x) (and-l (not (has l x)) (distinct l) e)) ∙ placed l x i (le-of-suc-le-suc h) q)
 distinct-inj (x ∷ l) e (suc i) (suc j) h k q =
     ap suc (distinct-inj l (and-r (not (has l x)) (distinct l) e) i j (le-of-suc-le-suc h) (le-of-suc-le-suc k) q)
+
+-- and a list in which they are has no number twice
+pub inj-distinct : (l : List ℕ) → ((i j : ℕ) → i < length l → j < length l → getD l i 0 ≡ getD l j 0 → i ≡ j) → distinct l ≡ true
+unfolding distinct
+inj-distinct [] f = refl
+inj-distinct (x ∷ l) f =
+    let once : has l x ≡ false = not-so _ (λ h. let p = place l x h in omega (arith, f (suc (p .0)) 0 (suc-le-suc (p .1)) (omega arith) (p .2))) in
+    rw once (inj-distinct l (λ i j h k q. omega (arith, f (suc i) (suc j) (suc-le-suc h) (suc-le-suc k) q)))
 
 any-append : {A : Type 0} (q : A → Bool) (a b : List A) → anyOf q (a ++ b) ≡ (anyOf q a || anyOf q b)
 unfolding anyOf

@@ -31,15 +31,6 @@ stored l i j a d h = by (ℕ-discrete j i)
     by (yes e) = rw (eq-eqb i j (sym e), e) (getD-set-same l i a d h)
     by (no n) = rw (ne-eqb i j (λ e. n (sym e))) (getD-set-other l i j a d n)
 
--- ---- a list in which equal numbers stand in one place has no number twice
-
-pub all-differ : (l : List ℕ) → ((i j : ℕ) → i < length l → j < length l → getD l i 0 ≡ getD l j 0 → i ≡ j) → distinct l ≡ true
-unfolding distinct
-all-differ [] f = refl
-all-differ (x ∷ l) f =
-    let once : has l x ≡ false = not-so _ (λ h. let p = place l x h in omega (arith, f (suc (p .0)) 0 (suc-le-suc (p .1)) (omega arith) (p .2))) in
-    rw once (all-differ l (λ i j h k q. omega (arith, f (suc i) (suc j) (suc-le-suc h) (suc-le-suc k) q)))
-
 -- ---- a list in which no number stands twice, all of it in another, is no longer than that
 
 -- l without the first x

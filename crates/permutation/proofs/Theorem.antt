@@ -5,19 +5,18 @@ use mathlib.Core.List.{List}
 use mathlib.Core.Logic.{_⊎_, inl, inr, ⊎-elim}
 use Prim.Native.Nat.{ℕ, suc, _-_, _*_, _≤_, _<_}
 use native.Mathlib.Omega.{arith}
-use borrow.Author.Tests.{eq-eqb}
 use lib.ListN.{length, getD, length-map}
 use Rattle.lists.specs.Tests.{has}
 use Rattle.lists.proofs.Cases.{never}
-use Rattle.lists.proofs.Members.{place, placed, all-in}
+use Rattle.lists.proofs.Members.{place, placed}
 use Rattle.lists.proofs.Distinct.{distinct-inj}
 use Rattle.store.specs.Literals.{variableOf, isLiteral}
 use Rattle.store.specs.Stores.{isRow}
-use Rattle.store.proofs.FormLaws.{variables, variable-at, literal-within}
+use Rattle.store.proofs.FormLaws.{variables, variable-at, literal-low, literal-high, literal-within}
+use Rattle.store.proofs.Formed.{is-row}
 use Rattle.permutation.specs.Lines.{namesOn, valuesOn}
 use Rattle.permutation.specs.Stated.{statedBy, imageAmong, rowStated}
 use Rattle.permutation.specs.declared.Stated.{Stated}
-use Rattle.permutation.proofs.Lists.{all-differ}
 use Rattle.permutation.proofs.InOrder.{InOrder, in-order}
 use Rattle.permutation.proofs.RowLaws.{among-elsewhere, among-at, row-length, row-at}
 
@@ -92,17 +91,16 @@ module _ (n : ℕ) (names values : List ℕ) (o : InOrder n names values) where
           sym (a .name) ∙ ap (λ (k : ℕ). getD named k 0) place ∙ b .name
 
   row-is : isRow n (rowStated n names values) ≡ true
-  unfolding isRow
   row-is =
       let row : List ℕ = rowStated n names values in
-      let size : length row ≡ n = row-length n names values in
-      let images : (i : ℕ) → i < length row → isLiteral n (getD row i 0) ≡ true =
-      λ i h. rw (row-at n names values i (omega arith)) (image-literal (suc i) (omega arith) (omega arith)) in
-      let many = length-map row variableOf in
-      let at : (i : ℕ) → i < length (variables row) → getD (variables row) i 0 ≡ variableOf (imageAmong named stated (suc i)) =
-      λ i h. variable-at row i ∙ rw (row-at n names values i (omega (arith, many))) in
-      let different = all-differ (variables row) (λ i j h k q. omega (arith, one-place (suc i) (suc j) (sym (at i h) ∙ q ∙ at j k))) in
-      rw (eq-eqb (length row) n size, all-in (isLiteral n) row 0 images, different)
+      let at : (i : ℕ) → i < n → getD row i 0 ≡ imageAmong named stated (suc i) = row-at n names values in
+      let literal : (i : ℕ) → i < n → isLiteral n (getD row i 0) ≡ true = λ i h. rw (at i h) (image-literal (suc i) (omega arith) (omega arith)) in
+      is-row n row (record {
+        size = row-length n names values;
+        low = λ i h. literal-low n (getD row i 0) (literal i h);
+        high = λ i h. literal-high n (getD row i 0) (literal i h);
+        one-place = λ i j h k q. omega (arith, one-place (suc i) (suc j) (rw (at i h, at j k) at q));
+      })
 
 pub stated-row : (n : ℕ) (names values : List ℕ) → statedBy n names values ≡ Stated.Permutation → isRow n (rowStated n names values) ≡ true
 stated-row n names values e = row-is n names values (in-order n names values e)

@@ -5,17 +5,17 @@ use mathlib.Core.List.{List, [], _∷_}
 use Prim.Native.Nat.{ℕ, zero, suc, _+_, _-_, _*_, _%_, _≤_, _<_}
 use native.Mathlib.Nat.{not-suc-le-zero, le-of-suc-le-suc}
 use native.Mathlib.Omega.{arith}
-use borrow.Author.Tests.{leb-true, eqb-true, eqb-false, not-true}
+use borrow.Author.Tests.{leb-true, eqb-true, eq-eqb}
 use lib.ListN.{length, getD, take, length-map}
 use lib.Seq.{getD-take, length-take-le}
 use lib.Dec.{eqb, leb}
 use Rattle.lists.specs.Tests.{allOf, distinct}
 use Rattle.lists.proofs.Cases.{and-l, and-r}
-use Rattle.lists.proofs.Members.{all-at}
-use Rattle.lists.proofs.Distinct.{distinct-inj}
+use Rattle.lists.proofs.Members.{all-at, all-in}
+use Rattle.lists.proofs.Distinct.{distinct-inj, inj-distinct}
 use Rattle.store.specs.Literals.{variableOf, isLiteral}
 use Rattle.store.specs.Stores.{Store, maxVariables, maxClauses, maxLiterals, maxRows, rising, literalCount, rowAt, heldRows, isRow, FormedRows, FormedClauses, isFormed}
-use Rattle.store.proofs.FormLaws.{variables, variable-at, literal-low, literal-high, count-none, count-last}
+use Rattle.store.proofs.FormLaws.{variables, variable-at, literal-low, literal-high, literal-within, count-none, count-last}
 use Rattle.store.proofs.RowLaws.{rows-at}
 use Rattle.store.proofs.Cuts.{end-is}
 use Rattle.store.proofs.Demands.{used, rest-of, rows-of}
@@ -43,6 +43,16 @@ row-of n row e =
       high = λ i h. literal-high n (getD row i 0) (literal i h);
       one-place = λ i j h k q. distinct-inj (variables row) different i j (omega arith) (omega arith) (variable-at row i ∙ q ∙ sym (variable-at row j));
     }
+
+-- and these facts make a row
+pub is-row : (n : ℕ) (row : List ℕ) → Row n row → isRow n row ≡ true
+unfolding isRow
+is-row n row r =
+    let literal : (i : ℕ) → i < length row → isLiteral n (getD row i 0) ≡ true =
+    λ i h. let in-row : i < n = omega (arith, r .size) in literal-within n (getD row i 0) (r .low i in-row) (r .high i in-row) in
+    let many : length (variables row) ≡ n = length-map row variableOf ∙ r .size in
+    let different = inj-distinct (variables row) (λ i j h k q. r .one-place i j (omega arith) (omega arith) (sym (variable-at row i) ∙ q ∙ variable-at row j)) in
+    rw (eq-eqb (length row) n (r .size), all-in (isLiteral n) row 0 literal, different)
 
 -- ---- the ends
 

@@ -25,7 +25,7 @@ module _ (row : List ℕ) (code : ℕ) where
   image-of-positive e = rw e
 
 -- a literal or its opposite, by a sign: the variable is kept, and the signs add up
-turned : (code a : ℕ) → let r = cond (isNegative code) (oppositeOf a) a in
+pub turned : (code a : ℕ) → let r = cond (isNegative code) (oppositeOf a) a in
     (r / 2 ≡ a / 2) × ((r + code + a) % 2 ≡ 0)
 turned code a = go (isNegative code) refl (isNegative a) refl
   where

@@ -8,7 +8,8 @@
  * There is no state between calls, no allocation, no input or output: any calls may run at once, on any threads, that write no slice of one another.
  *
  * The order of assignments: A < B when A is false and B true at the first variable, from 1, at which they differ.
- * The direction of a permutation p: an assignment A moved by p has at variable i the value A(p(i)). The inverse of p would put A(i) at p(i).
+ * The direction of a permutation p: an assignment A moved by p has at variable i the value A(p(i)), and where p(i) is the negation of j, the opposite of A(j). The
+ * inverse of p would put A(i) at p(i).
  */
 #ifndef SYMBREAK_H
 #define SYMBREAK_H
@@ -41,9 +42,9 @@ enum symbreak_refusal {
     SYMBREAK_TOO_MANY_LITERALS = 5, /* text: literal 12,289 */
     SYMBREAK_CLAUSE_COUNT = 6,      /* text: a word after m clauses are closed, or the end before that (place: the text's length) */
     SYMBREAK_NAME_NOT_NUMBER = 7,   /* names line: a word that is no number */
-    SYMBREAK_BAD_NAME = 8,          /* names line: a name outside 1..n or repeated, or no name (place: the line's length) */
+    SYMBREAK_BAD_NAME = 8,          /* names line: a name outside 1..n, as every negative one, or repeated, or no name (place: the line's length) */
     SYMBREAK_VALUE_NOT_NUMBER = 9,  /* value line: a word that is no number */
-    SYMBREAK_BAD_VALUE = 10,        /* value line: a value that is no name or repeated, or too few (place: the line's length) */
+    SYMBREAK_BAD_VALUE = 10,        /* value line: a value that is no name, with or without a `-`, or whose name is used already, or too few (place: the line's length) */
     SYMBREAK_NO_SYMMETRY = 11,      /* no symmetry (place: the number, from 1, of the first clause whose image is missing) */
     SYMBREAK_BAD_ASSIGNMENT = 12,   /* an assignment of the wrong length or with a spare bit set; in a comparison, unequal lengths or more than 519 words */
     SYMBREAK_NO_SUCH_CLAUSE = 13,   /* clause number 0 or above M */
@@ -97,7 +98,8 @@ symbreak_record symbreak_new_record(void);
  *   ends      for each clause the count of literals up to its end; SYMBREAK_MAX_CLAUSES entries are always enough
  *   keys      for each clause its key, the sum modulo 2^64 of a fixed number for each different literal in it (docs/KEYS.md lists the numbers), which opening
  *             writes; SYMBREAK_MAX_CLAUSES entries are always enough
- *   images    one row of n codes for each accepted permutation, the image of variable i at index i - 1; SYMBREAK_MAX_ROWS * n entries are always enough
+ *   images    one row of n codes for each accepted permutation, at index i - 1 the image of variable i, a literal as above: even where the sign stays, odd where it
+ *             turns; no two of a row are of one variable; SYMBREAK_MAX_ROWS * n entries are always enough
  * Entries past those in use are never looked at and never changed. A key in use that is not its clause's makes the store badly formed (21). */
 
 /* Opens a formula: it replaces what the store held and drops its rows. The record lent is handed back at a refusal and not looked at otherwise.
@@ -109,8 +111,8 @@ symbreak_record symbreak_new_record(void);
 symbreak_stored symbreak_open(uint64_t variables, uint64_t clauses, uint64_t rows, uint64_t is_open, const uint8_t *text, size_t text_len,
                               uint16_t *literals, size_t literals_len, uint16_t *ends, size_t ends_len, uint64_t *keys, size_t keys_len);
 
-/* Offers a permutation p: a line of names and a line of values in that order, without line feeds. p takes each name to its value, and variables that are not
- * named stay. It is held, as one row more, exactly when it takes the formula's set of clauses to itself. images must have room for (rows + 1) * n entries.
+/* Offers a permutation p: a line of names and a line of values in that order, without line feeds. p takes each name to its value, which is one of the names, each
+ * once, or such a name with a `-`, its negation; variables that are not named stay. -i goes to the opposite of what i goes to. It is held, as one row more, exactly when it takes the formula's set of clauses to itself. images must have room for (rows + 1) * n entries.
  * Refusals 20, 21, 22, 7, 8, 9, 10, 11, 23, in this order. */
 symbreak_stored symbreak_offer(uint64_t variables, uint64_t clauses, uint64_t rows, uint64_t is_open, const uint16_t *literals, size_t literals_len,
                                const uint16_t *ends, size_t ends_len, const uint64_t *keys, size_t keys_len, uint16_t *images, size_t images_len,

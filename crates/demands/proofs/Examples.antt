@@ -11,7 +11,7 @@ use Rattle.dimacs.specs.Numbers.{isDigit, decimalFrom, digitsOf, sizeOf, numera
 use Rattle.store.specs.Literals.{isLiteral}
 use Rattle.store.specs.Numerals.{codeIn}
 use Rattle.store.specs.Refusals.{Said, done, refused}
-use Rattle.store.specs.Stores.{lent, closedRecord, rising, literalCount, rowsOf, cut, plainOf, heldRows, isImage, isRow, demands, isFormed}
+use Rattle.store.specs.Stores.{lent, closedRecord, rising, literalCount, rowsOf, cut, plainOf, heldRows, isRow, demands, isFormed}
 use Rattle.numbers.specs.Numbers.{numbers}
 use Rattle.keys.specs.Keys.{different, total, keyBy, rightKeys}
 use Rattle.standing.specs.Keyed.{Keyed, withKeys, wellFormed, standingOf}
@@ -19,7 +19,7 @@ use Rattle.comments.specs.Comments.{afterComments, wordsIn}
 use Rattle.opening.specs.Problem.{sameBytes, fourWords, sizesOf, problemIn, problemOf}
 use Rattle.opening.specs.Clauses.{scanFrom, literalsIn, endsFrom, clausesFrom}
 use Rattle.opening.specs.Opening.{bodyOf, formulaOf, openedBy}
-use Rattle.permutation.specs.Lines.{notNumber, badNameAfter, badName, badValueAfter, namesOn, valuesOn}
+use Rattle.permutation.specs.Lines.{isName, notNumber, badNameAfter, badName, badValueAfter, namesOn, valuesOn}
 use Rattle.permutation.specs.Stated.{statedBy, imageAmong, rowStated}
 use Rattle.symmetry.specs.Sets.{within, sameSet}
 use Rattle.symmetry.specs.Symmetry.{imageOf, clauseImage, hasImage, missingFrom}
@@ -76,7 +76,7 @@ corrected :
     ∷ []
 unfolding
     openStore offerSays offerStore withdrawSays withdrawStore after anyOf allOf distinct table isBlank run wordsFrom linesFrom isDigit decimalFrom digitsOf sizeOf numeralOf
-    isLiteral codeIn rising literalCount rowsOf cut plainOf heldRows isImage isRow demands isFormed different total keyBy numbers rightKeys wellFormed standingOf afterComments wordsIn sameBytes fourWords sizesOf problemIn
+    isLiteral codeIn rising literalCount rowsOf cut plainOf heldRows isName isRow demands isFormed different total keyBy numbers rightKeys wellFormed standingOf afterComments wordsIn sameBytes fourWords sizesOf problemIn
     problemOf scanFrom literalsIn endsFrom clausesFrom bodyOf formulaOf openedBy notNumber badNameAfter badName badValueAfter namesOn valuesOn statedBy imageAmong rowStated within sameSet
     imageOf clauseImage hasImage missingFrom ifRoom ifSymmetry offeredBy pairsFrom pairsOf laterClauses pairClauses rowClauses rowsClauses made auxiliaries allAuxiliaries
     madeVariables madeOf variablesOf

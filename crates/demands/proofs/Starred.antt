@@ -16,7 +16,7 @@ use Rattle.quality.specs.Efficiency.{hasEfficiency, efficiencyOf}
 use Rattle.store.specs.Literals.{isLiteral}
 use Rattle.store.specs.Numerals.{codeIn}
 use Rattle.store.specs.Refusals.{Said, done, refused}
-use Rattle.store.specs.Stores.{lent, closedRecord, rising, literalCount, rowsOf, cut, plainOf, heldRows, isImage, isRow, demands, isFormed}
+use Rattle.store.specs.Stores.{lent, closedRecord, rising, literalCount, rowsOf, cut, plainOf, heldRows, isRow, demands, isFormed}
 use Rattle.numbers.specs.Numbers.{numbers}
 use Rattle.keys.specs.Keys.{different, total, keyBy, rightKeys}
 use Rattle.standing.specs.Keyed.{Keyed, withKeys, wellFormed, standingOf}
@@ -24,7 +24,7 @@ use Rattle.comments.specs.Comments.{afterComments, wordsIn}
 use Rattle.opening.specs.Problem.{sameBytes, fourWords, sizesOf, problemIn, problemOf}
 use Rattle.opening.specs.Clauses.{scanFrom, literalsIn, endsFrom, clausesFrom}
 use Rattle.opening.specs.Opening.{bodyOf, formulaOf, openedBy}
-use Rattle.permutation.specs.Lines.{notNumber, badNameAfter, badName, badValueAfter, namesOn, valuesOn}
+use Rattle.permutation.specs.Lines.{isName, notNumber, badNameAfter, badName, badValueAfter, namesOn, valuesOn}
 use Rattle.permutation.specs.Stated.{statedBy, imageAmong, rowStated}
 use Rattle.symmetry.specs.Sets.{within, sameSet}
 use Rattle.symmetry.specs.Symmetry.{imageOf, clauseImage, hasImage, missingFrom}
@@ -111,7 +111,7 @@ starred :
     ∷ []
 unfolding
     openStore offerSays offerStore anyOf allOf distinct table isBlank run wordsFrom linesFrom isDigit decimalFrom digitsOf sizeOf numeralOf isLiteral codeIn rising literalCount
-    rowsOf cut plainOf isImage isRow demands isFormed different total keyBy numbers rightKeys wellFormed standingOf afterComments wordsIn sameBytes fourWords sizesOf problemIn problemOf scanFrom literalsIn endsFrom clausesFrom bodyOf formulaOf openedBy notNumber
+    rowsOf cut plainOf isName isRow demands isFormed different total keyBy numbers rightKeys wellFormed standingOf afterComments wordsIn sameBytes fourWords sizesOf problemIn problemOf scanFrom literalsIn endsFrom clausesFrom bodyOf formulaOf openedBy notNumber
     badNameAfter badName badValueAfter namesOn valuesOn statedBy imageAmong rowStated within sameSet imageOf clauseImage hasImage missingFrom ifRoom ifSymmetry offeredBy
     efficiencySays hasEfficiency efficiencyOf nearestOf descendSays descendLeaves descended descendFrom stepBy lowers moved less literalValue heldRows bitsOf wordsOf binary
     wordCount bitAt bitIn spareBits isAssignment fillSays fillLeaves filledWords variablesOf madeVariables allAuxiliaries auxiliaries pairsOf pairsFrom filledIn settings

@@ -6,7 +6,7 @@ use Prim.Native.Nat.{ℕ}
 use Rattle.packed.specs.Order.{less}
 use Rattle.lexleader.specs.Models.{literalValue}
 use Rattle.lexleader.specs.Rows.{moved, lowers, pairsFrom, pairsOf}
-use Rattle.lexleader.specs.Made.{laterClauses, pairClauses, rowClauses, rowsClauses, made, agrees, settingsAfter, rowSettings, settings, filledIn}
+use Rattle.lexleader.specs.Made.{laterClauses, pairClauses, rowClauses, auxiliaries, rowsClauses, made, agrees, settingsAfter, rowSettings, settings, filledIn}
 use Rattle.lexleader.specs.Bounds.{maxAuxiliaries, maxMadeVariables, maxMadeClauses}
 use Rattle.lexleader.specs.Descent.{stepBy, settled, spent, descendFrom, descend}
 
@@ -30,6 +30,19 @@ listing : made 3 ((2 ∷ 4 ∷ []) ∷ (4 ∷ 6 ∷ []) ∷ []) exchanged
     ∷ []
 unfolding made rowsClauses rowClauses pairClauses laterClauses pairsOf pairsFrom
 listing = refl
+
+-- rows that turn signs: 1 to -1, which adds one clause and no auxiliary; then 1 to -1 and 2 to -2, whose auxiliary is variable 3
+signed : made 2 [] ((3 ∷ 4 ∷ []) ∷ (3 ∷ 5 ∷ []) ∷ [])
+    ≡ (3 ∷ 3 ∷ [])
+    ∷ (3 ∷ 3 ∷ [])
+    ∷ (7 ∷ 3 ∷ 3 ∷ [])
+    ∷ (7 ∷ 2 ∷ 2 ∷ [])
+    ∷ (6 ∷ 2 ∷ 3 ∷ [])
+    ∷ (6 ∷ 3 ∷ 2 ∷ [])
+    ∷ (7 ∷ 5 ∷ 5 ∷ [])
+    ∷ []
+unfolding made rowsClauses rowClauses auxiliaries pairClauses laterClauses pairsOf pairsFrom
+signed = refl
 
 -- 101 fills in as 1011, and 011 as 0110
 filled-agreeing : filledIn exchanged (true ∷ false ∷ true ∷ []) ≡ true ∷ false ∷ true ∷ true ∷ []

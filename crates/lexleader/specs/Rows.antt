@@ -1,5 +1,6 @@
 -- What a row does to assignments (document 01): "A moved by p has, at variable i, the value A(p(i)); p carries A to that, and makes A smaller when that
--- is < A." A row holds literal codes, the image of variable i at index i - 1, so the same sentence serves signed rows. Assumes nothing.
+-- is < A." A row holds literal codes, the image of variable i at index i - 1; where that is negative, "A moved takes the negated value" (document 02, CR 6), and "a
+-- variable sent to its own negation counts as moved". Assumes nothing.
 use Prim.Native.Nat.{ℕ, _+_, _*_}
 use mathlib.Core.Bool.{Bool, cond}
 use mathlib.Core.List.{List, [], _∷_, map}

@@ -41,11 +41,11 @@ module _ (n s : ℕ) where
   unfolding isName
   name-negative = rw (eq-eqb (codeOf s true % 2) 1 (omega arith), and-false (isLiteral n (codeOf s true)))
 
-  pub name-positive : isName n (codeOf s false) ≡ isLiteral n (codeOf s false)
-  unfolding isName
-  name-positive = rw (ne-eqb (codeOf s false % 2) 1 (λ e. omega arith)) (and-true (isLiteral n (codeOf s false)))
-
   module _ (negative : Bool) where
+    pub name-positive : negative ≡ false → isName n (codeOf s negative) ≡ isLiteral n (codeOf s negative)
+    unfolding isName
+    name-positive plus = rw (plus, ne-eqb (codeOf s false % 2) 1 (λ e. omega arith)) (and-true (isLiteral n (codeOf s false)))
+
     pub size-beyond : n < s → 0 ≡ cond (isLiteral n (codeOf s negative)) s 0
     size-beyond h = rw (not-so (isLiteral n (codeOf s negative)) (λ l. omega (arith, literal-high n (codeOf s negative) l, half s negative)))
 

@@ -11,14 +11,14 @@ use Rattle.dimacs.specs.Numbers.{isDigit, decimalFrom, digitsOf, sizeOf, numera
 use Rattle.store.specs.Literals.{isLiteral}
 use Rattle.store.specs.Numerals.{codeIn}
 use Rattle.store.specs.Refusals.{done, refused}
-use Rattle.store.specs.Stores.{lent, closedRecord, rising, literalCount, rowsOf, cut, plainOf, isImage, demands, isFormed}
+use Rattle.store.specs.Stores.{lent, closedRecord, rising, literalCount, rowsOf, cut, plainOf, demands, isFormed}
 use Rattle.keys.specs.Keys.{rightKeys}
 use Rattle.standing.specs.Keyed.{Keyed, withKeys, wellFormed, standingOf}
 use Rattle.comments.specs.Comments.{afterComments, wordsIn}
 use Rattle.opening.specs.Problem.{sameBytes, fourWords, sizesOf, problemIn, problemOf}
 use Rattle.opening.specs.Clauses.{scanFrom, literalsIn, endsFrom, clausesFrom}
 use Rattle.opening.specs.Opening.{bodyOf, formulaOf, openedBy}
-use Rattle.permutation.specs.Lines.{notNumber, badNameAfter, badName, badValueAfter, namesOn, valuesOn}
+use Rattle.permutation.specs.Lines.{isName, notNumber, badNameAfter, badName, badValueAfter, namesOn, valuesOn}
 use Rattle.permutation.specs.Stated.{statedBy, imageAmong, rowStated}
 use Rattle.symmetry.specs.Symmetry.{missingFrom}
 use Rattle.offering.specs.Offering.{ifRoom, ifSymmetry, offeredBy}
@@ -56,7 +56,7 @@ offered :
     ∷ []
 unfolding
     closed opened problem anyOf allOf table isBlank run wordsFrom linesFrom isDigit decimalFrom digitsOf sizeOf numeralOf isLiteral codeIn rising
-    literalCount rowsOf cut plainOf isImage demands isFormed rightKeys wellFormed standingOf afterComments wordsIn sameBytes fourWords sizesOf problemIn problemOf scanFrom
+    literalCount rowsOf cut plainOf isName demands isFormed rightKeys wellFormed standingOf afterComments wordsIn sameBytes fourWords sizesOf problemIn problemOf scanFrom
     literalsIn endsFrom clausesFrom bodyOf formulaOf openedBy notNumber badNameAfter badName badValueAfter namesOn valuesOn statedBy imageAmong rowStated missingFrom ifRoom
     ifSymmetry offeredBy openSays openStore offerSays offerStore fromDivider offerAll sessionOf
 offered = refl

@@ -1,5 +1,5 @@
 -- Images and symmetries (document 01, "Permutations"): "A clause's image replaces each variable i by p(i) and keeps signs. .. p is a symmetry when
--- the set of images equals the set of clauses." Assumes nothing.
+-- the set of images equals the set of clauses." Where p(i) has a sign too, "the image of a literal takes its sign from both" (document 02, CR 6). Assumes nothing.
 use Prim.Native.Nat.{ℕ, _+_, _-_}
 use mathlib.Core.Bool.{Bool, cond}
 use mathlib.Core.List.{List, [], _∷_, map}

@@ -9,7 +9,7 @@ returns : tie.Need-returns
 returns c = rw (c .if1 .taken) (name-negative _ _)
 
 returns-2 : tie.Need-returns-2
-returns-2 c = let at = c .before in rw (at .if1 .left, name-positive) (rw (at .if1 .left) at (c .size-of .ensures))
+returns-2 c = rw (name-positive _ _ _ (c .before .if1 .left)) (c .size-of .ensures)
 
 pub name-of-spec : {M : Type 1} → statement M
 name-of-spec = tie.close (tie.spec returns (search needs) returns-2)

@@ -3,7 +3,7 @@ use mathlib.Core.Path.{_≡_, refl, sym, ap, _∙_}
 use mathlib.Core.Bool.{Bool, true, false, not, cond, Bool·beq}
 use mathlib.Core.List.{List, [], _∷_, List·Memᴰ, List·Memᴰ·head, List·Memᴰ·tail}
 use mathlib.Core.Logic.{_↔_}
-use Prim.Native.Nat.{ℕ, zero, suc, _+_, _-_, _*_, _/_, _%_, _≤_, _<_}
+use Prim.Native.Nat.{ℕ, zero, suc, _+_, _-_, _*_, _%_, _≤_, _<_}
 use native.Mathlib.Omega.{arith}
 use borrow.Author.Tests.{eq-eqb, ne-eqb, eqb-true, eqb-false}
 use lib.ListN.{length, getD}
@@ -32,11 +32,14 @@ signed-row n row = (
       },
   λ s. is-row n row (record {
     size = s .many;
-    low = λ i h. s .low (i + 1) (omega arith) (omega arith);
-    high = λ i h. s .high (i + 1) (omega arith) (omega arith);
-    one-place = λ i j h k q. omega (arith, s .differ (i + 1) (j + 1) (omega arith) (omega arith) (omega arith) (omega arith) q);
+    low = λ i h. omega (arith, s .low (i + 1) (omega arith) (omega arith), at i);
+    high = λ i h. omega (arith, s .high (i + 1) (omega arith) (omega arith), at i);
+    one-place = λ i j h k q. omega (arith, s .differ (i + 1) (j + 1) (omega arith) (omega arith) (omega arith) (omega arith) (at i ∙ q ∙ sym (at j)));
   }),
 )
+  where
+    at : (i : ℕ) → sizeAt row (i + 1) ≡ variableOf (getD row i 0)
+    at i = let index : i + 1 - 1 ≡ i = omega arith in ap (λ (k : ℕ). variableOf (getD row k 0)) index
 
 module _ (row : List ℕ) (code : ℕ) where
   image-size : variableOf (imageOf row code) ≡ sizeAt row (variableOf code)

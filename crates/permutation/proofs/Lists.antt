@@ -2,7 +2,7 @@
 use mathlib.Core.Path.{_≡_, refl, sym, ap, _∙_}
 use mathlib.Core.Bool.{Bool, true, false, cond, not, _||_, or-true}
 use mathlib.Core.List.{List, [], _∷_}
-use Prim.Native.Nat.{ℕ, suc, _≤_, _<_, suc-le-suc}
+use Prim.Native.Nat.{ℕ, suc, _≤_, _<_}
 use native.Mathlib.Decide.{ℕ-discrete}
 use native.Mathlib.Omega.{arith}
 use borrow.Author.Tests.{not-true, eq-eqb, ne-eqb, eqb-true}
@@ -10,8 +10,8 @@ use lib.ListN.{length, getD, set}
 use lib.Seq.{getD-set-same, getD-set-other}
 use lib.Dec.{eqb}
 use Rattle.lists.specs.Tests.{anyOf, has, distinct}
-use Rattle.lists.proofs.Cases.{never, and-l, and-r, or-cases, not-so}
-use Rattle.lists.proofs.Members.{place, has-head, has-rest}
+use Rattle.lists.proofs.Cases.{never, and-l, and-r, or-cases}
+use Rattle.lists.proofs.Members.{has-head, has-rest}
 
 module _ (x : ℕ) (l : List ℕ) where
   -- no number stands twice: not the head, and not in the rest

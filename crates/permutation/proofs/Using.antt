@@ -2,9 +2,9 @@
 use mathlib.Core.Path.{_≡_, refl, sym, _∙_}
 use mathlib.Core.Bool.{Bool, true, false, not}
 use mathlib.Core.List.{List, [], _∷_, _++_}
-use Prim.Native.Nat.{ℕ, suc, _+_, _-_, _*_, _%_, _≤_, _<_}
+use Prim.Native.Nat.{ℕ, suc, _+_, _-_, _*_, _≤_, _<_}
 use native.Mathlib.Omega.{arith}
-use borrow.Author.Tests.{not-true, eqb-true, eqb-false}
+use borrow.Author.Tests.{not-true, eqb-true}
 use lib.ListN.{length, getD, set, take, drop, drop-of-length-le}
 use lib.Dec.{eqb}
 use Rattle.lists.specs.Tests.{anyOf, has, distinct}

@@ -1,6 +1,6 @@
 -- The test of a store's form: one law for each way out of the functions that make it. Assumes nothing.
 use mathlib.Core.Path.{_≡_, refl, sym, _∙_}
-use mathlib.Core.Bool.{Bool, true, false, not, _&&_, _||_, and-assoc, and-false, and-true, or-true, or-false}
+use mathlib.Core.Bool.{Bool, true, false, _&&_, _||_, and-assoc, and-false, and-true, or-true, or-false}
 use mathlib.Core.List.{List, [], _∷_, map}
 use Prim.Native.Nat.{ℕ, _+_, _-_, _*_, _%_, _≤_, _<_}
 use native.Mathlib.Decide.{ℕ-discrete}
@@ -14,7 +14,7 @@ use Rattle.lists.proofs.Cases.{and-l, and-r, and-both, bool-ext}
 use Rattle.lists.proofs.Members.{all-in, all-not}
 use Rattle.lists.proofs.Steps.{drop-step}
 use Rattle.lists.proofs.Distinct.{has-more, distinct-more, distinct-twice}
-use Rattle.store.specs.Literals.{variableOf, isNegative, isLiteral}
+use Rattle.store.specs.Literals.{variableOf, isLiteral}
 use Rattle.store.specs.Stores.{maxVariables, rising, literalCount, isRow}
 
 -- ---- codes

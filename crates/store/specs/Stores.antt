@@ -2,14 +2,14 @@
 -- clauses (document 02, CR 5) are lent beside it, for those that look at them: `standing/specs/Keyed.antt`. Assumes nothing.
 use mathlib.Core.Path.{_≡_}
 use Prim.Native.Nat.{ℕ, zero, suc, _+_, _-_, _*_, _≤_, _<_}
-use mathlib.Core.Bool.{Bool, true, false, cond, not, _&&_}
+use mathlib.Core.Bool.{Bool, true, false, cond, _&&_}
 use mathlib.Core.List.{List, [], _∷_, _++_, map}
 use lib.ListN.{length, getD, take, drop}
 use lib.Seq.{slice}
 use lib.Dec.{eqb, leb}
 use denote.Ref.{RefT}
 use Rattle.lists.specs.Tests.{allOf, distinct}
-use Rattle.store.specs.Literals.{variableOf, isNegative, isLiteral}
+use Rattle.store.specs.Literals.{variableOf, isLiteral}
 use Rattle.store.specs.declared.record.Record.{Record}
 
 -- "At most 512 variables, 4,096 clauses and 12,288 literals", and 64 rows

@@ -1,5 +1,4 @@
 -- `permutation::name_of` meets its contract, by one law for each way out. Assumes nothing.
-use mathlib.Core.Path.{_≡_}
 use Rattle.permutation.proofs.NameLaws.{name-negative, name-positive}
 use borrow.Author.Needs.{needs}
 use Rattle.permutation.proofs.name_of.Statement.{statement}

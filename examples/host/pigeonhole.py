@@ -7,7 +7,8 @@ neighbouring pigeons or both. With as many holes as pigeons there are models: th
 import argparse
 from itertools import combinations
 
-LIMITS = {"variables": 512, "clauses": 4096, "literals": 12288, "rows": 64}
+import files
+
 KINDS = "none", "holes", "pigeons", "both"
 
 
@@ -34,31 +35,18 @@ def exchanges(pigeons, holes, kind):
     return (of_holes if kind in ("holes", "both") else []) + (of_pigeons if kind in ("pigeons", "both") else [])
 
 
-def write_lines(path, lines):
-    with open(path, "w") as out:
-        for line in lines:
-            print(*line, file=out)
-
-
 def main():
     parser = argparse.ArgumentParser(description=__doc__, formatter_class=argparse.RawDescriptionHelpFormatter)
     parser.add_argument("pigeons", type=int)
     parser.add_argument("holes", type=int)
     parser.add_argument("exchanges", choices=KINDS)
-    parser.add_argument("formula", help="the file for the formula")
-    parser.add_argument("permutations", help="the file for the line of names and the lines of values")
+    files.add_arguments(parser)
     asked = parser.parse_args()
     if min(asked.pigeons, asked.holes) < 1:
         parser.error("at least one pigeon and one hole, please")
 
-    variables = asked.pigeons * asked.holes
     clauses, rows = formula(asked.pigeons, asked.holes), exchanges(asked.pigeons, asked.holes, asked.exchanges)
-    sizes = {"variables": variables, "clauses": len(clauses), "literals": sum(map(len, clauses)), "rows": len(rows)}
-    for what, size in sizes.items():
-        if size > LIMITS[what]:
-            parser.error(f"{size} {what}, and the library takes {LIMITS[what]}")
-    write_lines(asked.formula, [("p cnf", variables, len(clauses))] + [clause + [0] for clause in clauses])
-    write_lines(asked.permutations, [range(1, variables + 1)] + rows)
+    files.write(parser, asked, asked.pigeons * asked.holes, clauses, rows)
 
 
 if __name__ == "__main__":

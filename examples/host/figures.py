@@ -1,7 +1,7 @@
 #!/usr/bin/env python3
-"""Measures minisat on pigeonhole formulas without and with the added clauses, and prints the table of README.md.
+"""Measures minisat on formulas without and with the added clauses, and prints a table of README.md.
 
-    figures.py [OPTION ...] [PIGEONS ...]
+    figures.py pigeonhole|grid|urquhart [OPTION ...] [SIZE ...]
 
 Words that start with `-` go to minisat. Each cell is minisat's own count of conflicts and of processor seconds; `>` means stopped at the limit. `host` must
 be built.
@@ -14,12 +14,17 @@ import tempfile
 
 HERE = os.path.dirname(os.path.abspath(__file__))
 LIMIT = 60  # processor seconds for each formula
-KINDS = "none", "holes", "pigeons", "both"
+FAMILIES = {  # how a formula of a size is generated, by which permutations, and the sizes of the table
+    "pigeonhole": (lambda pigeons: ["pigeonhole.py", pigeons, pigeons - 1], ["none", "holes", "pigeons", "both"], [7, 8, 9, 10, 11, 12, 20]),
+    "grid": (lambda size: ["tseitin.py", "grid", size], ["none", "first", "last"], [5, 6, 7, 8, 9]),
+    "urquhart": (lambda size: ["tseitin.py", "urquhart", size], ["none", "first", "last"], [5, 6, 7, 8, 21]),
+}
 
 
-def measure(options, pigeons, kind, folder):
+def measure(options, generator, kind, folder):
     formula, permutations, made = (os.path.join(folder, name) for name in ("formula", "permutations", "made"))
-    subprocess.run([os.path.join(HERE, "pigeonhole.py"), str(pigeons), str(pigeons - 1), kind, formula, permutations], check=True)
+    script, *arguments = generator
+    subprocess.run([os.path.join(HERE, script), *map(str, arguments), kind, formula, permutations], check=True)
     # Without a PATH the host finds no solver and stops after writing.
     subprocess.run([os.path.join(HERE, "host"), formula, permutations, made], check=True, env={"PATH": "/nonexistent"}, stdout=subprocess.DEVNULL)
     said = subprocess.run(["minisat", *options, f"-cpu-lim={LIMIT}", made], capture_output=True, text=True).stdout
@@ -27,13 +32,16 @@ def measure(options, pigeons, kind, folder):
     return f"{int(conflicts):,} / {float(seconds):.2f} s" if "UNSATISFIABLE" in said else f"> {int(conflicts):,} / > {LIMIT} s"
 
 
-def main(options, sizes):
-    print("| pigeons |", " | ".join(KINDS), "|\n|" + "---|" * (1 + len(KINDS)))
-    for pigeons in sizes:
+def main(family, options, sizes):
+    generator, kinds, usual = FAMILIES[family]
+    print("|", family, "|", " | ".join(kinds), "|\n|" + "---|" * (1 + len(kinds)))
+    for size in sizes or usual:
         with tempfile.TemporaryDirectory() as folder:
-            print("|", pigeons, "|", " | ".join(measure(options, pigeons, kind, folder) for kind in KINDS), "|", flush=True)
+            print("|", size, "|", " | ".join(measure(options, generator(size), kind, folder) for kind in kinds), "|", flush=True)
 
 
 if __name__ == "__main__":
-    words = sys.argv[1:]
-    main([word for word in words if word.startswith("-")], [int(word) for word in words if not word.startswith("-")] or [7, 8, 9, 10, 11, 12, 20])
+    family, *words = sys.argv[1:] or [None]
+    if family not in FAMILIES:
+        sys.exit(__doc__)
+    main(family, [word for word in words if word.startswith("-")], [int(word) for word in words if not word.startswith("-")])

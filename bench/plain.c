@@ -22,12 +22,12 @@ static symbreak_answer answer(uint64_t value) { return (symbreak_answer){0, 0, v
 static symbreak_answer refused(uint32_t refusal, uint64_t place) { return (symbreak_answer){refusal, place, 0}; }
 
 /* Refusal 20 or 21, or 0; then moved[r] is the count of variables that row r moves, and an index that is lent is made. A clause's literals are marked with its
-   number, so that one that comes twice counts once and marks need not be cleared between clauses. A row is a permutation if no code comes twice: seen has, for
-   each variable's code, how many rows had it, so that it need not be cleared either; other codes have a count that no row has. */
+   number, so that one that comes twice counts once and marks need not be cleared between clauses. A row is well formed if no variable comes twice, of either
+   sign: seen has, for each variable, how many rows had it, so that it need not be cleared either; 0 and those over n have a count that no row has. */
 static inline __attribute__((always_inline)) uint32_t tested(RECORD, FORMULA, IMAGES, uint16_t moved[MAX_ROWS], plain_index *index)
 {
     uint16_t marks[CODES] = {0};
-    uint8_t seen[CODES];
+    uint8_t seen[MAX_N + 1];
     size_t i = 0;
     if (!is_open) return SYMBREAK_NOT_OPEN;
     if (n > MAX_N || m > MAX_M || rows > MAX_ROWS || ends_len < m || keys_len < m || images_len < rows * n) return SYMBREAK_BADLY_FORMED;
@@ -53,15 +53,15 @@ static inline __attribute__((always_inline)) uint32_t tested(RECORD, FORMULA, IM
         }
     }
     memset(seen, 255, sizeof seen);
-    for (size_t v = 1; v <= n; v++) seen[2 * v] = 0;
+    memset(seen + 1, 0, n);
     for (size_t r = 0; r < rows; r++, images += n) {
         const uint16_t *image = images;
         uint8_t before = (uint8_t)r;
         size_t k = 0;
         for (size_t own = 2; own <= 2 * n; own += 2) {
-            size_t code = *image++;
-            if (code >= CODES || seen[code] != before) return SYMBREAK_BADLY_FORMED;
-            seen[code] = (uint8_t)(before + 1);
+            size_t code = *image++, v = code / 2;
+            if (v > MAX_N || seen[v] != before) return SYMBREAK_BADLY_FORMED;
+            seen[v] = (uint8_t)(before + 1);
             k += code != own;
         }
         moved[r] = (uint16_t)k;
@@ -85,13 +85,17 @@ unsigned plain_moved(const uint16_t *row, uint64_t n)
     return k;
 }
 
-/* The auxiliaries of a row that moves k variables. */
-static unsigned auxiliaries(unsigned k) { return k ? k - 1 : 0; }
-
 static unsigned all_auxiliaries(const uint16_t *moved, uint64_t rows)
 {
     unsigned sum = 0;
-    for (size_t r = 0; r < rows; r++) sum += auxiliaries(moved[r]);
+    for (size_t r = 0; r < rows; r++) sum += plain_auxiliaries(moved[r]);
+    return sum;
+}
+
+static unsigned all_clauses(const uint16_t *moved, uint64_t rows)
+{
+    unsigned sum = 0;
+    for (size_t r = 0; r < rows; r++) sum += plain_clauses(moved[r]);
     return sum;
 }
 
@@ -209,7 +213,7 @@ static __attribute__((noinline)) uint64_t first_missing(uint64_t n, uint64_t m, 
     uint16_t image[CODES], marks[CODES] = {0};
     for (size_t v = 1; v <= n; v++) {
         image[2 * v] = row[v - 1];
-        image[2 * v + 1] = row[v - 1] + 1;
+        image[2 * v + 1] = row[v - 1] ^ 1;
     }
     for (size_t c = 0, i = 0; c < m; c++) {
         uint16_t number = (uint16_t)(c + 1);
@@ -259,11 +263,12 @@ symbreak_stored plain_offer_indexed(RECORD, FORMULA, uint16_t *images, size_t im
     in = (reader){values, 0, values_len, 0};
     while ((kind = next(&in, &v)) == NUMBER) {
         if (bad != SIZE_MAX) continue;
-        if (v < 1 || v > (int)n || state[v] != NAME) {
+        int variable = v < 0 ? -v : v;
+        if (variable > (int)n || state[variable] != NAME) {
             bad = in.start;
         } else {
-            state[v] = TAKEN;
-            row[name[taken++] - 1] = (uint16_t)(2 * v);
+            state[variable] = TAKEN;
+            row[name[taken++] - 1] = (uint16_t)(2 * variable + (v < 0));
         }
     }
     if (kind == OTHER) REFUSE(SYMBREAK_VALUE_NOT_NUMBER, in.start);
@@ -309,9 +314,8 @@ symbreak_answer plain_header(RECORD, FORMULA, IMAGES, uint8_t *out, size_t out_l
     uint8_t line[32] = "p cnf ", *end = line + 6;
     uint32_t refusal = fault(LENT, moved);
     if (refusal) return refused(refusal, 0);
-    unsigned sum = all_auxiliaries(moved, rows);
-    end = plain_put(end, (int)(n + sum), ' ');
-    end = plain_put(end, (int)(m + 6 * sum), '\n');
+    end = plain_put(end, (int)(n + all_auxiliaries(moved, rows)), ' ');
+    end = plain_put(end, (int)(m + all_clauses(moved, rows)), '\n');
     return hand_over(line, end, out, out_len);
 }
 
@@ -330,27 +334,28 @@ symbreak_answer plain_clause(RECORD, FORMULA, IMAGES, uint64_t q, uint8_t *out, 
     if (refusal) return refused(refusal, 0);
     if (q == 0) return refused(SYMBREAK_NO_SUCH_CLAUSE, 0);
     if (q <= m) {
-        for (size_t i = q > 1 ? ends[q - 2] : 0; i < ends[q - 1]; i++) end = plain_put(end, literals[i] % 2 ? -(literals[i] / 2) : literals[i] / 2, ' ');
+        for (size_t i = q > 1 ? ends[q - 2] : 0; i < ends[q - 1]; i++) end = plain_put(end, plain_literal(literals[i]), ' ');
     } else {
         uint64_t left = q - m - 1, r = 0;
         unsigned last = (unsigned)n, x = 0, next, j;
         int literal[4], count;
-        for (; r < rows && left >= 6 * auxiliaries(moved[r]); r++) {
-            left -= 6 * auxiliaries(moved[r]);
-            last += auxiliaries(moved[r]);
+        for (; r < rows && left >= plain_clauses(moved[r]); r++) {
+            left -= plain_clauses(moved[r]);
+            last += plain_auxiliaries(moved[r]);
         }
         if (r == rows) return refused(SYMBREAK_NO_SUCH_CLAUSE, 0);
         images += r * n;
         for (j = 0; j <= left / 6; j++) x = after(images, x);
-        next = after(images, x);
-        count = plain_added((int)j, (int)(left % 6) + 1, (int)x, images[x - 1] / 2, (int)next, images[next - 1] / 2, (int)(last + j), literal);
+        next = moved[r] > 1 ? after(images, x) : x;
+        count = plain_added((int)j, (int)(left % 6) + 1, (int)x, plain_literal(images[x - 1]), (int)next, plain_literal(images[next - 1]), (int)(last + j),
+                            literal);
         for (int i = 0; i < count; i++) end = plain_put(end, literal[i], ' ');
     }
     end = plain_put(end, 0, '\n');
     return hand_over(line, end, out, out_len);
 }
 
-/* Assignments. Work on single variables is done on bytes, one for each, at its number. */
+/* Assignments. Work on single literals is done on bytes, one for each, at its code: a variable's value, then its negation's. */
 
 static size_t words(uint64_t n) { return (n + 63) / 64; }
 
@@ -359,9 +364,11 @@ static int bit(const uint64_t *a, size_t i) { return a[i / 64] >> (63 - i % 64) 
 /* Whether a is an assignment of 1..n. */
 static int is_assignment(const uint64_t *a, size_t a_len, uint64_t n) { return a_len == words(n) && (n % 64 == 0 || a[n / 64] << n % 64 == 0); }
 
-static void unpack(const uint64_t *a, uint64_t n, uint8_t value[MAX_N + 1])
+static void put_value(uint8_t *value, size_t v, int is) { value[2 * v] = (uint8_t)is, value[2 * v + 1] = (uint8_t)(is ^ 1); }
+
+static void unpack(const uint64_t *a, uint64_t n, uint8_t value[CODES])
 {
-    for (size_t i = 0; i < n; i++) value[i + 1] = (uint8_t)bit(a, i);
+    for (size_t i = 0; i < n; i++) put_value(value, i + 1, bit(a, i));
 }
 
 /* Sets the bits from first, count of them. */
@@ -379,7 +386,7 @@ static void set(uint64_t *a, size_t first, size_t count)
 symbreak_answer plain_fill_in(RECORD, FORMULA, IMAGES, const uint64_t *a, size_t a_len, uint64_t *out, size_t out_len)
 {
     uint16_t moved[MAX_ROWS];
-    uint8_t value[MAX_N + 1];
+    uint8_t value[CODES];
     uint32_t refusal = fault(LENT, moved);
     if (refusal) return refused(refusal, 0);
     if (!is_assignment(a, a_len, n)) return refused(SYMBREAK_BAD_ASSIGNMENT, 0);
@@ -389,8 +396,8 @@ symbreak_answer plain_fill_in(RECORD, FORMULA, IMAGES, const uint64_t *a, size_t
     memset(out, 0, count * sizeof *out);
     if (n) memcpy(out, a, a_len * sizeof *a);
     for (size_t r = 0; r < rows; r++, images += n) {
-        unsigned agree = 0, most = auxiliaries(moved[r]);
-        for (size_t i = 0; i < n && value[i + 1] == value[images[i] / 2]; i++) agree += images[i] != 2 * (i + 1);
+        unsigned agree = 0, most = plain_auxiliaries(moved[r]);
+        for (size_t i = 0; i < n && value[2 * (i + 1)] == value[images[i]]; i++) agree += images[i] != 2 * (i + 1);
         set(out, first, agree < most ? agree : most);
         first += most;
     }
@@ -400,24 +407,28 @@ symbreak_answer plain_fill_in(RECORD, FORMULA, IMAGES, const uint64_t *a, size_t
 symbreak_answer plain_check(RECORD, FORMULA, IMAGES, const uint64_t *a, size_t a_len)
 {
     uint16_t moved[MAX_ROWS];
-    uint8_t value[MAX_N + 1];
+    uint8_t value[CODES];
     uint32_t refusal = fault(LENT, moved);
     if (refusal) return refused(refusal, 0);
     if (!is_assignment(a, a_len, n + all_auxiliaries(moved, rows))) return refused(SYMBREAK_BAD_ASSIGNMENT, 0);
     unpack(a, n, value);
     for (size_t c = 0, i = 0; c < m; i = ends[c++]) {
-        while (i < ends[c] && value[literals[i] / 2] == literals[i] % 2) i++;
+        while (i < ends[c] && !value[literals[i]]) i++;
         if (i == ends[c]) return answer(c + 1);
     }
     uint64_t clause = m; /* the number of the last clause looked at */
     size_t e_at = n;
     for (size_t r = 0; r < rows; r++, images += n) {
-        unsigned x = 0, most = auxiliaries(moved[r]);
+        unsigned x = 0, most = plain_auxiliaries(moved[r]);
         int before = 1; /* e(j-1); with 1 for it, the clauses of j = 1 read like the others, but for the first */
-        if (most) x = after(images, x);
+        if (moved[r]) x = after(images, x);
+        if (moved[r] == 1) {
+            clause++;
+            if (value[2 * x] && !value[images[x - 1]]) return answer(clause);
+        }
         for (unsigned j = 1; j <= most; j++, clause += 6) {
             unsigned next = after(images, x);
-            int e = bit(a, e_at++), u = value[x], v = value[images[x - 1] / 2], p = value[next], q = value[images[next - 1] / 2];
+            int e = bit(a, e_at++), u = value[2 * x], v = value[images[x - 1]], p = value[2 * next], q = value[images[next - 1]];
             if (j == 1 ? u && !v : e && !before) return answer(clause + 1);
             if (e && u && !v) return answer(clause + 2);
             if (e && !u && v) return answer(clause + 3);
@@ -434,14 +445,14 @@ symbreak_answer plain_check(RECORD, FORMULA, IMAGES, const uint64_t *a, size_t a
 static void pack(const uint8_t *value, uint64_t n, uint64_t *a, size_t a_len)
 {
     memset(a, 0, a_len * sizeof *a);
-    for (size_t i = 0; i < n; i++) a[i / 64] |= (uint64_t)value[i + 1] << (63 - i % 64);
+    for (size_t i = 0; i < n; i++) a[i / 64] |= (uint64_t)value[2 * (i + 1)] << (63 - i % 64);
 }
 
 /* A row is walked from variable 1 to the first at which a and a moved differ, over variables that it does not move as well. */
 symbreak_descent plain_descend(RECORD, FORMULA, IMAGES, uint64_t *a, size_t a_len, uint64_t limit)
 {
     uint16_t moved[MAX_ROWS];
-    uint8_t first[MAX_N + 1], second[MAX_N + 1], *value = first, *other = second, *kept;
+    uint8_t first[CODES], second[CODES], *value = first, *other = second, *kept;
     uint64_t moves = 0, settled = 1;
     uint32_t refusal = fault(LENT, moved);
     if (!refusal && !is_assignment(a, a_len, n)) refusal = SYMBREAK_BAD_ASSIGNMENT;
@@ -450,8 +461,8 @@ symbreak_descent plain_descend(RECORD, FORMULA, IMAGES, uint64_t *a, size_t a_le
     for (size_t r = 0; r < rows;) {
         const uint16_t *row = images + r * n;
         size_t i = 0;
-        while (i < n && value[i + 1] == value[row[i] / 2]) i++;
-        if (i == n || !value[i + 1]) {
+        while (i < n && value[2 * (i + 1)] == value[row[i]]) i++;
+        if (i == n || !value[2 * (i + 1)]) {
             r++;
             continue;
         }
@@ -459,7 +470,7 @@ symbreak_descent plain_descend(RECORD, FORMULA, IMAGES, uint64_t *a, size_t a_le
             settled = 0;
             break;
         }
-        for (i = 0; i < n; i++) other[i + 1] = value[row[i] / 2];
+        for (i = 0; i < n; i++) put_value(other, i + 1, value[row[i]]);
         kept = value, value = other, other = kept;
         moves++;
         r = 0;
@@ -472,7 +483,7 @@ symbreak_descent plain_descend(RECORD, FORMULA, IMAGES, uint64_t *a, size_t a_le
 symbreak_descent plain_descend_noting(RECORD, FORMULA, IMAGES, uint64_t *a, size_t a_len, uint64_t limit)
 {
     uint16_t moved[MAX_ROWS], first[MAX_ROWS], end[MAX_ROWS];
-    uint8_t value[MAX_N + 1], other[MAX_N];
+    uint8_t value[CODES], other[CODES];
     uint64_t moves = 0, settled = 1;
     uint32_t refusal = fault(LENT, moved);
     if (!refusal && !is_assignment(a, a_len, n)) refusal = SYMBREAK_BAD_ASSIGNMENT;
@@ -489,8 +500,8 @@ symbreak_descent plain_descend_noting(RECORD, FORMULA, IMAGES, uint64_t *a, size
     for (size_t r = 0; r < rows;) {
         const uint16_t *row = images + r * n;
         size_t from = first[r], to = end[r], i = from;
-        while (i < to && value[i + 1] == value[row[i] / 2]) i++;
-        if (i == to || !value[i + 1]) {
+        while (i < to && value[2 * (i + 1)] == value[row[i]]) i++;
+        if (i == to || !value[2 * (i + 1)]) {
             r++;
             continue;
         }
@@ -498,8 +509,8 @@ symbreak_descent plain_descend_noting(RECORD, FORMULA, IMAGES, uint64_t *a, size
             settled = 0;
             break;
         }
-        for (i = from; i < to; i++) other[i] = value[row[i] / 2];
-        memcpy(value + from + 1, other + from, to - from);
+        for (i = from; i < to; i++) put_value(other, i + 1, value[row[i]]);
+        memcpy(value + 2 * (from + 1), other + 2 * (from + 1), 2 * (to - from));
         moves++;
         r = 0;
     }

@@ -42,7 +42,15 @@ symbreak_stored plain_offer_indexed(uint64_t n, uint64_t m, uint64_t rows, uint6
 /* The count of variables that a row of n codes moves. */
 unsigned plain_moved(const uint16_t *row, uint64_t n);
 
-/* Clause r, from 1 to 6, of auxiliary j: x and y are xj and yj, p and q the next pair, e is ej. Gives the count of its literals, 2 to 4. */
+/* The auxiliaries and the clauses of a row that moves k variables. */
+static inline unsigned plain_auxiliaries(unsigned k) { return k ? k - 1 : 0; }
+static inline unsigned plain_clauses(unsigned k) { return k == 1 ? 1 : 6 * plain_auxiliaries(k); }
+
+/* The literal of a code. */
+static inline int plain_literal(unsigned code) { return code % 2 ? -(int)(code / 2) : (int)(code / 2); }
+
+/* Clause r, from 1 to 6, of auxiliary j: x and y are xj and yj, p and q the next pair, e is ej. Gives the count of its literals, 2 to 4. Clause 1 of j = 1 is
+   also the clause of a row that moves one variable. */
 static inline int plain_added(int j, int r, int x, int y, int p, int q, int e, int literal[4])
 {
     int k = 0;

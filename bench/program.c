@@ -51,8 +51,10 @@ static void print_row(const uint16_t *row, int n, int *last)
     int x[MAX_N], k = 0;
     for (int i = 1; i <= n; i++)
         if (row[i - 1] != 2 * i) x[k++] = i;
+    if (k == 1) print(1, 1, x[0], plain_literal(row[x[0] - 1]), 0, 0, 0);
     for (int j = 1; j < k; j++) {
-        int u = x[j - 1], v = row[u - 1] / 2, p = x[j], q = row[p - 1] / 2, e = *last + j; /* six calls and no loop, so that each is compiled for its r */
+        int u = x[j - 1], v = plain_literal(row[u - 1]), p = x[j], q = plain_literal(row[p - 1]), e = *last + j;
+        /* six calls and no loop, so that each is compiled for its r */
         print(j, 1, u, v, p, q, e);
         print(j, 2, u, v, p, q, e);
         print(j, 3, u, v, p, q, e);
@@ -84,14 +86,15 @@ int main(void)
                                     names_end - names, in + at, stop - at, &by_key);
         if (store.refusal) refuse(store.refusal, store.place);
     }
-    int n = (int)store.variables, m = (int)store.clauses, sum = 0, last = n;
+    int n = (int)store.variables, m = (int)store.clauses, auxiliaries = 0, added = 0, last = n;
     for (size_t r = 0; r < store.rows; r++) {
         unsigned k = plain_moved(images + r * store.variables, store.variables);
-        sum += k ? (int)k - 1 : 0;
+        auxiliaries += (int)plain_auxiliaries(k);
+        added += (int)plain_clauses(k);
     }
-    end += sprintf((char *)out, "p cnf %d %d\n", n + sum, m + 6 * sum);
+    end += sprintf((char *)out, "p cnf %d %d\n", n + auxiliaries, m + added);
     for (int c = 0, i = 0; c < m; c++) {
-        for (; i < ends[c]; i++) put(literals[i] % 2 ? -(literals[i] / 2) : literals[i] / 2);
+        for (; i < ends[c]; i++) put(plain_literal(literals[i]));
         put(0);
     }
     for (size_t r = 0; r < store.rows; r++) print_row(images + r * store.variables, n, &last);

@@ -45,7 +45,7 @@ static struct world {
 } w;
 static uint8_t text[1 << 18], names[1 << 12], values[OFFERS][1 << 12]; /* a line of values for each offer; most jobs make one */
 static size_t text_len, names_len, values_len[OFFERS];
-static uint64_t step; /* from one clause written to the next */
+static uint64_t step, last; /* of the clauses written: from one to the next, and the last */
 
 #define SLICE(array) array, sizeof(array) / sizeof *(array)
 #define STORE w.n, w.m, w.rows, 1, SLICE(w.literals), SLICE(w.ends), SLICE(w.keys), SLICE(w.images)
@@ -81,7 +81,6 @@ static void withdraw(const calls *c) { say_stored(c->withdraw(STORE)); }
 /* One line behind the other. */
 static void write(const calls *c)
 {
-    uint64_t last = w.m + 6 * w.rows * (w.n - 1); /* for rows that move all */
     symbreak_answer line = c->header(STORE, SLICE(w.out));
     size_t used = line.value;
     for (uint64_t q = 1; q <= last; q += step) {
@@ -91,7 +90,7 @@ static void write(const calls *c)
     }
 }
 
-static void clause(const calls *c) { say_answer(c->clause(STORE, w.m + 6 * w.rows * (w.n - 1), SLICE(w.out))); }
+static void clause(const calls *c) { say_answer(c->clause(STORE, last, SLICE(w.out))); }
 static void fill_in(const calls *c) { say_answer(c->fill_in(STORE, w.a, (w.n + 63) / 64, SLICE(w.b))); }
 static void check(const calls *c) { say_answer(c->check(STORE, w.b, (w.n + w.rows * (w.n - 1) + 63) / 64)); }
 
@@ -120,6 +119,7 @@ static void efficiency(const calls *c)
 /* What they do it to. */
 
 static uint64_t state;
+static unsigned turning; /* whether a shift by one turns the sign as well, and so every shift by an odd number */
 
 static unsigned chance(unsigned below)
 {
@@ -127,7 +127,7 @@ static unsigned chance(unsigned below)
     return (unsigned)((state >> 33) % below);
 }
 
-static unsigned shifted(unsigned code, unsigned by) { return (code / 2 - 1 + by) % (unsigned)w.n * 2 + 2 + code % 2; }
+static unsigned shifted(unsigned code, unsigned by) { return (code / 2 - 1 + by) % (unsigned)w.n * 2 + 2 + (code + by * turning) % 2; }
 
 static void set(uint64_t *a, unsigned i) { a[i / 64] |= 1ull << (63 - i % 64); }
 
@@ -137,7 +137,7 @@ static void write_text(int remarks)
     uint8_t *end = text + sprintf((char *)text, "p cnf %d %d\n", (int)w.n, (int)w.m);
     for (unsigned c = 0, i = 0; c < w.m; c++) {
         if (remarks) end += sprintf((char *)end, "c bracket %u, seat %u\n", c / 8, c % 8);
-        for (; i < w.ends[c]; i++) end = plain_put(end, w.literals[i] % 2 ? -(w.literals[i] / 2) : w.literals[i] / 2, ' ');
+        for (; i < w.ends[c]; i++) end = plain_put(end, plain_literal(w.literals[i]), ' ');
         end = plain_put(end, 0, '\n');
     }
     text_len = (size_t)(end - text);
@@ -190,6 +190,14 @@ static void full_rows(unsigned rows)
         for (unsigned i = 0; i < w.n; i++) w.images[r * w.n + i] = (uint16_t)shifted(2 * (i + 1), 4 * (r + 1));
 }
 
+/* The same, but that every other variable is shifted two less, to a negation. */
+static void full_turning_rows(unsigned rows)
+{
+    w.rows = rows;
+    for (unsigned r = 0; r < rows; r++)
+        for (unsigned i = 0; i < w.n; i++) w.images[r * w.n + i] = (uint16_t)shifted(2 * (i + 1) + i % 2, 4 * (r + 1) - 2 * (i % 2));
+}
+
 /* Offers of the shifts by one, by two and so on. */
 static void write_offers(unsigned count)
 {
@@ -198,7 +206,7 @@ static void write_offers(unsigned count)
     names_len = (size_t)(name - names);
     for (unsigned k = 0; k < count; k++) {
         uint8_t *value = values[k];
-        for (unsigned i = 1; i <= w.n; i++) value = plain_put(value, (int)(shifted(2 * i, k + 1) / 2), ' ');
+        for (unsigned i = 1; i <= w.n; i++) value = plain_put(value, plain_literal(shifted(2 * i, k + 1)), ' ');
         values_len[k] = (size_t)(value - values[k]);
     }
 }
@@ -227,11 +235,20 @@ static void spoil(unsigned c)
 static void to_open(unsigned n, unsigned m, unsigned rows) { closed_formula(n, m), full_rows(rows), write_text(0), memset(&w, 0, sizeof w); }
 static void to_open_remarked(unsigned n, unsigned m, unsigned rows) { closed_formula(n, m), full_rows(rows), write_text(1), memset(&w, 0, sizeof w); }
 static void to_offer(unsigned n, unsigned m, unsigned rows) { closed_formula(n, m), full_rows(rows - 1), write_offers(1); }
+static void to_offer_turning(unsigned n, unsigned m, unsigned rows) { turning = 1, to_offer(n, m, rows), turning = 0; }
 static void to_refuse_last(unsigned n, unsigned m, unsigned rows) { to_offer(n, m, rows), spoil(m - 1); }
 static void to_refuse_first(unsigned n, unsigned m, unsigned rows) { to_offer(n, m, rows), spoil(0); }
 static void to_start_up(unsigned n, unsigned m, unsigned rows) { closed_formula(n, m), write_offers(rows); }
-static void to_write(unsigned n, unsigned m, unsigned rows) { closed_formula(n, m), full_rows(rows), step = rows > 1 ? 500 : 1; }
 static void to_check(unsigned n, unsigned m, unsigned rows) { closed_formula(n, m), full_rows(rows), fill_in(&plain), w.said = 0; }
+static void to_check_turning(unsigned n, unsigned m, unsigned rows) { closed_formula(n, m), full_turning_rows(rows), fill_in(&plain), w.said = 0; }
+
+static void to_write(unsigned n, unsigned m, unsigned rows)
+{
+    closed_formula(n, m);
+    full_rows(rows);
+    step = rows > 1 ? 500 : 1;
+    last = m + 6 * rows * (n - 1);
+}
 
 /* One clause of as many literals as there can be, and nothing else. */
 static void to_write_long(unsigned n, unsigned m, unsigned rows)
@@ -240,6 +257,7 @@ static void to_write_long(unsigned n, unsigned m, unsigned rows)
     w.m = m;
     w.rows = rows;
     w.ends[0] = MAX_L;
+    last = m;
     for (unsigned i = 0; i < MAX_L; i++) w.literals[i] = (uint16_t)(2 + chance(2 * n));
     write_keys();
 }
@@ -277,6 +295,24 @@ static void to_count(unsigned n, unsigned m, unsigned rows)
         for (unsigned r = d; r < rows; r++)
             for (unsigned i = 0; i < 8; i++) w.images[r * n + first + i] = (uint16_t)(2 * (first + (i + 7) % 8 + 1));
     }
+}
+
+/* Row r turns the signs of the last r + 1 variables, which makes an assignment smaller where the first of these is true: the rows count down in binary. From
+   the last twelve true that makes 2^12 - 1 moves. */
+static void to_turn(unsigned n, unsigned m, unsigned rows)
+{
+    (void)m;
+    unmoved_rows(n, rows);
+    for (unsigned r = 0; r < rows; r++)
+        for (unsigned i = n - r; i <= n; i++) w.images[r * n + i - 1] = (uint16_t)(2 * i + 1);
+    for (unsigned i = n - 12; i < n; i++) set(w.a, i);
+}
+
+static void to_write_turning(unsigned n, unsigned m, unsigned rows)
+{
+    to_turn(n, m, rows);
+    step = 30;
+    last = 1 + 6 * (rows * (rows - 1) / 2); /* the first row moves one variable and has one clause */
 }
 
 /* One true variable, number `rows`. Row r shifts all to the left by r + 1, which is no smaller, but the last row to the right by one: n - rows moves, at each of
@@ -328,19 +364,24 @@ static const job jobs[] = {
     {"open: 512 variables, 4,096 clauses, 12,288 literals", to_open, open, 512, 4096, 0, 0, 0},
     {"open the same with a remark above each clause", to_open_remarked, open, 512, 4096, 0, 0, 0},
     {"offer accepted, the same formula, row 64", to_offer, offer, 512, 4096, 64, 0, 64},
+    {"offer accepted that turns every sign, row 64", to_offer_turning, offer, 512, 4096, 64, 0, 64},
     {"offer refused at clause 4,096", to_refuse_last, offer, 512, 4096, 64, SYMBREAK_NO_SYMMETRY, 4096},
     {"offer refused at clause 1", to_refuse_first, offer, 512, 4096, 64, SYMBREAK_NO_SYMMETRY, 1},
     {"start-up: forty offers accepted, the same formula, rows 1 to 40", to_start_up, start_up, 512, 4096, OFFERS, 0, OFFERS},
     {"withdraw, the same formula, 64 full rows", to_write, withdraw, 512, 4096, 64, 0, 63},
     {"header and every 500th clause of 200,320, 64 full rows", to_write, write, 512, 4096, 64, 0, 25},
     {"header and 3,066 clauses, 1 full row, no plain clauses", to_write, write, 512, 0, 1, 0, 15},
+    {"header and every 30th clause of 12,097, 64 rows that turn 1 to 64 signs", to_write_turning, write, 512, 0, 64, 0, 18},
     {"one clause of 12,288 literals, no rows", to_write_long, clause, 512, 1, 0, 0, 52701},
     {"fill in, 64 full rows", to_write, fill_in, 512, 4096, 64, 0, 519},
     {"check, 64 full rows, all clauses true", to_check, check, 512, 4096, 64, 0, 0},
+    {"check, 64 full rows that turn every other sign, all clauses true", to_check_turning, check, 512, 4096, 64, 0, 0},
     {"descend, 1,056 moves, 64 exchanges of neighbours", to_exchange, descend, 512, 0, 64, 0, 1056},
     {"the same against C that notes what rows move", to_exchange, descend_noting, 512, 0, 64, 0, 1056},
     {"descend, 4,095 moves, a counter of 64 rows", to_count, descend, 512, 0, 64, 0, 4095},
     {"the same against C that notes what rows move", to_count, descend_noting, 512, 0, 64, 0, 4095},
+    {"descend, 4,095 moves, 64 rows that turn 1 to 64 signs", to_turn, descend, 512, 0, 64, 0, 4095},
+    {"the same against C that notes what rows move", to_turn, descend_noting, 512, 0, 64, 0, 4095},
     {"descend, 448 moves, 64 full rows", to_shift, descend, 512, 0, 64, 0, 448},
     {"the same against C that notes what rows move", to_shift, descend_noting, 512, 0, 64, 0, 448},
     {"compare 519 words, alike but for the last bit", to_compare, compare, 512, 4096, 64, 0, 64 * 519},

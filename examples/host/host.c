@@ -1,6 +1,6 @@
 /* host FORMULA PERMUTATIONS [OUT]: a formula's whole life in libsymbreak, from its text to the layout that is built.
- * FORMULA is DIMACS CNF; PERMUTATIONS is a line of names, then a line of values for each permutation, or `-` to take the newest one held back. The made formula
- * goes to OUT, or to a temporary file. */
+ * FORMULA is DIMACS CNF; PERMUTATIONS is a line of names, then a line of values for each permutation, negative where it turns a sign, or `-` to take the newest
+ * one held back. The made formula goes to OUT, or to a temporary file. */
 #include <stdlib.h>
 
 #include "refusals.h"

@@ -19,7 +19,7 @@ static const struct {
     [SYMBREAK_NAME_NOT_NUMBER] = {"a word of the names line is no number", "byte"},
     [SYMBREAK_BAD_NAME] = {"a name is no variable or comes twice, or there is no name", "byte"},
     [SYMBREAK_VALUE_NOT_NUMBER] = {"a word of the value line is no number", "byte"},
-    [SYMBREAK_BAD_VALUE] = {"a value is no name or comes twice, or there are too few", "byte"},
+    [SYMBREAK_BAD_VALUE] = {"a value without its sign is no name or comes twice, or there are too few", "byte"},
     [SYMBREAK_NO_SYMMETRY] = {"it is no symmetry, the formula lacks the image of a clause", "clause"},
     [SYMBREAK_BAD_ASSIGNMENT] = {"an assignment has the wrong length or a spare bit set", NULL},
     [SYMBREAK_NO_SUCH_CLAUSE] = {"there is no clause of this number", NULL},

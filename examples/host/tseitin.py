@@ -22,8 +22,8 @@ def grid(size):
 
 
 def urquhart(size):
-    """The edges of a graph like Urquhart's: `size` points on either side, and five ways to pair the two sides, drawn by chance, without an edge in common. The
-    first two are not drawn and make a ring of all points."""
+    """The edges of a graph like Urquhart's: `size` points on either side, and five ways to pair the two sides, no two with an edge in common. Two make a ring of
+    all points, and three are drawn by chance."""
     chance, side = random.Random(1), range(size)
     pairings = [[*side], [*side[1:], 0]]
     while len(pairings) < DEGREE:

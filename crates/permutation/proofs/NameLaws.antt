@@ -36,25 +36,30 @@ module _ (n code : ℕ) where
 
 -- ---- the ways out of `name_of` and `size_of`
 
-module _ (n s : ℕ) where
-  pub name-negative : 0 ≡ cond (isName n (codeOf s true)) s 0
+module _ (n : ℕ) (x : Number) where
+  abbrev code : ℕ
+  code = codeOf (x .size) (x .negative)
+
+  its-size : variableOf code ≡ x .size
+  its-size = half (x .size) (x .negative)
+
+  pub name-negative : x .negative ≡ true → 0 ≡ cond (isName n code) (x .size) 0
   unfolding isName
-  name-negative = rw (eq-eqb (codeOf s true % 2) 1 (omega arith), and-false (isLiteral n (codeOf s true)))
+  name-negative minus = rw (minus, eq-eqb (codeOf (x .size) true % 2) 1 (omega arith), and-false (isLiteral n (codeOf (x .size) true)))
 
-  module _ (negative : Bool) where
-    pub name-positive : negative ≡ false → isName n (codeOf s negative) ≡ isLiteral n (codeOf s negative)
-    unfolding isName
-    name-positive plus = rw (plus, ne-eqb (codeOf s false % 2) 1 (λ e. omega arith)) (and-true (isLiteral n (codeOf s false)))
+  pub name-positive : x .negative ≡ false → isName n code ≡ isLiteral n code
+  unfolding isName
+  name-positive plus = rw (plus, ne-eqb (codeOf (x .size) false % 2) 1 (λ e. omega arith)) (and-true (isLiteral n (codeOf (x .size) false)))
 
-    pub size-beyond : n < s → 0 ≡ cond (isLiteral n (codeOf s negative)) s 0
-    size-beyond h = rw (not-so (isLiteral n (codeOf s negative)) (λ l. omega (arith, literal-high n (codeOf s negative) l, half s negative)))
+  pub size-beyond : n < x .size → 0 ≡ cond (isLiteral n code) (x .size) 0
+  size-beyond h = rw (not-so (isLiteral n code) (λ l. omega (arith, literal-high n code l, its-size)))
 
-    pub size-within : s ≤ n → s ≡ cond (isLiteral n (codeOf s negative)) s 0
-    size-within h = by (ℕ-discrete s 0)
-      where
-        by : Dec (s ≡ 0) → s ≡ cond (isLiteral n (codeOf s negative)) s 0
-        by (yes e) = rw (literal-zero n (codeOf s negative) (half s negative ∙ e)) e
-        by (no z) = rw (literal-within n (codeOf s negative) (omega (arith, half s negative)) (omega (arith, half s negative)))
+  pub size-within : x .size ≤ n → x .size ≡ cond (isLiteral n code) (x .size) 0
+  size-within h = by (ℕ-discrete (x .size) 0)
+    where
+      by : Dec (x .size ≡ 0) → x .size ≡ cond (isLiteral n code) (x .size) 0
+      by (yes e) = rw (literal-zero n code (its-size ∙ e)) e
+      by (no z) = rw (literal-within n code (omega (arith, its-size)) (omega (arith, its-size)))
 
 -- ---- what they answer for a code
 

@@ -40,7 +40,7 @@ places : (c : tie.Then1 Inv-loop μ-loop) → let l = c .before .before .before 
     (2 * (l .loop .i + 1) < length (a .values .now)) × (getD (a .row .now) (l .loop .i) 0 < length (a .values .now))
 places c =
     let l = c .before .before .before in
-    placed-here (l .before .args .values .now) (l .before .args .row .now) (l .loop .i) (inside (c .before .before)) (l .loop .inv .2) (c .if1 .taken)
+    placed-here (l .before .args .values .now) (l .before .args .row .now) (l .loop .i) (inside (c .before .before)) (l .loop .inv .2) (λ own. c .if1 .taken (omega (arith, own)))
 
 shared-slice-read-value : tie.Need-shared-slice-read-value Inv-loop μ-loop
 shared-slice-read-value c = places (c .before) .0
@@ -52,7 +52,7 @@ returns : tie.Need-returns Inv-loop μ-loop
 returns c =
     let t = c .before .before .before in
     let l = t .before .before .before in
-    let here = found-here _ (l .before .args .row .now) (l .loop .i) (inside (t .before .before)) (t .if1 .taken) (c .if2 .taken) in
+    let here = found-here _ (l .before .args .row .now) (l .loop .i) (inside (t .before .before)) (λ own. t .if1 .taken (omega (arith, own))) (c .if2 .taken) in
     (sym (l .loop .inv .1 .variable ∙ here .0), sym (l .loop .inv .1 .yes ∙ here .1))
 
 loop-again : tie.Need-loop-again Inv-loop μ-loop
@@ -66,8 +66,10 @@ loop-again c =
     let p = l .loop .inv .2 in
     let on : SameFound value (pairsAt i row) (pairsAt (i + 1) row) × (placed values (pairsAt (i + 1) row) ≡ true) =
     ⊎-elim
-    (λ f. (found-alike value row i (inside t) (f .0 .taken) (f .3 .left), placed-alike values row i (inside t) p (f .0 .taken) (f .3 .left)))
-    (λ f. (found-past value row i (inside t) (f .left), placed-past values row i (inside t) p (f .left))) (c .if1 .came) in
+    (λ f. let moved : getD row i 0 ≡ 2 * (i + 1) → ⊥ = λ own. f .0 .taken (omega (arith, own)) in
+        (found-alike value row i (inside t) moved (f .3 .left), placed-alike values row i (inside t) p moved (f .3 .left)))
+    (λ f. let stays : getD row i 0 ≡ 2 * (i + 1) = omega (arith, f .left) in
+        (found-past value row i (inside t) stays, placed-past values row i (inside t) p stays)) (c .if1 .came) in
     (omega arith, found-on value (l .loop .inv .1) (on .0), on .1)
 
 returns-2 : tie.Need-returns-2 Inv-loop μ-loop

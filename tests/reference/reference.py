@@ -1,9 +1,9 @@
-"""Reference symmetry breaker: document 01 with CR 1 to CR 5 of document 02, written from the papers, naive on purpose.
+"""Reference symmetry breaker: document 01 with CR 1 to CR 6 of document 02, written from the papers, naive on purpose.
 
 A call answers ('refused', number, place) or ('done', value...).  A call that may write lent memory returns that
 answer followed by the new contents of each thing it may write; nothing lent is ever changed in place.
 `lesser` and `new_record` can refuse nothing and return their value bare.
-Inside, a clause is a list of signed literals, a row is {i: p(i)} and an assignment is {variable: bool}.
+Inside, a clause is a list of signed literals, a row is {i: p(i)} with literals p(i), and an assignment is {variable: bool}.
 """
 from __future__ import annotations
 
@@ -181,7 +181,8 @@ def literal_of(code: int) -> int:
 
 
 def badly_formed(record, literals, ends, keys, images) -> bool:
-    """"a slice too short for the counts, ends that fall or pass the literals, .." (21); "A stored key that isn't its clause's sum" too (CR 5)."""
+    """"a slice too short for the counts, ends that fall or pass the literals, .." (21); "A stored key that isn't its clause's sum" too (CR 5), and
+    "a row with a size that is 0, over n or repeated" (CR 6)."""
     n, m, rows = record.variables, record.clauses, record.rows
     if n > MAX_VARIABLES or m > MAX_CLAUSES or rows > MAX_ROWS:
         return True
@@ -194,8 +195,8 @@ def badly_formed(record, literals, ends, keys, images) -> bool:
         return True
     if any(keys[q] != key_of(clause_) for q, clause_ in enumerate(plain_clauses(record, literals, ends))):
         return True
-    identity = [2 * i for i in range(1, n + 1)]
-    return any(sorted(images[r * n:(r + 1) * n]) != identity for r in range(rows))
+    sizes = list(range(1, n + 1))
+    return any(sorted(code // 2 for code in images[r * n:(r + 1) * n]) != sizes for r in range(rows))
 
 
 def require_store(record, literals, ends, keys, images) -> None:
@@ -213,9 +214,9 @@ def plain_clauses(record, literals, ends) -> List[Clause]:
 
 
 def rows_of(record, images) -> List[Row]:
-    """"the images of the accepted permutations, one row of n each"."""
+    """"the images of the accepted permutations, one row of n each"; CR 6: "Rows hold signed values"."""
     n = record.variables
-    return [{i: images[r * n + i - 1] // 2 for i in range(1, n + 1)} for r in range(record.rows)]
+    return [{i: literal_of(images[r * n + i - 1]) for i in range(1, n + 1)} for r in range(record.rows)]
 
 
 def line_numbers(line: bytes, refusal: int) -> List[Tuple[int, int]]:
@@ -240,10 +241,10 @@ def read_names(line: bytes, n: int) -> List[int]:
 
 
 def read_values(line: bytes, names: List[int]) -> List[int]:
-    """"A value that isn't a name or is repeated, or too few (place: length)" (10)."""
+    """"A value that isn't a name or is repeated, or too few (place: length)" (10); CR 6: "A value may now be -i: its size must be a name not yet used"."""
     values: List[int] = []
     for place, number in line_numbers(line, 9):
-        if number not in names or number in values:
+        if abs(number) not in names or abs(number) in map(abs, values):
             raise Refusal(10, place)
         values.append(number)
     if len(values) < len(names):
@@ -259,7 +260,7 @@ def stated_row(n: int, names: List[int], values: List[int]) -> Row:
 
 
 def image(clause_: frozenset, row: Row) -> frozenset:
-    """"A clause's image replaces each variable i by p(i) and keeps signs"."""
+    """"A clause's image replaces each variable i by p(i)"; CR 6: "The image of a literal takes its sign from both"."""
     return frozenset(row[literal] if literal > 0 else -row[-literal] for literal in clause_)
 
 
@@ -283,7 +284,7 @@ def offer(record, literals, ends, keys, images, names: bytes, values: bytes):
     require_symmetry(plain_clauses(record, literals, ends), row)
     if len(images) < (held + 1) * n:
         raise Refusal(23, (held + 1) * n)
-    codes = [2 * row[i] for i in range(1, n + 1)]
+    codes = [literal_code(row[i]) for i in range(1, n + 1)]
     return ("done",), record._replace(rows=held + 1), overwritten(images, codes, held * n)
 
 
@@ -297,7 +298,7 @@ def withdraw(record, literals, ends, keys, images):
 
 
 def moved_variables(row: Row) -> List[int]:
-    """"An accepted row has moved variables x1 < .. < xk"."""
+    """"An accepted row has moved variables x1 < .. < xk"; CR 6: "a variable sent to its own negation counts as moved"."""
     return [i for i in sorted(row) if row[i] != i]
 
 
@@ -307,8 +308,10 @@ def auxiliaries(row: Row) -> int:
 
 
 def row_clauses(row: Row, last: int) -> Iterator[Clause]:
-    """"six clauses for each auxiliary j, written in this order", numbered on from `last`."""
+    """"six clauses for each auxiliary j, written in this order", numbered on from `last`; CR 6: "A row with k = 1 adds the single clause -x1 y1"."""
     xs = [0, *moved_variables(row)]
+    if len(xs) == 2:
+        yield [-xs[1], row[xs[1]]]
     for j in range(1, len(xs) - 1):
         x, y, e, before = xs[j], row[xs[j]], last + j, last + j - 1
         x_next, y_next = xs[j + 1], row[xs[j + 1]]
@@ -330,9 +333,10 @@ def made_formula(record, literals, ends, _keys, images) -> Iterator[Clause]:
 
 
 def made_counts(record, images) -> Tuple[int, int]:
-    """"N = n + the sum of (k-1) over the rows that move something, and M = m + 6 times that sum"."""
-    added = sum(auxiliaries(row) for row in rows_of(record, images))
-    return record.variables + added, record.clauses + 6 * added
+    """"N = n + the sum of (k-1) over the rows that move something, and M = m + 6 times that sum"; CR 6: k = 1 adds a clause, "and M counts it"."""
+    counts = [len(moved_variables(row)) for row in rows_of(record, images)]
+    added = sum(k - 1 for k in counts if k > 0)
+    return record.variables + added, record.clauses + 6 * added + counts.count(1)
 
 
 def header_line(record, images) -> bytes:
@@ -422,9 +426,14 @@ def lesser(a: List[int], b: List[int]) -> str:
     return "second" if less(dict(enumerate(bits(b), 1)), dict(enumerate(bits(a), 1))) else "first"
 
 
+def value(literal: int, a: Assignment) -> bool:
+    """"Literal i means variable i is true, -i that it is false": A(-i) is "the negated value" (CR 6) of A(i)."""
+    return a[abs(literal)] == (literal > 0)
+
+
 def moved(row: Row, a: Assignment) -> Assignment:
-    """"A moved by p has, at variable i, the value A(p(i))"."""
-    return {i: a[row[i]] for i in a}
+    """"A moved by p has, at variable i, the value A(p(i))"; CR 6: "A moved takes the negated value"."""
+    return {i: value(row[i], a) for i in a}
 
 
 def lowers(row: Row, a: Assignment) -> bool:
@@ -435,14 +444,14 @@ def lowers(row: Row, a: Assignment) -> bool:
 def trial(row: Row, a: Assignment) -> Tuple[bool, int]:
     """CR 2: "look at the row's moved variables alone and stop at the first that decides"; yes or no, and "the variable that decided .. or 0 where none does"."""
     for x in moved_variables(row):
-        if a[x] != a[row[x]]:
+        if a[x] != value(row[x], a):
             return a[x], x
     return False, 0
 
 
 def true_clause(clause_: Clause, a: Assignment) -> bool:
     """"every clause has a true literal"."""
-    return any(a[abs(literal)] == (literal > 0) for literal in clause_)
+    return any(value(literal, a) for literal in clause_)
 
 
 def filled_in(record, images, a: Assignment) -> Assignment:

@@ -1,8 +1,10 @@
 """Tests of the reference: the worked cases of 01, the examples of the readings A-I, the tables of 000, demand 3 by brute force."""
 import copy
 import itertools
+import operator
 import random
 import unittest
+from collections import Counter
 
 import reference as ref
 import tables
@@ -43,8 +45,8 @@ class Host:
         """Hold these rows, symmetries or not."""
         n = self.record.variables
         self.record = self.record._replace(rows=len(rows))
-        self.images = [2 * value for row in rows for value in row] + self.images
-        assert all(sorted(row) == list(range(1, n + 1)) for row in rows)
+        self.images = [ref.literal_code(value) for row in rows for value in row] + self.images
+        assert all(sorted(map(abs, row)) == list(range(1, n + 1)) for row in rows)
         return self
 
 
@@ -276,7 +278,7 @@ class OfferReadings(unittest.TestCase):
     def test_places(self):
         cases = [(b"4 x", b"", 7, 2), (b"1 3\r", b"", 7, 2), (b"4", b"x", 8, 0), (b"1 3", b"3 3 x", 9, 4),
                  (b"  ", b"x", 8, 2), (b"", b"", 8, 0), (b"1 3", b"2", 10, 0), (b"1 3", b"3 1 2", 10, 4),
-                 (b"1 3", b" 3\t", 10, 3), (b"-1", b"", 8, 0), (b"1 0", b"", 8, 2), (b"1 3", b"-3 1", 10, 0),
+                 (b"1 3", b" 3\t", 10, 3), (b"-1", b"", 8, 0), (b"1 0", b"", 8, 2), (b"1 3", b"-2 1", 10, 0),
                  (b"1 3", b"0 1", 10, 0), (b"999999", b"", 8, 0), (b"1000000", b"", 7, 0), (b"1 2 3", b"2 3 1", 11, 2)]
         for names, values, number, place in cases:
             self.assertEqual(Host().offer(names, values), ("refused", number, place), (names, values))
@@ -302,6 +304,86 @@ class OfferReadings(unittest.TestCase):
         self.assertEqual(host.offer(b"1 2", b"2 1"), ("refused", 11, 2))
 
 
+SQUARE = b"p cnf 3 4\n1 2 3 0\n1 -2 3 0\n-1 -2 3 0\n-1 2 3 0\n"  # which exchanges and negations of 1 and 2 keep
+
+
+class Signs(unittest.TestCase):
+    """CR 6 and readings C6, C7, D4, D7, E1, E2 and O3."""
+
+    def test_offers(self):
+        cases = [(b"1", b"-1", [3, 4, 6]), (b"1 2", b"-2 1", [5, 2, 6]), (b"2 1", b"-1 -2", [5, 3, 6]), (b"1 2 3", b"2 -1 3", [4, 3, 6]),
+                 (b"3", b"-3", 1), (b"1 3", b"-3 -1", 1), (b"1 3", b"3 1", 3), (b"1 3", b"3 -1", 3), (b"2 3", b"3 -2", 2)]
+        for names, values, expected in cases:
+            host, accepted = Host(SQUARE), isinstance(expected, list)
+            self.assertEqual(host.offer(names, values), ("done",) if accepted else ("refused", 11, expected), (names, values))
+            self.assertEqual(host.images[:4], [*expected, 7] if accepted else [7] * 4)
+
+    def test_sign_from_both(self):
+        """The image of a negative literal by a negative value is positive."""
+        self.assertEqual(Host(b"p cnf 2 1\n-1 2 0").offer(b"1 2", b"-2 -1"), ("done",))
+        self.assertEqual(Host(b"p cnf 2 1\n1 2 0").offer(b"1 2", b"-2 -1"), ("refused", 11, 1))
+        self.assertEqual(Host(b"p cnf 2 2\n1 2 0 2 -1 0").offer(b"1", b"-1"), ("done",))
+        self.assertEqual(Host(b"p cnf 2 3\n1 2 0 2 -1 0 1 0").offer(b"1", b"-1"), ("refused", 11, 3))
+        self.assertEqual(Host(b"p cnf 2 2\n-1 -1 0 1 0").offer(b"1", b"-1"), ("done",))
+        self.assertEqual(Host(b"p cnf 2 2\n1 -1 0 -2 2 0").offer(b"2 1", b"-1 2"), ("done",))
+
+    def test_places(self):
+        """A value's size is a name not yet used; 0 is none, and -0 no number. Names have no signs."""
+        cases = [(b"-2 1", 10, 0), (b"-4 1", 10, 0), (b"3 -3", 10, 2), (b"-3 3", 10, 3), (b"-3 -3", 10, 3), (b"-1", 10, 2), (b"-3 -1 1", 10, 6),
+                 (b"0 1", 10, 0), (b"-999999 1", 10, 0), (b"-0 1", 9, 0), (b"3 --1", 9, 2), (b"-3 3 -", 9, 5), (b"3 -01", 9, 2), (b"-1000000", 9, 0),
+                 (b"-3 1", 11, 1), (b"3 -1", 11, 2), (b"-3 -1", 11, 1)]
+        for values, number, place in cases:
+            self.assertEqual(Host().offer(b"1 3", values), ("refused", number, place), values)
+        self.assertEqual(Host().offer(b"1 2", b"2 -2"), ("refused", 10, 2))
+        for names, number, place in (b"-1", 8, 0), (b"1 -3", 8, 2), (b"-0", 7, 0):
+            self.assertEqual(Host().offer(names, b"-1"), ("refused", number, place), names)
+
+    def test_single_clause(self):
+        """A row that moves one variable: a clause, written with both its literals, and no auxiliary."""
+        host = Host(b"p cnf 2 0")
+        self.assertEqual((host.offer(b"1", b"-1"), ref.made_text(*host.store)), (("done",), b"p cnf 2 1\n-1 -1 0\n"))
+        self.assertEqual((host.offer(b"1 2", b"1 -2"), ref.made_text(*host.store)), (("done",), b"p cnf 2 2\n-1 -1 0\n-2 -2 0\n"))
+        self.assertEqual((fill_in(host, "10")[1], descend(host, "11")), (words("10"), (("done", "settled", 2), "00")))
+        for a, answer in ("00", 0), ("10", 1), ("01", 2), ("11", 1):
+            self.assertEqual(ref.check(*host.store, words(a)), ("done", answer), a)
+        for _ in range(62):
+            self.assertEqual(host.offer(b"1", b"-1"), ("done",))
+        self.assertEqual((host.offer(b"1", b"-1"), ref.made_counts(host.record, host.images)), (("refused", 22, 0), (2, 64)))
+        lent = Host(b"p cnf 1 1\n1 0").with_rows((-1,))
+        self.assertEqual([ref.check(*lent.store, words(a)) for a in "01"], [("done", 1), ("done", 2)])
+
+    def test_made(self):
+        """Auxiliaries are numbered on past the single clause's row."""
+        self.assertEqual(ref.program(SQUARE + b"%\n1 2\n-1 2\n-2 1\n"),
+                         SQUARE.replace(b"3 4", b"4 11") + b"-1 -1 0\n-1 -2 0\n-4 -1 -2 0\n-4 1 2 0\n4 1 -2 0\n4 -1 2 0\n-4 -2 1 0\n")
+        self.assertEqual(ref.program(b"p cnf 3 0\n%\n1 2 3\n3 -2 1\n"),
+                         b"p cnf 5 12\n-1 3 0\n-4 -1 3 0\n-4 1 -3 0\n4 1 3 0\n4 -1 -3 0\n-4 -2 -2 0\n"
+                         b"-5 4 0\n-5 -2 -2 0\n-5 2 2 0\n5 -4 2 -2 0\n5 -4 -2 2 0\n-5 -3 1 0\n")
+
+    def test_assignments(self):
+        """Each A with what it fills in as, the first clause that is false then, the moves of its descent and its end."""
+        cases = {(-2, 1): [("00", "0", 0, 0, "00"), ("01", "1", 6, 1, "00"), ("10", "1", 0, 0, "10"), ("11", "0", 1, 2, "00")],
+                 (3, -2, 1): [("000", "10", 0, 0, "000"), ("001", "00", 0, 0, "001"), ("010", "10", 6, 1, "000"), ("011", "00", 0, 0, "011"),
+                              ("100", "00", 1, 1, "011"), ("101", "10", 0, 0, "101"), ("110", "00", 1, 1, "001"), ("111", "10", 6, 1, "101")]}
+        for row, table in cases.items():
+            host = Host(b"p cnf %d 0" % len(row)).with_rows(row)
+            for a, setting, false, moves, end in table:
+                self.assertEqual(fill_in(host, a), (("done", 1), words(a + setting)))
+                self.assertEqual(ref.check(*host.store, words(a + setting)), ("done", false), a)
+                self.assertEqual(descend(host, a), (("done", "settled", moves), end))
+        turned = Host(b"p cnf 2 0").with_rows((-2, 1))
+        self.assertEqual((descend(turned, "11", 0), descend(turned, "11", 1)), ((("done", "spent", 0), "11"), (("done", "spent", 1), "01")))
+        for full, answer in ("001", 3), ("010", 4), ("100", 5), ("111", 1):
+            self.assertEqual(ref.check(*turned.store, words(full)), ("done", answer), full)
+
+    def test_lent(self):
+        """Odd codes are negative values."""
+        for images, row in ([6, 4, 3], (3, 2, -1)), ([7, 5, 3], (-3, -2, -1)), ([2, 5, 6], (1, -2, 3)):
+            store = ref.Record(3, 2, 1, True), [2, 4, 4, 6], [2, 4], LISTING_KEYS, images
+            self.assertEqual((ref.badly_formed(*store), ref.rows_of(store[0], images)), (False, [dict(enumerate(row, 1))]))
+        self.assertEqual(ref.made_counts(ref.Record(3, 2, 3, True), [6, 4, 3, 7, 5, 3, 2, 5, 6]), (3 + 1 + 2, 2 + 6 + 12 + 1))
+
+
 class StoreReadings(unittest.TestCase):
     """Readings D: 20 and 21 in every call that needs an open store, entries past those in use not looked at."""
 
@@ -318,8 +400,8 @@ class StoreReadings(unittest.TestCase):
                     (0, good[0]._replace(clauses=4097)), (0, good[0]._replace(clauses=TOP)),
                     (0, good[0]._replace(rows=65)), (0, good[0]._replace(rows=TOP)), (0, good[0]._replace(clauses=3)),
                     (0, good[0]._replace(rows=2)), (0, good[0]._replace(variables=2)), (1, [2, 4, 4]), (2, [2]),
-                    (2, [3, 2]), (2, [2, 5]), (2, [65535, 4]), (4, [6, 4]), (4, [6, 4, 3]), (4, [6, 6, 2]),
-                    (4, [0, 4, 2]), (4, [6, 4, 8]), (1, [0, 4, 4, 6]), (1, [1, 4, 4, 6]),
+                    (2, [3, 2]), (2, [2, 5]), (2, [65535, 4]), (4, [6, 4]), (4, [6, 4, 7]), (4, [6, 6, 2]), (4, [3, 2, 6]),
+                    (4, [0, 4, 2]), (4, [1, 4, 2]), (4, [6, 4, 8]), (4, [6, 4, 9]), (1, [0, 4, 4, 6]), (1, [1, 4, 4, 6]),
                     (1, [8, 4, 4, 6]), (1, [9, 4, 4, 6]), (3, []), (3, LISTING_KEYS[:1]), (3, LISTING_KEYS[::-1]), (3, [LISTING_KEYS[0], 0])]
         for index, bad in variants:
             store = [bad if place == index else part for place, part in enumerate(good)]
@@ -393,15 +475,16 @@ class WritingAndAssignments(unittest.TestCase):
         host = Host(text, 12288, 4096, 4096, 64 * n)
         names = b" ".join(b"%d" % i for i in range(1, n + 1))
         for turn in range(1, 65):
-            self.assertEqual(host.offer(names, b" ".join(b"%d" % ((i + turn) % n + 1) for i in range(n))), ("done",))
+            row = [(i + turn) % n + 1 for i in range(n)]
+            row[-1] *= -1 if turn % 2 else 1
+            self.assertEqual(host.offer(names, b" ".join(b"%d" % value for value in row)), ("done",))
         self.assertEqual(call(ref.header, *host.store, [0] * 19, written=(5,))[1], list(b"p cnf 33216 200320\n"))
         self.assertEqual(sum(1 for _ in ref.made_formula(*host.store)), 200320)
         self.assertEqual(call(ref.clause, *host.store, 200320, [0] * 18, written=(6,))[0], ("done", 17))
-        for a in "0" * n, "1" * n, "0" * 256 + "1" * 256:
+        for a, false in ("0" * n, 0), ("1" * n, 4096 + 6 * 511), ("0" * 256 + "1" * 256, 0):
             answer, out = fill_in(host, a, 519)
-            self.assertEqual((answer, ref.check(*host.store, out)), (("done", 519), ("done", 0)))
-        answer, reached = descend(host, "1" + "0" * 511)
-        self.assertEqual((answer[1], reached), ("settled", "0" * 511 + "1"))
+            self.assertEqual((answer, ref.check(*host.store, out)), (("done", 519), ("done", false)))
+        self.assertEqual(descend(host, "1" + "0" * 511), (("done", "settled", 1), "0" * n))
 
 
 class ProgramReadings(unittest.TestCase):
@@ -436,16 +519,40 @@ def models(formula, a, free):
         yield from models(left, {**a, free[0]: value}, free[1:])
 
 
+def signed_rows(n):
+    """All permutations of 1..n, with all choices of signs."""
+    for sizes in itertools.permutations(range(1, n + 1)):
+        for signs in itertools.product((1, -1), repeat=n):
+            yield tuple(map(operator.mul, sizes, signs))
+
+
+def random_row(rng, n):
+    """A permutation of 1..n, half the time with signs, at times with signs alone."""
+    sizes = rng.sample(range(1, n + 1), n) if rng.random() < .8 else range(1, n + 1)
+    signs = rng.choice(((1,), (1, -1)))
+    return {i: rng.choice(signs) * size for i, size in enumerate(sizes, 1)}
+
+
+def applied(row, literal):
+    """p of a literal: p(-i) is -p(i)."""
+    return row[literal] if literal > 0 else -row[-literal]
+
+
+def carried(row, a):
+    """A moved by p."""
+    return {i: a[abs(row[i])] ^ (row[i] < 0) for i in a}
+
+
 def random_formula(rng, n):
     """A text, often the closure of some clauses under a random permutation, literals shuffled and repeated."""
-    row = dict(zip(range(1, n + 1), rng.sample(range(1, n + 1), n)))
+    row = random_row(rng, n)
     clauses = []
     for _ in range(rng.randint(0, 3)):
         c = [rng.choice((1, -1)) * rng.randint(1, n) for _ in range(rng.choice((0, 1, 2, 2, 3, 3)) if n else 0)]
         for _ in range(rng.choice((1, 60, 60))):
             if frozenset(c) not in map(frozenset, clauses):
                 clauses.append(rng.sample(c, len(c)) + c[:rng.randint(0, 1)])
-            c = [row[l] if l > 0 else -row[-l] for l in c]
+            c = [applied(row, l) for l in c]
     clauses += rng.sample(clauses, min(len(clauses), rng.randint(0, 1)))
     rng.shuffle(clauses)
     lines = [" ".join(map(str, [*c, 0])) for c in clauses]
@@ -460,13 +567,13 @@ class Demands(unittest.TestCase):
         n, accepted = host.record.variables, []
         power = {i: i for i in row}
         for _ in range(rng.randint(0, 5)):
-            power = {i: row[power[i]] for i in row}
-            chosen = power if rng.random() < .6 else dict(zip(row, rng.sample(list(row), n)))
+            power = {i: applied(row, power[i]) for i in row}
+            chosen = power if rng.random() < .6 else random_row(rng, n)
             names = [i for i in rng.sample(list(row), n) if chosen[i] != i or rng.random() < .3]
             values = [chosen[i] for i in names][:None if rng.random() < .9 else -1]
             answer = host.offer(" ".join(map(str, names)).encode(), " ".join(map(str, values)).encode())
             sets = {tuple(sorted(set(c))) for c in clauses}
-            images = {tuple(sorted({chosen[abs(l)] * (1 if l > 0 else -1) for l in c})) for c in clauses}
+            images = {tuple(sorted({applied(chosen, l) for l in c})) for c in clauses}
             right = bool(names) and len(values) == len(names) and images == sets
             self.assertEqual(answer == ("done",), right, answer)
             accepted += [chosen] if right else []
@@ -478,7 +585,6 @@ class Demands(unittest.TestCase):
         self.assertEqual((made[:len(clauses)], len(made)), (clauses, count))
         plain = list(models(clauses, {}, list(range(1, n + 1))))
         as_tuple = lambda a: tuple(a[i] for i in range(1, n + 1))
-        carried = lambda p, a: {i: a[p[i]] for i in a}
         kept = set()
         for a in plain:
             full = list(models(made, a, list(range(n + 1, total + 1))))
@@ -510,8 +616,8 @@ class Demands(unittest.TestCase):
                 self.assertTrue(end == as_tuple(a) if moves == 0 else end < as_tuple(a))
 
     def test_random_formulas(self):
-        rng, held = random.Random(17), 0
-        for _ in range(600):
+        rng, seen = random.Random(17), Counter()
+        for _ in range(550):
             text, clauses, row = random_formula(rng, rng.choice((0, 1, 2, 3, 4, 5, 6, 6)))
             host = Host(text, 128, 64, 64, 40)
             self.assertEqual(host.answer[0], "done")
@@ -519,24 +625,32 @@ class Demands(unittest.TestCase):
             self.assertEqual(ref.rows_of(host.record, host.images), accepted)
             self.assertEqual(host.images[len(accepted) * len(row):], [7] * (40 - len(accepted) * len(row)))
             self.demand_3(rng, host, clauses, accepted)
-            held += len(accepted)
-        self.assertGreater(held, 500)
+            for p in accepted:
+                moving = [i for i in p if p[i] != i]
+                seen.update(["held", "moving one" if len(moving) == 1 else "moving more" if moving else "identity"])
+                seen.update({"signed" for i in moving if p[i] < 0} | {"own negation" for i in moving if p[i] == -i})
+        for sort, least in ("held", 500), ("moving one", 30), ("moving more", 300), ("identity", 100), ("signed", 200), ("own negation", 100):
+            self.assertGreater(seen[sort], least, sort)
 
     def test_every_row_fills_in_uniquely(self):
-        for n in range(1, 6):
-            for p in itertools.permutations(range(1, n + 1)):
-                host = Host(b"p cnf %d 0" % n).with_rows(p)
-                made, (total, _) = list(ref.made_formula(*host.store)), ref.made_counts(host.record, host.images)
+        """Every row of up to four variables, signed or not, and pairs of them: kept is what none makes smaller, with one setting, and filling in writes it."""
+        rng = random.Random(18)
+        for n in range(1, 5):
+            rows = list(signed_rows(n))
+            for held in [[p] for p in rows] + [rng.choices(rows, k=2) for _ in range(100)]:
+                host = Host(b"p cnf %d 0" % n).with_rows(*held)
+                made, (total, count) = list(ref.made_formula(*host.store)), ref.made_counts(host.record, host.images)
+                self.assertEqual(len(made), count)
                 for bits in itertools.product((False, True), repeat=n):
                     a = dict(enumerate(bits, 1))
                     full = list(models(made, a, list(range(n + 1, total + 1))))
-                    lowered = ref.lowers(dict(enumerate(p, 1)), a)
+                    lowered = any(tuple(carried(dict(enumerate(p, 1)), a).values()) < bits for p in held)
                     self.assertEqual(full, [] if lowered else [ref.filled_in(host.record, host.images, a)])
 
     def test_trial_is_comparison(self):
-        """CR 2 and reading F9: every row of up to five variables on every assignment."""
-        for n in range(1, 6):
-            for p in itertools.permutations(range(1, n + 1)):
+        """CR 2 and reading F9: every row of up to four variables, signed or not, on every assignment."""
+        for n in range(1, 5):
+            for p in signed_rows(n):
                 row = dict(enumerate(p, 1))
                 for bits in itertools.product((False, True), repeat=n):
                     a = dict(enumerate(bits, 1))

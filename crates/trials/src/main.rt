@@ -12,6 +12,11 @@ fn main() {
     tried(b"1 to 6, 6 to 3, 3 to 1\n", &[12, 4, 2, 8, 10, 6]);
     tried(b"turned round\n", &[12, 10, 8, 6, 4, 2]);
     tried(b"all to the next\n", &[4, 6, 8, 10, 12, 2]);
+    tried(b"3 to -3\n", &[2, 4, 7, 8, 10, 12]);
+    tried(b"1 to 4, 4 to -1\n", &[8, 4, 6, 3, 10, 12]);
+    tried(b"2 to -6, 6 to -2\n", &[2, 13, 6, 8, 10, 5]);
+    tried(b"1 to -2, 2 to -3, 3 to -1, 5 to -5\n", &[5, 7, 3, 8, 11, 12]);
+    tried(b"all negated\n", &[3, 5, 7, 9, 11, 13]);
 }
 
 fn tried(name: &[u8], row: &[u16]) {

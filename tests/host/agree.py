@@ -12,6 +12,11 @@ def told(record):
     return record._replace(open=bool(record.open))
 
 
+def held(host):
+    """The rows of a well formed store, as lists of images."""
+    return [list(row.values()) for row in reference.rows_of(host.record, host.images[:])]
+
+
 class Agree(unittest.TestCase):
     def open(self, host, text):
         record, literals, ends, keys, images = before = host.parts()

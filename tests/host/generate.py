@@ -7,19 +7,43 @@ import library  # which makes the reference importable
 import reference
 
 
+def turned(chance, values):
+    """The same values, or half the time with signs turned: of one, of some or of all."""
+    if not values or chance.random() < 0.5:
+        return values
+    negative = chance.sample(range(len(values)), chance.choice([1, chance.randint(1, len(values)), len(values)]))
+    return [-value if at in negative else value for at, value in enumerate(values)]
+
+
 def permutation(chance, n):
-    """A permutation of 1..n as a list of images, more often one that moves little."""
+    """A permutation of 1..n as a list of images, half the time with signs, more often one that moves little."""
     images = list(range(1, n + 1))
     moving = chance.sample(range(n), chance.randint(0, n)) if chance.random() < 0.5 else chance.sample(range(n), min(n, 2))
     values = [images[i] for i in moving]
     chance.shuffle(values)
-    for i, value in zip(moving, values):
+    for i, value in zip(moving, turned(chance, values)):
         images[i] = value
     return images
 
 
 def image(clause, images):
+    """A clause's image. A permutation is a list of literals too, and its image is the product: first the one, then the other."""
     return [images[abs(literal) - 1] * (1 if literal > 0 else -1) for literal in clause]
+
+
+def moved(row, digits):
+    """An assignment as digits moved by a permutation: at a negative image its digit is turned."""
+    return "".join("01"[(digits[abs(value) - 1] == "1") == (value > 0)] for value in row)
+
+
+SORTS = ["unsigned", "signed", "moves one", "own negation"]
+
+
+def sorts(row):
+    """Of which sorts a permutation is: it moves something and turns no sign, it turns signs, it moves one variable, it negates a variable and moves another."""
+    moved = [(i, value) for i, value in enumerate(row, 1) if value != i]
+    signed, negated = any(value < 0 for _, value in moved), any(value == -i for i, value in moved)
+    return [sort for sort, holds in zip(SORTS, [moved and not signed, signed, len(moved) == 1, negated and len(moved) > 1]) if holds]
 
 
 def formula(chance, n, most):
@@ -81,7 +105,8 @@ def line(chance, numbers):
     return chance.choice([b"", b"", b" "]) + (joined if chance.random() < 0.2 else joined.rstrip())
 
 
-WORDS = [b"512", b"4097", b"0", b"-0", b"00", b"01", b"+1", b"-", b"x", b"1\r", b"\x00", b"\xff", b"999999", b"1000000", b"-1", b"513", b"%", b"c", b"p"]
+WORDS = [b"512", b"4097", b"0", b"-0", b"00", b"01", b"+1", b"-", b"x", b"1\r", b"\x00", b"\xff", b"999999", b"1000000", b"-1", b"-2", b"513", b"-512", b"%",
+         b"c", b"p"]
 
 
 def damaged(chance, data):
@@ -107,10 +132,17 @@ def damaged(chance, data):
 
 
 def cycle(chance, n, size):
-    """A permutation of 1..n that is one cycle through some variables, so that it moves these."""
+    """A permutation of 1..n that moves so many variables: by a cycle through them, half the time with signs, at times with some of them negated instead."""
     order = chance.sample(range(1, n + 1), size)
-    after = dict(zip(order, order[1:] + order[:1]))
+    at = chance.choice([size, size, size, chance.randint(0, size)])
+    ring, negated = (order[:at], order[at:]) if at != 1 else ([], order)
+    after = dict(zip(ring, turned(chance, ring[1:] + ring[:1]))) | {i: -i for i in negated}
     return [after.get(i, i) for i in range(1, n + 1)]
+
+
+def swaps(n):
+    """The permutation of 1..n, n even, that exchanges 1 and 2, 3 and -4, 5 and 6, 7 and -8, and so on."""
+    return [(-1 if i % 4 in (0, 3) else 1) * (i + 1 if i % 2 else i - 1) for i in range(1, n + 1)]
 
 
 def closed(clauses, rows, most):
@@ -131,9 +163,15 @@ def offers(chance, n, rows):
     return [line(chance, named)] + [line(chance, [row[i - 1] for i in named]) for row in rows]
 
 
+def stated(n, names, values):
+    """The permutation of 1..n that two lines state."""
+    images = dict(zip(map(int, names.split()), map(int, values.split())))
+    return [images.get(i, i) for i in range(1, n + 1)]
+
+
 def cycles(chance, n, most=60):
     """Cycles of 1..n and their products, and clauses that they keep if there is room."""
-    rows = [cycle(chance, n, chance.randint(min(n, 2), n)) for _ in range(chance.choice([1, 1, 2, 3]))]
+    rows = [cycle(chance, n, chance.randint(min(n, 1), n)) for _ in range(chance.choice([1, 1, 2, 3]))]
     clauses = closed(formula(chance, n, 3)[0] + formula(chance, n, 3)[0], rows, most)
     return clauses, rows + [image(first, second) for first in rows for second in rows]
 
@@ -184,26 +222,28 @@ def powers(chance, n):
 
 
 def columns(chance, n):
-    """Swaps of columns of a table that holds most of 1..n in any order, all of them turned by one, and clauses that they keep."""
+    """Swaps of columns of a table that holds most of 1..n in any order, half the time with signs, all of them turned by one, at times a line of it negated, and
+    clauses that they keep."""
     width = chance.randint(1, 4)
-    order = chance.sample(range(1, n + 1), n - n % width)
+    order = turned(chance, chance.sample(range(1, n + 1), n - n % width))
     table = [order[at:at + width] for at in range(0, len(order), width)]
     turns = [list(range(width)[1:]) + [0]] + [[*range(at), at + 1, at, *range(at + 2, width)] for at in range(width - 1)]
-    rows = []
-    for turn in turns:
-        to = {line[at]: line[turn[at]] for line in table for at in range(width)}
-        rows.append([to.get(i, i) for i in range(1, n + 1)])
+    maps = [{line[at]: line[turn[at]] for line in table for at in range(width)} for turn in turns]
+    maps += [{i: -i for i in line} for line in table[:chance.randrange(2)]]
+    rows = [[to.get(i, -to.get(-i, -i)) for i in range(1, n + 1)] for to in maps]
     return closed(formula(chance, n, 3)[0], rows, 200), rows
 
 
 def edged(chance, n):
-    """Cycles of 1..n that add so many auxiliaries that the last number is beside a multiple of 64, and no clauses to break."""
+    """Cycles of 1..n that add so many auxiliaries that the last number is beside a multiple of 64, at times one that adds none, and no clauses to break."""
     last = chance.choice([edge for edge in (63, 64, 65, 127, 128, 129, 191, 192, 193) if edge >= n])
     rows = []
     while n > 1 and last > n:
         size = min(n, last - n + 1, chance.randint(2, n))
         rows.append(cycle(chance, n, size))
         last -= size - 1
+    for _ in range(chance.randrange(3)):
+        rows.insert(chance.randint(0, len(rows)), cycle(chance, n, min(n, 1)))
     return [], rows
 
 
@@ -244,11 +284,15 @@ def keys_of(literals, ends):
     return [summed(set(clause)) for clause in clauses_of(literals, ends)]
 
 
+def codes(lists):
+    """The codes of the literals of some lists, one list after the other."""
+    return [2 * abs(literal) + (literal < 0) for each in lists for literal in each]
+
+
 def store(chance, n, clauses, rows, flag):
     """The numbers and slices of a store that holds these clauses and rows, with entries of any value past those in use, at times as many as a row."""
-    literals = [2 * abs(literal) + (literal < 0) for clause in clauses for literal in clause]
-    ends = list(itertools.accumulate(len(clause) for clause in clauses))
-    slices = literals, ends, keys_of(literals, ends), [2 * image for row in rows for image in row]
+    literals, ends = codes(clauses), list(itertools.accumulate(len(clause) for clause in clauses))
+    slices = literals, ends, keys_of(literals, ends), codes(rows)
     spare = [[chance.getrandbits(bits) for _ in range(chance.choice([0, 0, 1, most]))] for most, bits in [(3, 16), (3, 16), (3, 64), (n, 16)]]
     return (n, len(clauses), len(rows), flag), *map(operator.add, slices, spare)
 
@@ -291,7 +335,8 @@ def damaged_store(chance, record, literals, ends, keys, images):
                 del part[max(chance.choice([used - 1, chance.randint(0, used), 0]), 0):]
             elif used:
                 at = chance.randrange(used)
-                part[at] = chance.choice([0, 1, 65535, part[at] ^ 1, part[at] + 1, part[at] - 1, chance.choice(part), chance.randrange(300)]) % 65536
+                other = chance.choice(part)
+                part[at] = chance.choice([0, 1, 65535, part[at] ^ 1, part[at] + 1, part[at] - 1, other, other ^ 1, chance.randrange(300)]) % 65536
     keyed = clauses_of(literals, ends[:record.clauses])[:len(keys)]
     if chance.random() < 0.8:
         keys[:len(keyed)] = [summed(set(clause)) for clause in keyed]

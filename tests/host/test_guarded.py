@@ -14,7 +14,7 @@ import library
 import reference
 import test_host
 import test_models
-from agree import LIBRARY, Agree
+from agree import LIBRARY, Agree, held
 from library import TOP
 
 STORES = library.rounds(1000)
@@ -89,10 +89,10 @@ def entries(chance, count, bits=16):
 class Random(Agree):
     """Every export on random stores, many of them damaged, with slices that are just long enough, or nearly."""
 
-    def held(self, chance, n, clauses, rows):
+    def lent(self, chance, n, clauses, rows):
         """A store with some of these rows, damaged or not. Where a call may only look at entries in use, more are said to follow."""
-        held = chance.choices(rows, k=chance.choice([0, 1, 1, 2, 2, 3, 64] if n < 10 else [0, 1, 2])) if rows else []
-        numbers, *slices = generate.store(chance, n, clauses, held, chance.choice([1, 1, 1, 2, 2 ** 32, TOP]))
+        chosen = chance.choices(rows, k=chance.choice([0, 1, 1, 2, 2, 3, 64] if n < 10 else [0, 1, 2])) if rows else []
+        numbers, *slices = generate.store(chance, n, clauses, chosen, chance.choice([1, 1, 1, 2, 2 ** 32, TOP]))
         parts = reference.Record(*numbers), *slices
         if chance.random() < 0.65:
             parts = generate.damaged_store(chance, *parts)
@@ -135,11 +135,12 @@ class Random(Agree):
         b = [word ^ (chance.random() < 0.2) << chance.randrange(64) for word in a]
         yield "compare", self.compare(a, b if chance.random() < 0.8 else b[1:])
 
-    def calls(self, chance):
-        """Every call on one store; the answers."""
+    def calls(self, chance, seen):
+        """Every call on one store; the answers. Of a store that is in order it is seen of which sorts its rows are."""
         n = chance.choice(SIZES)
         clauses, rows = generate.family(chance, n) if chance.random() < 0.5 else generate.formula(chance, n, 12)
-        host, sound = self.held(chance, n, clauses, rows)
+        host, sound = self.lent(chance, n, clauses, rows)
+        seen.update(sort for row in (held(host) if sound else []) for sort in generate.sorts(row))
         made = reference.made_text(*host.parts()).splitlines(True) if sound else [b"p cnf 1 1\n", b"1 2 3 0\n"]
         yield from self.lines(chance, host, made)
         yield from self.models(chance, host, n, int(made[0].split()[2]) if sound else n)
@@ -150,9 +151,11 @@ class Random(Agree):
         seen = Counter()
         for number in range(STORES):
             with self.subTest(store=number):
-                seen.update((call, test_models.refusal(answer)) for call, answer in self.calls(random.Random(number)))
+                seen.update((call, test_models.refusal(answer)) for call, answer in self.calls(random.Random(number), seen))
         for sort in WANTED:
             self.assertGreater(seen[sort], 5, sort)
+        for sort in generate.SORTS:
+            self.assertGreater(seen[sort], 200, sort)
 
 
 class Stores(test_host.Stores):
@@ -175,7 +178,7 @@ def load_tests(loader, *_):
     """The guards, then all cases at the end of a page and again at the start of one."""
     suite = loader.loadTestsFromTestCase(Guards)
     for name, memory in [("AtEnd", END), ("AtStart", START)]:
-        for case in [Random, Stores, Withdrawals, Keys, Compare, test_models.Worked, test_models.Refusals]:
+        for case in [Random, Stores, Withdrawals, test_host.Signs, Keys, Compare, test_models.Worked, test_models.Refusals]:
             placed = type(case.__name__ + name, (case,), {"setUp": lambda self, memory=memory: setattr(library, "memory", memory)})
             suite.addTests(loader.loadTestsFromTestCase(placed))
     return suite

@@ -8,7 +8,7 @@ import generate
 import library
 import reference
 import tables
-from agree import LIBRARY, Agree
+from agree import LIBRARY, Agree, held
 from library import TOP
 
 LISTING = b"p cnf 3 2\n1 2 0\n2 3 0\n"
@@ -68,18 +68,18 @@ class Stores(Agree):
     def test_largest(self):
         """A formula at all the limits, with a permutation that keeps it."""
         clauses = [[1 + i % 512, -(1 + (i * 7) % 512), 1 + (i * 11) % 512] for i in range(2048)]
-        swap = [i + 1 if i % 2 else i - 1 for i in range(1, 513)]
-        clauses = [each for clause in clauses for each in (clause, generate.image(clause, swap))]
+        swaps = generate.swaps(512)
+        clauses = [each for clause in clauses for each in (clause, generate.image(clause, swaps))]
         host = fresh(literals=12288, ends=4096, keys=4096, images=1024)
         self.assertEqual(self.open(host, generate.text(random.Random(3), 512, clauses)), ("done", 512, 4096))
         names = b" ".join(b"%d" % i for i in range(1, 513))
-        self.assertEqual(self.offer(host, names, b" ".join(b"%d" % i for i in swap)), ("done",))
+        self.assertEqual(self.offer(host, names, b" ".join(b"%d" % i for i in swaps)), ("done",))
         self.assertEqual(self.offer(host, b"1 2", b"2 1")[1], 11)
 
     def test_random(self):
         chance = random.Random(4)
-        answers, lines = {}, {}
-        for _ in range(2500):
+        answers, lines, accepted = {}, {}, Counter()
+        for _ in range(2200):
             n = chance.choice([0, 1, 2, 3, 4, 5, 6, 9])
             clauses, rows = generate.formula(chance, n, 12)
             text = generate.text(chance, n, clauses)
@@ -98,12 +98,16 @@ class Stores(Agree):
                     values = generate.damaged(chance, values)
                 if chance.random() < 0.2:
                     host.put(*generate.damaged_store(chance, *host.parts()))
-                self.count(answers, self.offer(host, names, values))
+                answer = self.offer(host, names, values)
+                self.count(answers, answer)
+                accepted.update(generate.sorts(held(host)[-1]) if answer == ("done",) else [])
             self.written(host, chance, lines)
         for refusal in [None, 1, 2, 3, 4, 6, 7, 8, 9, 10, 11, 20, 21, 23]:
             self.assertGreater(answers.get(refusal, 0), 5, refusal)
         for refusal in [None, 13, 20, 21, 23]:
             self.assertGreater(lines.get(refusal, 0), 5, refusal)
+        for sort in generate.SORTS:
+            self.assertGreater(accepted[sort], 50, sort)
 
     def count(self, answers, answer):
         number = answer[1] if answer[0] == "refused" else None
@@ -147,8 +151,9 @@ class Withdrawals(Agree):
         self.assertEqual(self.withdraw(host), ("done",))
         self.assertEqual(self.offer(host, b"1 2", b"1 2"), ("done",))
         self.assertEqual(host.images[126:], [2, 4])
-        host.images[127] = 2
-        self.assertEqual(self.withdraw(host), ("refused", 21, 0))
+        for damage in [2, 3]:
+            host.images[127] = damage
+            self.assertEqual(self.withdraw(host), ("refused", 21, 0))
         host.images[127] = 4
         for left in reversed(range(64)):
             self.assertEqual((self.withdraw(host), host.record.rows), (("done",), left))
@@ -196,7 +201,8 @@ class Withdrawals(Agree):
             self.assertEqual((other.record, other.images[:used]), (host.record, host.images[:used]))
             self.assertEqual(reference.made_text(*other.parts()), reference.made_text(*host.parts()))
             seen["left", min(len(left), 2)] += 1
-        for sort in ["done", 11, 23, 30, "lent", ("left", 0), ("left", 1), ("left", 2)]:
+            seen.update(sort for row in held(host) for sort in generate.sorts(row))
+        for sort in ["done", 11, 23, 30, "lent", ("left", 0), ("left", 1), ("left", 2), *generate.SORTS]:
             self.assertGreater(seen[sort], 20, sort)
 
     def test_damaged(self):
@@ -214,6 +220,82 @@ class Withdrawals(Agree):
                 seen[answer[1] if answer[0] == "refused" else "done"] += 1
         for sort in ["done", 20, 21, 30]:
             self.assertGreater(seen[sort], 20, sort)
+
+
+SQUARE = b"p cnf 3 4\n1 2 3 0\n1 -2 3 0\n-1 -2 3 0\n-1 2 3 0\n"  # which exchanges and negations of 1 and 2 keep
+
+SIGNED = [
+    ("one variable negated", b"1", b"-1", [3, 4, 6]),
+    ("an exchange with a sign", b"1 2", b"-2 1", [5, 2, 6]),
+    ("with two signs, names in falling order", b"2 1", b"-1 -2", [5, 3, 6]),
+    ("all named, one of them staying", b"1 2 3", b"2 -1 3", [4, 3, 6]),
+    ("no symmetry: one variable negated", b"3", b"-3", ("refused", 11, 1)),
+    ("no symmetry: without a sign", b"1 3", b"3 1", ("refused", 11, 3)),
+    ("no symmetry: with a sign", b"2 3", b"3 -2", ("refused", 11, 2)),
+    ("no symmetry: with two signs", b"1 3", b"-3 -1", ("refused", 11, 1)),
+    ("a size that is no name", b"1 3", b"-2 1", ("refused", 10, 0)),
+    ("a size beyond n", b"1 2", b"-1 -4", ("refused", 10, 3)),
+    ("a size of six digits", b"1 2", b"-999999 1", ("refused", 10, 0)),
+    ("a size twice, with two signs", b"1 2", b"2 -2", ("refused", 10, 2)),
+    ("the same, the negative one first", b"1 2", b"-2 2", ("refused", 10, 3)),
+    ("a negative value twice", b"1 2", b"-2 -2", ("refused", 10, 3)),
+    ("a value too few", b"1 2", b"-2", ("refused", 10, 2)),
+    ("a value more", b"1 2", b"-2 -1 1", ("refused", 10, 6)),
+    ("value 0", b"1 2", b"-2 0", ("refused", 10, 3)),
+    ("value -0", b"1 2", b"-2 -0", ("refused", 9, 3)),
+    ("a minus more", b"1 2", b"2 --1", ("refused", 9, 2)),
+    ("a minus alone after a size twice", b"1 2", b"2 -2 -", ("refused", 9, 5)),
+    ("a negative name", b"1 -2", b"-2 1", ("refused", 8, 2)),
+    ("name -0", b"-0", b"-1", ("refused", 7, 0)),
+]
+
+
+class Signs(Agree):
+    """CR 6: permutations that turn signs."""
+
+    def test_offers(self):
+        for name, names, values, expected in SIGNED:
+            with self.subTest(name):
+                host, accepted = fresh(images=4), isinstance(expected, list)
+                self.open(host, SQUARE)
+                self.assertEqual(self.offer(host, names, values), ("done",) if accepted else expected)
+                self.assertEqual(host.images[:], [*expected, 7] if accepted else [7] * 4)
+
+    def test_sign_from_both(self):
+        """The image of a negative literal by a negative value is positive."""
+        for text, names, values, expected in [(b"p cnf 2 1\n-1 2 0", b"1 2", b"-2 -1", ("done",)), (b"p cnf 2 1\n1 2 0", b"1 2", b"-2 -1", ("refused", 11, 1)),
+                                              (b"p cnf 2 2\n1 2 0 2 -1 0", b"1", b"-1", ("done",)), (b"p cnf 2 2\n-1 -1 0 1 0", b"1", b"-1", ("done",)),
+                                              (b"p cnf 2 3\n1 2 0 2 -1 0 1 0", b"1", b"-1", ("refused", 11, 3))]:
+            host = fresh()
+            self.open(host, text)
+            self.assertEqual(self.offer(host, names, values), expected, text)
+
+    def test_lines(self):
+        """The clauses of a row that moves one variable, of one that exchanges two with a sign, and of one that sends a variable to its own negation."""
+        host = fresh()
+        self.open(host, b"p cnf 3 0")
+        for values in [b"-1 2 3", b"-2 1 3", b"3 -2 1"]:
+            self.assertEqual(self.offer(host, b"1 2 3", values), ("done",))
+        expected = [b"p cnf 6 19", b"-1 -1 0", b"-1 -2 0", b"-4 -1 -2 0", b"-4 1 2 0", b"4 1 -2 0", b"4 -1 2 0", b"-4 -2 1 0",
+                    b"-1 3 0", b"-5 -1 3 0", b"-5 1 -3 0", b"5 1 3 0", b"5 -1 -3 0", b"-5 -2 -2 0",
+                    b"-6 5 0", b"-6 -2 -2 0", b"-6 2 2 0", b"6 -5 2 -2 0", b"6 -5 -2 2 0", b"-6 -3 1 0"]
+        for q, line in enumerate(expected):
+            for room in [len(line), len(line) + 1, 20]:
+                answer = self.clause(host, q, bytes(room)) if q else self.header(host, bytes(room))
+                self.assertEqual(answer, ("done", len(line) + 1) if room > len(line) else ("refused", 23, len(line) + 1), line)
+            self.assertEqual((host.clause(q, bytes(20)) if q else host.header(bytes(20)))[1].rstrip(b"\0"), line + b"\n")
+        self.assertEqual(self.clause(host, 20, bytes(20)), ("refused", 13, 0))
+
+    def test_single_clauses(self):
+        """64 rows that move one variable each: 64 clauses, and no auxiliary. A withdrawal takes one clause."""
+        host = fresh(images=128)
+        self.open(host, b"p cnf 2 0")
+        for _ in range(32):
+            self.assertEqual((self.offer(host, b"1", b"-1"), self.offer(host, b"2", b"-2")), (("done",), ("done",)))
+        self.assertEqual(self.offer(host, b"1", b"-1"), ("refused", 22, 0))
+        self.assertEqual((host.header(bytes(12))[1], host.clause(64, bytes(9))[1]), (b"p cnf 2 64\n\0", b"-2 -2 0\n\0"))
+        self.assertEqual((self.withdraw(host), host.header(bytes(12))[1]), (("done",), b"p cnf 2 63\n\0"))
+        self.assertEqual((self.clause(host, 63, bytes(9)), self.clause(host, 64, bytes(9))), (("done", 8), ("refused", 13, 0)))
 
 
 NUMBERS = {1: 8399848799940609, -1: 24472253299388417, 2: 27429481777696769, -2: 47979604178350081, 3: 56431291722078209,

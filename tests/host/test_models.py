@@ -9,7 +9,7 @@ from collections import Counter
 import generate
 import library
 import reference
-from agree import LIBRARY, Agree
+from agree import LIBRARY, Agree, held
 from library import TOP
 
 
@@ -58,6 +58,27 @@ class Worked(Agree):
                                             ("010", 0, ("done", "settled", 0), "010"), ("000", TOP, ("done", "settled", 0), "000")]:
             self.assertEqual(self.descend(host, packed(start), limit), (expected, packed(end)), (start, limit))
 
+    def test_signs(self):
+        """Each A with what it fills in as, the first clause that is false then, the moves of its descent and its end."""
+        for values, table in [(b"-1 2 3", [("000", "", 0, 0, "000"), ("011", "", 0, 0, "011"), ("100", "", 1, 1, "000"), ("111", "", 1, 1, "011")]),
+                              (b"-2 1 3", [("000", "0", 0, 0, "000"), ("010", "1", 6, 1, "000"), ("100", "1", 0, 0, "100"), ("110", "0", 1, 2, "000")]),
+                              (b"3 -2 1", [("000", "10", 0, 0, "000"), ("001", "00", 0, 0, "001"), ("010", "10", 6, 1, "000"), ("011", "00", 0, 0, "011"),
+                                           ("100", "00", 1, 1, "011"), ("101", "10", 0, 0, "101"), ("110", "00", 1, 1, "001"), ("111", "10", 6, 1, "101")])]:
+            host = offered(b"p cnf 3 0", b"1 2 3", values)
+            for a, setting, false, moves, end in table:
+                self.assertEqual(self.fill_in(host, packed(a), [5, 6]), (("done", 1), packed(a + setting) + [6]))
+                self.assertEqual(self.check(host, packed(a + setting)), ("done", false), (values, a))
+                self.assertEqual(self.descend(host, packed(a), TOP), (("done", "settled", moves), packed(end)))
+        turned = offered(b"p cnf 2 0", b"1 2", b"-2 1")
+        self.assertEqual(self.descend(turned, packed("11"), 1), (("done", "spent", 1), packed("01")))
+        for full, clause in [("000", 0), ("001", 3), ("010", 4), ("011", 6), ("100", 5), ("101", 0), ("110", 1), ("111", 1)]:
+            self.assertEqual(self.check(turned, packed(full)), ("done", clause), full)
+
+    def test_no_symmetry(self):
+        """A lent row that is no symmetry: the plain formula has a model, and the made one none."""
+        host = library.Host(LIBRARY, reference.Record(1, 1, 1, True), [2], [1], generate.keys_of([2], [1]), [3])
+        self.assertEqual([self.check(host, packed(a)) for a in "01"], [("done", 1), ("done", 2)])
+
     def test_nothing(self):
         """Without variables there are no words; the empty clause is false."""
         self.assertEqual(self.fill_in(opened(b"p cnf 0 0"), [], []), (("done", 0), []))
@@ -67,12 +88,13 @@ class Worked(Agree):
         self.assertEqual(self.check(opened(b"p cnf 0 1\n0"), []), ("done", 1))
 
     def test_largest(self):
-        """64 rows that move all of 512 variables: assignments of 519 words, the last one full."""
+        """64 rows that move all of 512 variables, many with signs: assignments of 519 words, the last one full."""
         chance = random.Random(9)
-        host = opened(b"p cnf 512 1\n" + b" ".join(b"%d" % i for i in range(1, 513)) + b" 0", 512, 1, 64 * 512)
+        host = opened(b"p cnf 512 1\n" + b" ".join(b"%d -%d" % (i, i) for i in range(1, 513)) + b" 0", 1024, 1, 64 * 512)
         names = b" ".join(b"%d" % i for i in range(1, 513))
         for _ in range(64):
             self.assertEqual(host.offer(names, b" ".join(b"%d" % i for i in generate.cycle(chance, 512, 512))), ("done",))
+        self.assertGreater(sum(min(row) < 0 for row in held(host)), 20)
         kept = packed("0" * 504 + "1" * 8)
         self.assertEqual(self.fill_in(host, kept, [3] * 518), (("refused", 23, 519), [3] * 518))
         answer, filled = self.fill_in(host, kept, [3] * 520)
@@ -107,7 +129,10 @@ BADLY_FORMED = [
     ("an image 0", {"images": [6, 4, 0]}),
     ("an image beyond n", {"images": [6, 4, 8]}),
     ("an image twice", {"images": [6, 4, 4]}),
-    ("an image with a sign", {"images": [6, 4, 3]}),
+    ("an image -0", {"images": [6, 4, 1]}),
+    ("a negated image beyond n", {"images": [6, 4, 9]}),
+    ("a size twice, with two signs", {"images": [6, 4, 5]}),
+    ("a negated image twice", {"images": [7, 4, 7]}),
     ("a key too few", {"keys": KEYS[:1]}),
     ("keys exchanged", {"keys": KEYS[::-1]}),
     ("a key wrong by a bit", {"keys": [KEYS[0], KEYS[1] ^ 2 ** 40]}),
@@ -178,6 +203,7 @@ WANTED = [
     *(("descend", (ending, moves)) for ending in ("settled", "spent") for moves in (0, 1, 2, 3)),
     *(("descend", outcome) for outcome in (12, 20, 21)),
     *(("place among six", r) for r in (1, 3, 4, 5, 6)),
+    ("place among six", "alone"),
     *(("variables", n) for n in SIZES if n > 1),
     *(("last word", rest) for rest in (63, 0, 1)),
     "more words",
@@ -190,12 +216,6 @@ def last_number(host):
     return int(host.header(bytes(32))[1].split()[2])
 
 
-def stated(n, names, values):
-    """The permutation that two lines state."""
-    images = dict(zip(map(int, names.split()), map(int, values.split())))
-    return [images.get(i, i) for i in range(1, n + 1)]
-
-
 def offer_all(chance, host, n, rows, last=TOP):
     """A list of offers, damaged ones among them, until the made formula passes `last` variables; what was accepted, how many were refused."""
     accepted, refused = [], 0
@@ -206,7 +226,7 @@ def offer_all(chance, host, n, rows, last=TOP):
         if refusal(host.offer(names, values)):
             refused += 1
             continue
-        accepted.append(stated(n, names, values))
+        accepted.append(generate.stated(n, names, values))
         if last_number(host) > last:
             break
     return accepted, refused
@@ -215,6 +235,12 @@ def offer_all(chance, host, n, rows, last=TOP):
 def flipped(a, i):
     """An assignment with the value of variable i changed."""
     return [word ^ (1 << 63 - (i - 1) % 64 if at == (i - 1) // 64 else 0) for at, word in enumerate(a)]
+
+
+def places(row):
+    """The place among six of each clause that a row adds."""
+    count = sum(image != i for i, image in enumerate(row, 1))
+    return ["alone"] if count == 1 else [1, 2, 3, 4, 5, 6] * (count - 1)
 
 
 def at_times_misfit(chance, n, a):
@@ -252,7 +278,8 @@ class Random(Agree):
             answer = self.check(host, at_times_misfit(chance, last, a))
             added = answer[-1] - host.record.clauses
             seen["check", refusal(answer) or ("yes" if answer[1] == 0 else "added" if added > 0 else "plain")] += 1
-            seen["place among six", (added - 1) % 6 + 1] += refusal(answer) is None and added > 0
+            if refusal(answer) is None and added > 0:
+                seen["place among six", [r for row in held(host) for r in places(row)][added - 1]] += 1
 
     def offered(self, chance, n, clauses, rows, seen):
         """A store after a list of offers, and the N of its made formula."""
@@ -262,6 +289,7 @@ class Random(Agree):
         seen["variables", n] += host.record.rows > 0
         seen["last word", last % 64] += last > n
         seen["more words"] += reference.word_count(last) > reference.word_count(n)
+        seen.update(sort for row in held(host) for sort in generate.sorts(row))
         return host, last
 
     def test_random(self):
@@ -279,6 +307,8 @@ class Random(Agree):
                 self.checks(chance, host, n, last, filled, seen)
         for sort in WANTED:
             self.assertGreater(seen[sort], 5, sort)
+        for sort in generate.SORTS:
+            self.assertGreater(seen[sort], 50, sort)
 
 
 def made_formula(host):
@@ -303,13 +333,9 @@ def first_false(clauses, digits):
     return next((q for q, clause in enumerate(clauses, 1) if not any(digits[abs(literal) - 1] == "01"[literal > 0] for literal in clause)), 0)
 
 
-def moved(row, digits):
-    return "".join(digits[image - 1] for image in row)
-
-
 def path(rows, digits):
     """What a descent passes: digits after digits, each moved by the first row that makes them smaller."""
-    lower = next((moved(row, digits) for row in rows if moved(row, digits) < digits), None)
+    lower = next((moved for moved in (generate.moved(row, digits) for row in rows) if moved < digits), None)
     return [digits] + (path(rows, lower) if lower is not None else [])
 
 
@@ -345,7 +371,7 @@ class Demand3(unittest.TestCase):
         kept = set()
         for number in range(1 << n):
             digits, settings = numbered(number, n), full >> (number << auxiliaries) & (1 << (1 << auxiliaries)) - 1
-            smaller = any(moved(row, digits) < digits for row in rows)
+            smaller = any(generate.moved(row, digits) < digits for row in rows)
             self.assertEqual(settings != 0, plain >> number & 1 == 1 and not smaller, digits)
             if settings:
                 kept.add(digits)
@@ -375,7 +401,7 @@ class Demand3(unittest.TestCase):
     def test_lists(self):
         chance = random.Random(11)
         seen = Counter()
-        for _ in range(400):
+        for _ in range(320):
             n = chance.choice([0, 1, 2, 3, 3, 4, 4, 5, 5, 6, 7])
             clauses, rows = generate.family(chance, n, (generate.cycles, generate.powers, generate.columns))
             host = opened(b"p cnf %d %d\n" % (n, len(clauses)) + b"".join(map(reference.clause_line, clauses)), 400, 120, 80)
@@ -393,10 +419,25 @@ class Demand3(unittest.TestCase):
             self.whole(host, n, clauses, accepted, seen)
             self.assertEqual(host.parts(), before)
             seen["rows", min(len(accepted), 2), refused > 0] += 1
+            seen.update(sort for row in accepted for sort in generate.sorts(row))
         for sort, least in [(("satisfiable", True), 200), (("satisfiable", False), 20), ("kept", 2000), ("dropped", 1000), ("spent", 2000),
                             ("false added", 2000), (("moves", 0), 1000), (("moves", 1), 1000), (("moves", 2), 300), (("moves", 3), 100),
-                            (("rows", 1, True), 20), (("rows", 2, True), 80), (("taken back", True), 100), (("taken back", False), 20)]:
+                            (("rows", 1, True), 20), (("rows", 2, True), 80), (("taken back", True), 100), (("taken back", False), 20),
+                            *((sort, 50) for sort in generate.SORTS)]:
             self.assertGreater(seen[sort], least, sort)
+
+    def test_every_row(self):
+        """Every permutation of up to three variables, with every choice of signs, alone and before another. Where there are no clauses all are symmetries."""
+        chance, seen = random.Random(12), Counter()
+        for n in [1, 2, 3]:
+            turns = list(itertools.product([1, -1], repeat=n))
+            rows = [list(map(operator.mul, sizes, turn)) for sizes in itertools.permutations(range(1, n + 1)) for turn in turns]
+            for pair in ([row, chance.choice(rows)] for row in rows):
+                host = opened(b"p cnf %d 0" % n)
+                for count, row in enumerate(pair, 1):
+                    self.assertEqual(host.offer(*(b" ".join(b"%d" % i for i in line) for line in (range(1, n + 1), row))), ("done",))
+                    self.whole(host, n, [], pair[:count], seen)
+        self.assertGreater(seen["dropped"], 200)
 
 
 if __name__ == "__main__":

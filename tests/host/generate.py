@@ -206,10 +206,11 @@ def damaged_input(chance, data):
 
 
 def moving_rows(data):
-    """How many offers of an accepted input move something, so that they add clauses."""
+    """The permutations that the offers of an accepted input state, those that move something and so add clauses."""
     lines = data.split(b"\n")
     names, *offered = lines[lines.index(b"%") + 1:] or [b""]
-    return sum(values.split() not in ([], names.split()) for values in offered)
+    rows = [stated(max(map(int, names.split())), names, values) for values in offered if values.split()]
+    return [row for row in rows if sorts(row)]
 
 
 def powers(chance, n):

@@ -105,12 +105,15 @@ OFFERS = [
     ("a bad name before a letter as a value", b"4\nx", "refused 8 0"),
     ("a letter as a value", b"1 3\n3 x", "refused 9 2"),
     ("a letter after a bad value", b"1 3\n3 3 x", "refused 9 4"),
+    ("minus zero as a value", b"1 3\n3 -0", "refused 9 2"),
     ("a carriage return after the values", b"1 3\n3 1\r", "refused 9 2"),
     ("a % line as values", b"1 3\n%", "refused 9 0"),
     ("a letter in the second offer", b"1 3\n3 1\n1 x", "refused 9 2"),
     ("a value that is no name", b"1 3\n2 1", "refused 10 0"),
-    ("a negative value", b"1 3\n3 -1", "refused 10 2"),
+    ("a negative value whose size is no name", b"1 3\n-2 1", "refused 10 0"),
+    ("value 0", b"1 3\n3 0", "refused 10 2"),
     ("a value twice", b"1 3\n3 3", "refused 10 2"),
+    ("a size twice, with two signs", b"1 3\n-3 3", "refused 10 3"),
     ("a value that is no name, and too few", b"1 3\n2", "refused 10 0"),
     ("a value too few", b"1 3\n3", "refused 10 1"),
     ("a value too few and a blank", b"1 3\n3 ", "refused 10 2"),
@@ -118,6 +121,7 @@ OFFERS = [
     ("no value", b"1 3\n\n3 1", "refused 10 0"),
     ("no symmetry", b"1 2\n2 1", "refused 11 2"),
     ("no symmetry in the second offer", b"1 2 3\n3 2 1\n1 3 2", "refused 11 1"),
+    ("no symmetry for its sign", b"1 3\n3 -1", "refused 11 2"),
     ("two bad offers", b"1 2 3\n2 1 3\nx", "refused 11 2"),
 ]
 
@@ -224,6 +228,16 @@ class Program(unittest.TestCase):
                     b"-1 3 0\n-6 -1 3 0\n-6 1 -3 0\n6 1 3 0\n6 -1 -3 0\n-6 -2 1 0\n"
                     b"-7 6 0\n-7 -2 1 0\n-7 2 -1 0\n7 -6 2 1 0\n7 -6 -2 -1 0\n-7 -3 2 0\n")
 
+    def test_signs(self):
+        """A row that moves one variable adds one clause; then an exchange with a sign, and a variable that is sent to its own negation."""
+        square = b"1 2 3 0\n1 -2 3 0\n-1 -2 3 0\n-1 2 3 0\n"
+        self.prints(b"p cnf 3 4\n" + square + b"%\n1 2\n-1 2\n-2 1\n",
+                    b"p cnf 4 11\n" + square + b"-1 -1 0\n-1 -2 0\n-4 -1 -2 0\n-4 1 2 0\n4 1 -2 0\n4 -1 2 0\n-4 -2 1 0\n")
+        self.prints(b"p cnf 3 0\n%\n1 2 3\n3 -2 1\n",
+                    b"p cnf 5 12\n-1 3 0\n-4 -1 3 0\n-4 1 -3 0\n4 1 3 0\n4 -1 -3 0\n-4 -2 -2 0\n"
+                    b"-5 4 0\n-5 -2 -2 0\n-5 2 2 0\n5 -4 2 -2 0\n5 -4 -2 2 0\n-5 -3 1 0\n")
+        self.prints(b"p cnf 2 1\n-1 2 0\n%\n1 2\n-2 -1\n", b"p cnf 3 7\n-1 2 0\n-1 -2 0\n-3 -1 -2 0\n-3 1 2 0\n3 1 -2 0\n3 -1 2 0\n-3 -2 -1 0\n")
+
     def test_refusals(self):
         found = self.table(OPENINGS, b"%b%%\n1 3\n3 1\n") | self.table(OFFERS, PLAIN + b"%%\n%b\n") | self.table(MISSING, b"%b%%\n1 2\n2 1\n")
         self.assertEqual(found, set(range(1, 12)))
@@ -238,9 +252,10 @@ class Program(unittest.TestCase):
         identities = b"p cnf 2 0\n%\n1\n" + b"1\n" * 64
         self.prints(identities, b"p cnf 2 0\n")
         self.prints(identities + b"1", b"refused 22 0\n")
+        self.prints(b"p cnf 2 0\n%\n2\n" + b"-2\n" * 64, b"p cnf 2 64\n" + b"-2 -2 0\n" * 64)
 
     def test_random(self):
-        refused, accepted = Counter(), Counter()
+        refused, accepted, sorts = Counter(), Counter(), Counter()
         for number in range(INPUTS):
             chance = random.Random(number)
             data = generate.program_input(chance, chance.choice([0, 1, 2, 2, 3, 3, 4, 4, 5, 5, 6, 7, 8, 9]), 40)
@@ -251,14 +266,18 @@ class Program(unittest.TestCase):
                 if printed.startswith(b"refused"):
                     refused[int(printed.split()[1])] += 1
                 else:
-                    accepted[generate.moving_rows(data)] += 1
+                    rows = generate.moving_rows(data)
+                    accepted[len(rows)] += 1
+                    sorts.update(sort for row in rows for sort in generate.sorts(row))
         for number in [1, 2, 3, 4, 6, 7, 8, 9, 10, 11, 15]:
             self.assertGreater(refused[number], 5, number)
         self.assertGreater(sum(times for rows, times in accepted.items() if rows >= 1), 200)
         self.assertGreater(sum(times for rows, times in accepted.items() if rows >= 2), 100)
+        for sort in generate.SORTS:
+            self.assertGreater(sorts[sort], 50, sort)
 
     def test_many_rows(self):
-        """64 rows that move all of 256 variables: 97,920 clauses."""
+        """64 rows that move all of 256 variables, many with signs: 97,920 clauses."""
         chance = random.Random(6)
         rows = [list(range(1, 257))] + [generate.cycle(chance, 256, 256) for _ in range(64)]
         data = b"p cnf 256 0\n%\n" + b"".join(b" ".join(b"%d" % i for i in row) + b"\n" for row in rows)
@@ -269,16 +288,16 @@ class Program(unittest.TestCase):
         """64 accepted rows over 512 variables that move as many of them as 65,536 bytes can state, the last one too."""
         data = most_rows()
         self.assertLessEqual(len(data), 65536)
-        self.assertEqual(generate.moving_rows(data), 64)
+        self.assertEqual(len(generate.moving_rows(data)), 64)
         self.assertTrue(self.agree(data).startswith(b"p cnf 17984 104852\n"))
 
     def test_many_clauses(self):
         """4,096 clauses over 512 variables with two rows that move all; only the last one's image missing; 12,288 literals."""
         chance = random.Random(7)
-        swap = [i + 1 if i % 2 else i - 1 for i in range(1, 513)]
+        swaps = generate.swaps(512)
         halves = [[chance.choice([-1, 1]) * chance.randint(1, 512) for _ in range(2)] for _ in range(2048)]
-        clauses = [each for clause in halves for each in (clause, generate.image(clause, swap))]
-        names, values = (b" ".join(b"%d" % i for i in row) for row in (range(1, 513), swap))
+        clauses = [each for clause in halves for each in (clause, generate.image(clause, swaps))]
+        names, values = (b" ".join(b"%d" % i for i in row) for row in (range(1, 513), swaps))
         text = b"p cnf 512 4096\n" + b"".join(b"%d %d 0\n" % tuple(clause) for clause in clauses)
         self.assertTrue(self.agree(b"\n".join([text + b"%", names, values, values])).startswith(b"p cnf 1534 10228\n"))
         self.prints(b"p cnf 2 4096\n" + b"1 2 0\n" * 4095 + b"1 0\n%\n1 2\n2 1\n", b"refused 11 4096\n")

@@ -1,5 +1,5 @@
 """Finds two pairs of clauses of six literals that share a key, in half a minute or so: test_keys.py has what it prints. No variable comes twice, and as many literals are
-positive in each clause, so that a permutation can take one to another.
+positive in each clause, so that a permutation can take one to another without signs too.
 
 It is Wagner's search ("A generalized birthday problem", 2002) with four lists, of the sums of three numbers each, from four parts of the literals. Wanted are sums
 with a + b = c + d modulo 2^64, that is a - c = d - b. The last eleven bits of every number are those of 1, so clauses of six literals agree in these; what is left

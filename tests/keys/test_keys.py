@@ -6,6 +6,7 @@ import re
 import subprocess
 import sys
 import unittest
+from collections import Counter
 
 HERE = os.path.dirname(os.path.abspath(__file__))
 sys.path.insert(0, os.path.join(os.path.dirname(HERE), "host"))
@@ -84,19 +85,21 @@ E, F, SECOND = [-39, 44, -57, 150, -162, -173], [-288, -302, -318, -402, 427, 43
 C, D = [1, 2, -3, -4, -5, -6], [7, 8, -9, -10, -11, -12]
 
 
-def exchange(*pairs):
-    """The permutation that takes one clause of each pair to the other and back: positive literals in their order, and negative ones."""
-    images = list(range(1, 513))
+def exchange(chance, pairs):
+    """A permutation that takes one clause of each pair to the other and back: half the time positive literals to positive ones in their order, and negative ones
+    to negative ones; else any literal to any, so that signs are turned."""
+    images, in_order = list(range(1, 513)), chance.random() < 0.5
     for pair in pairs:
-        for one, other in zip(*([abs(literal) for literal in sorted(clause, key=lambda each: (each < 0, abs(each)))] for clause in pair)):
-            images[one - 1], images[other - 1] = other, one
+        for one, other in zip(*(sorted(clause, key=lambda each: (each < 0, abs(each))) if in_order else chance.sample(clause, 6) for clause in pair)):
+            for source, target in (one, other), (other, one):
+                images[abs(source) - 1] = target if source > 0 else -target
     return images
 
 
-# Clauses of which some share a key, and permutations. In the second family all do.
+# Clauses of which some share a key, and pairs of them to be exchanged. In the second family all do.
 FAMILIES = [
-    ([A, B, C, D], [exchange((A, C)), exchange((B, D)), exchange((A, C), (B, D)), exchange((A, B)), exchange((A, B), (C, D)), exchange((A, D), (B, C))]),
-    ([A, B, E, F], [exchange((A, E)), exchange((A, E), (B, F)), exchange((A, F), (B, E)), exchange((A, B)), exchange((A, B), (E, F))]),
+    ([A, B, C, D], [[(A, C)], [(B, D)], [(A, C), (B, D)], [(A, B)], [(A, B), (C, D)], [(A, D), (B, C)]]),
+    ([A, B, E, F], [[(A, E)], [(A, E), (B, F)], [(A, F), (B, E)], [(A, B)], [(A, B), (E, F)]]),
 ]
 
 
@@ -109,13 +112,13 @@ class Sharing(Agree):
     """Offers to formulas of a family's clauses, in any order, some of them missing, some more than once."""
 
     def offers(self, family, most):
-        """All formulas of one clause up to so many, with each permutation as two lines, and the place of 11, or 0; then what it would be if keys decided."""
+        """All formulas of one clause up to so many, with each exchange as two lines, and the place of 11, or 0; then what it would be if keys decided."""
         chance = random.Random(12)
         for count in range(1, most + 1):
             for clauses in itertools.product(family[0], repeat=count):
                 repeating = [clause + clause[:chance.randrange(3)] for clause in clauses]
                 shuffled = [chance.sample(clause, len(clause)) for clause in repeating]
-                for row in family[1]:
+                for row in (exchange(chance, pairs) for pairs in family[1]):
                     yield shuffled, generate.offers(chance, 512, [row]), first_missing(clauses, row, frozenset), first_missing(clauses, row, reference.key_of)
 
     def test_shared(self):
@@ -124,13 +127,13 @@ class Sharing(Agree):
         self.assertEqual(len({reference.key_of(clause) for clause in (A, C, D, E)}), 4)
 
     def test_offers(self):
-        """Each is decided as the clauses say, and not their keys."""
-        for family, least in zip(FAMILIES, [600, 1000]):
-            otherwise = 0
+        """Each is decided as the clauses say, and not their keys, with signs and without."""
+        for family, least in zip(FAMILIES, [300, 400]):
+            otherwise = Counter()
             for clauses, lines, missing, by_keys in self.offers(family, 4):
                 self.assertEqual(self.offer(opened(clauses), *lines), ("refused", 11, missing) if missing else ("done",), clauses)
-                otherwise += missing != by_keys
-            self.assertGreater(otherwise, least)
+                otherwise[b"-" in lines[1]] += missing != by_keys
+            self.assertGreater(min(otherwise[signed] for signed in (False, True)), least)
 
     def test_program(self):
         """The program decides so too."""
@@ -144,8 +147,9 @@ class Sharing(Agree):
         host = opened([A, D, C])
         host.literals[:6] = [reference.literal_code(literal) for literal in B]
         self.assertEqual(self.clause(host, 1, bytes(40))[0], "done")
-        for row, answer in [(exchange((A, C)), ("refused", 11, 3)), (exchange((B, D)), ("done",))]:
-            self.assertEqual(self.offer(host, *generate.offers(random.Random(13), 512, [row])), answer)
+        chance = random.Random(13)
+        for pair, answer in [((A, C), ("refused", 11, 3)), ((B, D), ("done",))]:
+            self.assertEqual(self.offer(host, *generate.offers(chance, 512, [exchange(chance, [pair])])), answer)
 
 
 if __name__ == "__main__":

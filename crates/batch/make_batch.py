@@ -14,9 +14,9 @@ sys.path[:0] = [os.path.join(TESTS, "reference"), os.path.join(TESTS, "host")]
 import generate
 import reference
 
-# How many inputs of each kind: refused with a number, or accepted with as many rows that move something.
+# How many inputs of each kind: refused with a number, or accepted with as many rows that move something, of which some turn signs or none.
 WANTED = {**{("refused", number): 3 for number in (1, 3, 4, 6, 7, 8, 9, 10, 11, 15)},
-          ("accepted", 0): 6, ("accepted", 1): 6, ("accepted", 2): 7, ("accepted", 3): 7, ("accepted", 4): 6}
+          ("accepted", 0, False): 6, **{("accepted", rows, signed): 3 for rows in (1, 2, 3, 4) for signed in (False, True)}}
 
 
 def kind(data):
@@ -24,7 +24,8 @@ def kind(data):
     printed = reference.program(data)
     if printed.startswith(b"refused"):
         return "refused", int(printed.split()[1])
-    return "accepted", generate.moving_rows(data)
+    rows = generate.moving_rows(data)
+    return "accepted", len(rows), any("signed" in generate.sorts(row) for row in rows)
 
 
 def batch(chance):

@@ -67,9 +67,9 @@ loop-again c =
     let on : SameFound value (pairsAt i row) (pairsAt (i + 1) row) × (placed values (pairsAt (i + 1) row) ≡ true) =
     ⊎-elim
     (λ f. let moved : getD row i 0 ≡ 2 * (i + 1) → ⊥ = λ own. f .0 .taken (omega (arith, own)) in
-        (found-alike value row i (inside t) moved (f .3 .left), placed-alike values row i (inside t) p moved (f .3 .left)))
+    (found-alike value row i (inside t) moved (f .3 .left), placed-alike values row i (inside t) p moved (f .3 .left)))
     (λ f. let stays : getD row i 0 ≡ 2 * (i + 1) = omega (arith, f .left) in
-        (found-past value row i (inside t) stays, placed-past values row i (inside t) p stays)) (c .if1 .came) in
+    (found-past value row i (inside t) stays, placed-past values row i (inside t) p stays)) (c .if1 .came) in
     (omega arith, found-on value (l .loop .inv .1) (on .0), on .1)
 
 returns-2 : tie.Need-returns-2 Inv-loop μ-loop

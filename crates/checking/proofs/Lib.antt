@@ -1,4 +1,5 @@
 pub mod ClauseLaws
 pub mod CheckLaws
 pub mod SixLaws
+pub mod ReadLaws
 pub mod VerdictLaws

@@ -13,12 +13,13 @@ use Rattle.lists.proofs.Members.{all-at}
 use Rattle.store.specs.Literals.{oppositeOf, isLiteral}
 use Rattle.store.proofs.FormLaws.{literal-low, literal-high, literal-within}
 use Rattle.lexleader.specs.Models.{literalValue, clauseHolds, formulaHolds}
+use Rattle.lexleader.specs.Rows.{Pair}
 use Rattle.lexleader.specs.Made.{agrees}
 use Rattle.lexleader.specs.Clause.{columnOf, pairAt}
 use Rattle.lexleader.specs.Places.{sixAt}
 use Rattle.lexleader.specs.declared.places.Place.{Place}
 use Rattle.lexleader.proofs.Truth.{value-opposite}
-use Rattle.checking.specs.SixClauses.{LiteralsWithin, PairWithin, ordered, auxiliaryDue}
+use Rattle.checking.specs.SixClauses.{LiteralsWithin, ordered, auxiliaryDue}
 
 -- ---- what they say, by cases: g is the value of the auxiliary before, e its own, x and y those of its pair, and m says that the next one is ordered
 
@@ -85,6 +86,11 @@ module _ (v : ℕ → Bool) (row : List ℕ) (p : Place) where
       go false = simp (value-opposite v, or-false) (later-says before e x y next)
 
 -- ---- the range of their literals
+
+-- both literals of a pair are of the variables 1..n
+pub record PairWithin (n : ℕ) (q : Pair) : Type 0 where
+  pub x : isLiteral n (q .x) ≡ true
+  pub y : isLiteral n (q .y) ≡ true
 
 -- literal j of clause k of the table
 in-table : (n : ℕ) (table : List (List ℕ)) → LiteralsWithin n table → (k j : ℕ) → k < length table → j < length (getD table k [])

@@ -24,8 +24,3 @@ auxiliaryDue v row p = (eqb (p .j) 1 || literalValue v (2 * (p .auxiliary - 1)))
 -- all literals of clauses are of the variables 1..n
 abbrev pub LiteralsWithin : ℕ → List (List ℕ) → Type 0
 LiteralsWithin n clauses = allOf (allOf (isLiteral n)) clauses ≡ true
-
--- both literals of a pair are
-pub record PairWithin (n : ℕ) (q : Pair) : Type 0 where
-  pub x : isLiteral n (q .x) ≡ true
-  pub y : isLiteral n (q .y) ≡ true

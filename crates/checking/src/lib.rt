@@ -10,23 +10,23 @@ use cursor::Cursor;
 use lexleader::places::Place;
 use store::record::Record;
 ghost use mathlib.Core.Path.{_≡_};
-ghost use mathlib.Core.Bool.{true};
+ghost use mathlib.Core.Bool.{true, not, _||_, Bool·beq};
 ghost use mathlib.Core.List.{[]};
-ghost use Prim.Native.Nat.{ℕ, _*_, _≤_, _<_};
+ghost use Prim.Native.Nat.{ℕ, _*_, _<_};
 ghost use lib.ListN.{length, getD};
-ghost use Rattle.lists.specs.Tests.{allOf};
+ghost use Rattle.lists.specs.Tests.{anyOf, allOf};
 ghost use Rattle.packed.specs.Words.{bitsOf, isAssignment};
 ghost use Rattle.packed.specs.Order.{valueOf};
 ghost use Rattle.store.specs.Literals.{isLiteral};
-ghost use Rattle.store.specs.Stores.{maxVariables, stored, isFormed};
+ghost use Rattle.store.specs.Stores.{isRow, stored, isFormed};
 ghost use Rattle.lexleader.specs.Models.{clauseHolds, formulaHolds};
-ghost use Rattle.lexleader.specs.Made.{agrees};
 ghost use Rattle.lexleader.specs.Clause.{pairAt};
 ghost use Rattle.lexleader.specs.Places.{sixAt, ClauseStands};
 ghost use Rattle.lexleader.specs.Store.{variablesOf};
 ghost use Rattle.cursor.specs.Cursors.{addedFrom, remainingOf, rowOf, CursorStands, ClauseRemains, AtAuxiliary};
 ghost use Rattle.checking.specs.Checking.{verdictOf, firstFalse};
-ghost use Rattle.checking.specs.SixClauses.{LiteralsWithin, PairWithin, ordered, auxiliaryDue};
+ghost use Rattle.checking.specs.Reading.{byCode, TableOf};
+ghost use Rattle.checking.specs.SixClauses.{LiteralsWithin, auxiliaryDue};
 
 // Every clause of the made formula is true, or the number of the first that is false, from 1.
 pub enum Checked {
@@ -47,17 +47,19 @@ pub fn first_false(
     ensures { λ r. let s = stored counts (literals .entry) (ends .entry) (images .entry) in
         ⌜ verdictOf r ≡ firstFalse s (now (a .entry)) ⌝ }
 {
+    let mut values = [false; valuation::TABLE];
+    valuation::tabulate(a, counts.variables, &mut values);
     let total = lexleader::counting::totals_of(counts, images);
     let clauses = total.clauses;
     let mut at = cursor::start(counts, images);
     let mut q = 1;
     while q <= clauses {
-        if six_hold(counts, images, at, a) {
+        if six_hold(counts, images, at, &values, a) {
             at = cursor::next_auxiliary(counts, images, at);
             q += 6;
             continue;
         }
-        if !holds_at(counts, literals, ends, images, at, a) {
+        if !holds_at(counts, literals, ends, images, at, &values, a) {
             return Checked::Falsified(q);
         }
         at = cursor::next(counts, images, at);
@@ -67,8 +69,8 @@ pub fn first_false(
 }
 
 // Whether a cursor stands at the first of an auxiliary's six clauses and they all hold.
-fn six_hold(counts: Record, images: &[u16], at: Cursor, a: &[u64]) -> bool
-    requires { ⌜ CursorStands counts (now images) at
+fn six_hold(counts: Record, images: &[u16], at: Cursor, values: &[bool], a: &[u64]) -> bool
+    requires { ⌜ CursorStands counts (now images) at × TableOf (counts .variables) (now values) (now a)
         × LiteralsWithin (64 * length (now a)) (addedFrom counts (now images) (at .row) (at .place)) ⌝ }
     ensures { λ r. let images = now (images .entry) in
         let six = sixAt (rowOf counts images at) (at .place) in
@@ -80,72 +82,79 @@ fn six_hold(counts: Record, images: &[u16], at: Cursor, a: &[u64]) -> bool
     }
     let row = store::rows::row(images, counts.variables, at.row);
     let place = at.place;
-    table_holds(row, place, a)
+    table_holds(row, place, values, a)
 }
 
 // Whether the six clauses of the auxiliary at a place hold: it is true exactly when it is due, the next pair is ordered where it is true,
 // and so is the pair of the row's first auxiliary.
-fn table_holds(row: &[u16], place: Place, a: &[u64]) -> bool
-    requires { ⌜ ClauseStands (now row) place × (place .next < length (now row))
-        × LiteralsWithin (64 * length (now a)) (sixAt (now row) place) ⌝ }
+fn table_holds(row: &[u16], place: Place, values: &[bool], a: &[u64]) -> bool
+    requires { let n = length (now row) in
+        ⌜ ClauseStands (now row) place × (place .next < n) × (isRow n (now row) ≡ true)
+        × TableOf n (now values) (now a) × LiteralsWithin (64 * length (now a)) (sixAt (now row) place) ⌝ }
     ensures { λ r. let six = sixAt (now (row .entry)) place in
         ⌜ ((n : ℕ) → LiteralsWithin n six → r ≡ formulaHolds (valueOf (bitsOf n (now (a .entry)))) six) ⌝ }
 {
     let i = place.index;
     let next = place.next;
-    let due = auxiliary_due(row, place, a);
+    let due = auxiliary_due(row, place, values, a);
     if valuation::variable_value(a, place.auxiliary as usize) {
         if !due {
             return false;
         }
-        return is_ordered(row, next, a);
+        return is_ordered(row, next, values);
     }
     if due {
         return false;
     }
     if place.j == 1 {
-        return is_ordered(row, i, a);
+        return is_ordered(row, i, values);
     }
     true
 }
 
 // Whether the auxiliary at a place has to be true.
-fn auxiliary_due(row: &[u16], place: Place, a: &[u64]) -> bool
-    requires { ⌜ ClauseStands (now row) place × LiteralsWithin (64 * length (now a)) (sixAt (now row) place) ⌝ }
+fn auxiliary_due(row: &[u16], place: Place, values: &[bool], a: &[u64]) -> bool
+    requires { let n = length (now row) in
+        ⌜ ClauseStands (now row) place × (isRow n (now row) ≡ true)
+        × TableOf n (now values) (now a) × LiteralsWithin (64 * length (now a)) (sixAt (now row) place) ⌝ }
     ensures { λ r. let row = now (row .entry) in
         ⌜ ((n : ℕ) → LiteralsWithin n (sixAt row place) → r ≡ auxiliaryDue (valueOf (bitsOf n (now (a .entry)))) row place) ⌝ }
 {
     let i = place.index;
     if place.j == 1 {
-        return pair_agrees(row, i, a);
+        return pair_agrees(row, i, values);
     }
     if !valuation::variable_value(a, place.auxiliary as usize - 1) {
         return false;
     }
-    pair_agrees(row, i, a)
+    pair_agrees(row, i, values)
 }
 
 // Whether a variable and its image have the same value.
-fn pair_agrees(row: &[u16], i: usize, a: &[u64]) -> bool
-    requires { ⌜ (i < length (now row)) × (i ≤ maxVariables) × PairWithin (64 * length (now a)) (pairAt (now row) i) ⌝ }
-    ensures { λ r. let pair = pairAt (now (row .entry)) i in
-        ⌜ ((n : ℕ) → PairWithin n pair → r ≡ agrees (valueOf (bitsOf n (now (a .entry)))) pair) ⌝ }
+fn pair_agrees(row: &[u16], i: usize, values: &[bool]) -> bool
+    requires { let pair = pairAt (now row) i in let size = length (now values) in
+        ⌜ (i < length (now row)) × (pair .x < size) × (pair .y < size) ⌝ }
+    ensures { λ r. let pair = pairAt (now (row .entry)) i in let value = byCode (now (values .entry)) in
+        ⌜ r ≡ Bool·beq (value (pair .x)) (value (pair .y)) ⌝ }
 {
-    let y = store::literal::wide(row[i]);
-    valuation::variable_value(a, i + 1) == valuation::literal_value(a, y)
+    let own = 2 * (i + 1);
+    let image = row[i] as usize;
+    values[own] == values[image]
 }
 
 // Whether a variable's image is true where the variable is.
-fn is_ordered(row: &[u16], i: usize, a: &[u64]) -> bool
-    requires { ⌜ (i < length (now row)) × (i ≤ maxVariables) × PairWithin (64 * length (now a)) (pairAt (now row) i) ⌝ }
-    ensures { λ r. let pair = pairAt (now (row .entry)) i in
-        ⌜ ((n : ℕ) → PairWithin n pair → r ≡ ordered (valueOf (bitsOf n (now (a .entry)))) pair) ⌝ }
+fn is_ordered(row: &[u16], i: usize, values: &[bool]) -> bool
+    requires { let pair = pairAt (now row) i in let size = length (now values) in
+        ⌜ (i < length (now row)) × (pair .x < size) × (pair .y < size) ⌝ }
+    ensures { λ r. let pair = pairAt (now (row .entry)) i in let value = byCode (now (values .entry)) in
+        ⌜ r ≡ (not (value (pair .x)) || value (pair .y)) ⌝ }
 {
-    let y = store::literal::wide(row[i]);
-    if !valuation::variable_value(a, i + 1) {
+    let own = 2 * (i + 1);
+    if !values[own] {
         return true;
     }
-    valuation::literal_value(a, y)
+    let image = row[i] as usize;
+    values[image]
 }
 
 // Whether the clause at a cursor has a true literal.
@@ -155,10 +164,12 @@ fn holds_at(
     ends: &[u16],
     images: &[u16],
     at: Cursor,
+    values: &[bool],
     a: &[u64],
 ) -> bool
     requires { let s = stored counts literals ends images in
         ⌜ (isFormed s ≡ true) × CursorStands counts (now images) at × ClauseRemains counts at
+        × TableOf (counts .variables) (now values) (now a)
         × (allOf (isLiteral (64 * length (now a))) (getD (remainingOf s at) 0 []) ≡ true) ⌝ }
     ensures { λ r. let s = stored counts (literals .entry) (ends .entry) (images .entry) in
         let clause = getD (remainingOf s at) 0 [] in
@@ -167,7 +178,7 @@ fn holds_at(
     if at.plain < counts.clauses {
         return stored_holds(
             store::clauses::clause(literals, ends, counts.clauses, at.plain),
-            a,
+            values,
         );
     }
     let row = store::rows::row(images, counts.variables, at.row);
@@ -179,14 +190,13 @@ fn holds_at(
 }
 
 // Whether a clause of the store has a true literal.
-fn stored_holds(clause: &[u16], a: &[u64]) -> bool
-    requires { ⌜ allOf (isLiteral (64 * length (now a))) (now clause) ≡ true ⌝ }
-    ensures { λ r. let clause = now (clause .entry) in
-        ⌜ ((n : ℕ) → allOf (isLiteral n) clause ≡ true → r ≡ clauseHolds (valueOf (bitsOf n (now (a .entry)))) clause) ⌝ }
+fn stored_holds(clause: &[u16], values: &[bool]) -> bool
+    requires { ⌜ ((i : ℕ) → i < length (now clause) → getD (now clause) i 0 < length (now values)) ⌝ }
+    ensures { λ r. ⌜ r ≡ anyOf (byCode (now (values .entry))) (now (clause .entry)) ⌝ }
 {
     let mut i = 0;
     while i < clause.len() {
-        if valuation::literal_value(a, clause[i] as u32) {
+        if values[clause[i] as usize] {
             return true;
         }
         i += 1;

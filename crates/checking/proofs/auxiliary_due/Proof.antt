@@ -1,47 +1,59 @@
 -- `checking::auxiliary_due` meets its contract: the row's first auxiliary has none before it. Assumes nothing.
 use mathlib.Core.Path.{_≡_, sym, _∙_}
-use Prim.Native.Nat.{ℕ, _-_, _*_}
+use mathlib.Core.Bool.{Bool·beq}
+use Prim.Native.Nat.{ℕ, _+_, _-_, _*_}
 use native.Mathlib.Omega.{arith}
 use borrow.Author.Tests.{eq-eqb, ne-eqb, not-true, not-false}
+use lib.ListN.{getD}
 use Rattle.packed.specs.Words.{bitsOf}
 use Rattle.packed.specs.Order.{valueOf}
 use Rattle.store.proofs.FormLaws.{literal-low, literal-high}
 use Rattle.lexleader.specs.Models.{literalValue}
+use Rattle.lexleader.specs.Made.{agrees}
+use Rattle.lexleader.specs.Clause.{pairAt}
 use Rattle.lexleader.specs.Places.{sixAt}
+use Rattle.checking.specs.Reading.{byCode}
 use Rattle.checking.specs.SixClauses.{LiteralsWithin, auxiliaryDue}
 use Rattle.checking.proofs.SixLaws.{own-within, before-within, pair-within}
+use Rattle.checking.proofs.ReadLaws.{pair-places, read-agrees}
 use borrow.Author.Needs.{needs}
 use Rattle.checking.proofs.auxiliary_due.Statement.{statement}
 use Rattle.checking.proofs.auxiliary_due.Tie as tie
 
+-- what the table says of the pair
+agreed : (s : tie.Start) (n : ℕ) → let row = s .args .row .now in let i = s .args .place .index in let value = byCode (s .args .values .now) in
+    LiteralsWithin n (sixAt row (s .args .place)) → Bool·beq (value (2 * (i + 1))) (value (getD row i 0)) ≡ agrees (valueOf (bitsOf n (s .args .a .now))) (pairAt row i)
+agreed s n within =
+    let row = s .args .row .now in
+    read-agrees row (s .pre .1) (s .pre .2) _ (s .pre .0 .inside) n (pair-within n row (s .args .place) within)
+
 pair-agrees-requires : tie.Need-pair-agrees-requires
 pair-agrees-requires c κs =
-    let s = c .before .before .before .before in
-    (s .pre .0 .inside, omega (arith, s .pre .0 .small, s .pre .0 .inside), pair-within _ (s .args .row .now) (s .args .place) (s .pre .1))
+    let s = c .before .before .before .before .before in
+    pair-places (s .args .row .now) (s .pre .1) (s .pre .2) _ (s .pre .0 .inside)
 
 returns : tie.Need-returns
 unfolding auxiliaryDue
 returns c n within =
-    let s = c .before .before .before .before .before in
-    rw (eq-eqb _ 1 (c .before .if1 .taken)) (c .pair-agrees .ensures n (pair-within n (s .args .row .now) (s .args .place) within))
+    rw (eq-eqb _ 1 (c .before .if1 .taken)) (c .pair-agrees .ensures ∙ agreed (c .before .before .before .before .before .before) n within)
 
 sub-variable-value : tie.Need-sub-variable-value
 sub-variable-value c =
-    let s = c .before .before .before .before .before in
-    omega (arith, literal-low _ _ (own-within _ (s .args .row .now) (s .args .place) (s .pre .1)))
+    let s = c .before .before .before .before .before .before in
+    omega (arith, literal-low _ _ (own-within _ (s .args .row .now) (s .args .place) (s .pre .3)))
 
 variable-value-requires : tie.Need-variable-value-requires
 variable-value-requires c κs =
-    let s = c .before .before .before .before .before in
-    let e = before-within _ (s .args .row .now) (s .args .place) (s .pre .1) (c .before .if1 .left) in
+    let s = c .before .before .before .before .before .before in
+    let e = before-within _ (s .args .row .now) (s .args .place) (s .pre .3) (c .before .if1 .left) in
     (omega (arith, literal-low _ _ e), omega (arith, literal-high _ _ e))
 
 -- the value of the auxiliary before
-before : (c : tie.After-variable-value) (n : ℕ) → let a = c .before .before .before .before .before .before .args in
+before : (c : tie.After-variable-value) (n : ℕ) → let a = c .before .before .before .before .before .before .before .args in
     LiteralsWithin n (sixAt (a .row .now) (a .place)) → c .variable-value .result ≡ literalValue (valueOf (bitsOf n (a .a .now))) (2 * (a .place .auxiliary - 1))
 before c n within =
     let i = c .before .before in
-    let a = i .before .before .before .before .args in
+    let a = i .before .before .before .before .before .args in
     c .variable-value .ensures n (omega (arith, literal-high _ _ (before-within n (a .row .now) (a .place) within (i .if1 .left))))
 
 returns-2 : tie.Need-returns-2
@@ -50,16 +62,15 @@ returns-2 c n within = rw (ne-eqb _ 1 (c .before .before .before .if1 .left), sy
 
 pair-agrees-requires-2 : tie.Need-pair-agrees-requires-2
 pair-agrees-requires-2 c κs =
-    let s = c .before .before .before .before .before .before .before in
-    (s .pre .0 .inside, omega (arith, s .pre .0 .small, s .pre .0 .inside), pair-within _ (s .args .row .now) (s .args .place) (s .pre .1))
+    let s = c .before .before .before .before .before .before .before .before in
+    pair-places (s .args .row .now) (s .pre .1) (s .pre .2) _ (s .pre .0 .inside)
 
 returns-3 : tie.Need-returns-3
 unfolding auxiliaryDue
 returns-3 c n within =
     let l = c .before .before in
     let i = l .before .before in
-    let a = i .before .before .before .before .args in
-    rw (ne-eqb _ 1 (i .if1 .left), sym (before l n within) ∙ not-false _ (c .before .if2 .left)) (c .pair-agrees2 .ensures n (pair-within n (a .row .now) (a .place) within))
+    rw (ne-eqb _ 1 (i .if1 .left), sym (before l n within) ∙ not-false _ (c .before .if2 .left)) (c .pair-agrees2 .ensures ∙ agreed (i .before .before .before .before .before) n within)
 
 pub auxiliary-due-spec : {M : Type 1} → statement M
 auxiliary-due-spec =

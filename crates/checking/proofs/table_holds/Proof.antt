@@ -13,28 +13,29 @@ use Rattle.lexleader.specs.Clause.{pairAt}
 use Rattle.lexleader.specs.Places.{sixAt}
 use Rattle.checking.specs.SixClauses.{LiteralsWithin, ordered}
 use Rattle.checking.proofs.SixLaws.{six-say, own-within, pair-within, next-within}
+use Rattle.checking.proofs.ReadLaws.{pair-places, read-ordered}
 use borrow.Author.Needs.{needs}
 use Rattle.checking.proofs.table_holds.Statement.{statement}
 use Rattle.checking.proofs.table_holds.Tie as tie
 
 auxiliary-due-requires : tie.Need-auxiliary-due-requires
-auxiliary-due-requires c κs = let s = c .before .before in (s .pre .0, s .pre .2)
+auxiliary-due-requires c κs = let s = c .before .before .before in (s .pre .0, s .pre .2, s .pre .3, s .pre .4)
 
 variable-value-requires : tie.Need-variable-value-requires
 variable-value-requires c κs =
-    let s = c .before .before .before .before in
-    let e = own-within _ (s .args .row .now) (s .args .place) (s .pre .2) in
+    let s = c .before .before .before .before .before in
+    let e = own-within _ (s .args .row .now) (s .args .place) (s .pre .4) in
     (omega (arith, literal-low _ _ e), omega (arith, literal-high _ _ e))
 
 -- what the clauses say, by the values that were read
-says : (c : tie.After-variable-value) (n : ℕ) → let a = c .before .before .before .before .before .args in let v = valueOf (bitsOf n (a .a .now)) in
+says : (c : tie.After-variable-value) (n : ℕ) → let a = c .before .before .before .before .before .before .args in let v = valueOf (bitsOf n (a .a .now)) in
     LiteralsWithin n (sixAt (a .row .now) (a .place))
     → formulaHolds v (sixAt (a .row .now) (a .place))
     ≡ cond (c .variable-value .result) (c .before .before .auxiliary-due .result && ordered v (pairAt (a .row .now) (a .place .next)))
     (not (c .before .before .auxiliary-due .result) && (not (eqb (a .place .j) 1) || ordered v (pairAt (a .row .now) (a .place .index))))
 says c n within =
     let d = c .before .before in
-    let a = d .before .before .before .args in
+    let a = d .before .before .before .before .args in
     let v = valueOf (bitsOf n (a .a .now)) in
     let row = a .row .now in
     let p = a .place in
@@ -50,15 +51,17 @@ returns c n within =
 
 is-ordered-requires : tie.Need-is-ordered-requires
 is-ordered-requires c κs =
-    let s = c .before .before .before .before .before .before .before in
-    (s .pre .1, omega (arith, s .pre .0 .small, s .pre .1), next-within _ (s .args .row .now) (s .args .place) (s .pre .2))
+    let s = c .before .before .before .before .before .before .before .before in
+    pair-places (s .args .row .now) (s .pre .2) (s .pre .3) _ (s .pre .1)
 
 returns-2 : tie.Need-returns-2
 returns-2 c n within =
     let i = c .before .before in
     let l = i .before in
-    let a = l .before .before .before .before .before .args in
-    c .is-ordered .ensures n (next-within n (a .row .now) (a .place) within)
+    let s = l .before .before .before .before .before .before in
+    let row = s .args .row .now in
+    c .is-ordered .ensures
+    ∙ read-ordered row (s .pre .2) (s .pre .3) _ (s .pre .1) n (next-within n row (s .args .place) within)
     ∙ sym (says l n within ∙ rw (i .if1 .taken, not-false (l .before .before .auxiliary-due .result) (c .before .if2 .left)))
 
 returns-3 : tie.Need-returns-3
@@ -68,16 +71,18 @@ returns-3 c n within =
 
 is-ordered-requires-2 : tie.Need-is-ordered-requires-2
 is-ordered-requires-2 c κs =
-    let s = c .before .before .before .before .before .before .before .before .before in
-    (s .pre .0 .inside, omega (arith, s .pre .0 .small, s .pre .0 .inside), pair-within _ (s .args .row .now) (s .args .place) (s .pre .2))
+    let s = c .before .before .before .before .before .before .before .before .before .before in
+    pair-places (s .args .row .now) (s .pre .2) (s .pre .3) _ (s .pre .0 .inside)
 
 returns-4 : tie.Need-returns-4
 returns-4 c n within =
     let k = c .before .before .before in
     let i = k .before in
     let l = i .before in
-    let a = l .before .before .before .before .before .args in
-    c .is-ordered2 .ensures n (pair-within n (a .row .now) (a .place) within)
+    let s = l .before .before .before .before .before .before in
+    let row = s .args .row .now in
+    c .is-ordered2 .ensures
+    ∙ read-ordered row (s .pre .2) (s .pre .3) _ (s .pre .0 .inside) n (pair-within n row (s .args .place) within)
     ∙ sym (says l n within ∙ rw (i .if1 .left, k .if3 .left, eq-eqb _ 1 (c .before .if4 .taken)))
 
 returns-5 : tie.Need-returns-5

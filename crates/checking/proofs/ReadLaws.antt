@@ -65,10 +65,11 @@ module _ (row : List ℕ) (good : isRow (length row) row ≡ true) {values : Lis
     y : byCode values (getD row i 0) ≡ literalValue (valueOf (bitsOf n a)) (getD row i 0)
     y = read t n (getD row i 0) (within .y) (w .y)
 
-    pub read-agrees : Bool·beq (byCode values (2 * (i + 1))) (byCode values (getD row i 0)) ≡ agrees (valueOf (bitsOf n a)) (pairAt row i)
+    -- b is what the code answers
+    pub read-agrees : (b : Bool) → b ≡ Bool·beq (byCode values (2 * (i + 1))) (byCode values (getD row i 0)) → b ≡ agrees (valueOf (bitsOf n a)) (pairAt row i)
     unfolding agrees
-    read-agrees = ap₂ Bool·beq x y
+    read-agrees b e = e ∙ ap₂ Bool·beq x y
 
-    pub read-ordered : (not (byCode values (2 * (i + 1))) || byCode values (getD row i 0)) ≡ ordered (valueOf (bitsOf n a)) (pairAt row i)
+    pub read-ordered : (b : Bool) → b ≡ (not (byCode values (2 * (i + 1))) || byCode values (getD row i 0)) → b ≡ ordered (valueOf (bitsOf n a)) (pairAt row i)
     unfolding ordered
-    read-ordered = ap₂ (λ (u v : Bool). not u || v) x y
+    read-ordered b e = e ∙ ap₂ (λ (u v : Bool). not u || v) x y

@@ -2,6 +2,11 @@
 // after another, by a cursor, until one is false; where the six of an auxiliary all hold they are passed at once. What carries the proofs:
 // the first false clause of all is the first false one of those that are left.
 //
+// A plain variable may be looked at in any clause and for every row. So the values of the plain variables' literals are put into a table by
+// code once (`valuation::tabulate`), where the sign of a literal costs nothing. An auxiliary is looked at for its own six clauses and for
+// those of the next one alone, so it is read from the words; and so is each literal of an added clause that is tried by itself, which may
+// have both kinds.
+//
 // The six clauses of ej are tried by the values of six literals, each read once. r1 to r5 say that ej is true exactly when it is due: when
 // e(j-1) is true, or ej is the row's first, and xj and yj agree (`lexleader::table` says why). r6 says that xj+1 is at most yj+1 where ej
 // is true. In the first column r1 says that x1 is at most y1, which is a question only where the two differ, so where e1 is not due. Where

@@ -1,5 +1,6 @@
-// The value of a literal under an assignment lent as words (document 01, "Assignments, filling in and descent"), which checking reads;
-// and the values of all literals in a table by code, which descent and filling in read many times before the assignment changes.
+// The value of a literal under an assignment lent as words (document 01, "Assignments, filling in and descent"), which checking reads of
+// auxiliaries; and the values of all literals in a table by code, which checking, descent and filling in read many times before the
+// assignment changes.
 use packed::writer;
 use packed::writer::Writer;
 ghost use mathlib.Core.Path.{_≡_};

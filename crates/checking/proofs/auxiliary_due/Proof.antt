@@ -1,31 +1,19 @@
 -- `checking::auxiliary_due` meets its contract: the row's first auxiliary has none before it. Assumes nothing.
 use mathlib.Core.Path.{_≡_, sym, _∙_}
-use mathlib.Core.Bool.{Bool·beq}
-use Prim.Native.Nat.{ℕ, _+_, _-_, _*_}
+use Prim.Native.Nat.{ℕ, _-_, _*_}
 use native.Mathlib.Omega.{arith}
 use borrow.Author.Tests.{eq-eqb, ne-eqb, not-true, not-false}
-use lib.ListN.{getD}
 use Rattle.packed.specs.Words.{bitsOf}
 use Rattle.packed.specs.Order.{valueOf}
 use Rattle.store.proofs.FormLaws.{literal-low, literal-high}
 use Rattle.lexleader.specs.Models.{literalValue}
-use Rattle.lexleader.specs.Made.{agrees}
-use Rattle.lexleader.specs.Clause.{pairAt}
 use Rattle.lexleader.specs.Places.{sixAt}
-use Rattle.checking.specs.Reading.{byCode}
 use Rattle.checking.specs.SixClauses.{LiteralsWithin, auxiliaryDue}
 use Rattle.checking.proofs.SixLaws.{own-within, before-within, pair-within}
 use Rattle.checking.proofs.ReadLaws.{pair-places, read-agrees}
 use borrow.Author.Needs.{needs}
 use Rattle.checking.proofs.auxiliary_due.Statement.{statement}
 use Rattle.checking.proofs.auxiliary_due.Tie as tie
-
--- what the table says of the pair
-agreed : (s : tie.Start) (n : ℕ) → let row = s .args .row .now in let i = s .args .place .index in let value = byCode (s .args .values .now) in
-    LiteralsWithin n (sixAt row (s .args .place)) → Bool·beq (value (2 * (i + 1))) (value (getD row i 0)) ≡ agrees (valueOf (bitsOf n (s .args .a .now))) (pairAt row i)
-agreed s n within =
-    let row = s .args .row .now in
-    read-agrees row (s .pre .1) (s .pre .2) _ (s .pre .0 .inside) n (pair-within n row (s .args .place) within)
 
 pair-agrees-requires : tie.Need-pair-agrees-requires
 pair-agrees-requires c κs =
@@ -35,7 +23,10 @@ pair-agrees-requires c κs =
 returns : tie.Need-returns
 unfolding auxiliaryDue
 returns c n within =
-    rw (eq-eqb _ 1 (c .before .if1 .taken)) (c .pair-agrees .ensures ∙ agreed (c .before .before .before .before .before .before) n within)
+    let s = c .before .before .before .before .before .before in
+    let row = s .args .row .now in
+    rw (eq-eqb _ 1 (c .before .if1 .taken))
+    (read-agrees row (s .pre .1) (s .pre .2) _ (s .pre .0 .inside) n (pair-within n row (s .args .place) within) _ (c .pair-agrees .ensures))
 
 sub-variable-value : tie.Need-sub-variable-value
 sub-variable-value c =
@@ -70,7 +61,10 @@ unfolding auxiliaryDue
 returns-3 c n within =
     let l = c .before .before in
     let i = l .before .before in
-    rw (ne-eqb _ 1 (i .if1 .left), sym (before l n within) ∙ not-false _ (c .before .if2 .left)) (c .pair-agrees2 .ensures ∙ agreed (i .before .before .before .before .before) n within)
+    let s = i .before .before .before .before .before in
+    let row = s .args .row .now in
+    rw (ne-eqb _ 1 (i .if1 .left), sym (before l n within) ∙ not-false _ (c .before .if2 .left))
+    (read-agrees row (s .pre .1) (s .pre .2) _ (s .pre .0 .inside) n (pair-within n row (s .args .place) within) _ (c .pair-agrees2 .ensures))
 
 pub auxiliary-due-spec : {M : Type 1} → statement M
 auxiliary-due-spec =

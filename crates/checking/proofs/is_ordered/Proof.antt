@@ -14,13 +14,10 @@ own s = byCode (s .args .values .now) (2 * (s .args .i + 1))
 returns : tie.Need-returns
 returns c = rw (not-true (own (c .before .before)) (c .if1 .taken))
 
-cast-image : tie.Need-cast-image
-cast-image c = search needs
-
 returns-2 : tie.Need-returns-2
 returns-2 c = let i = c .before .before in rw (not-false (own (i .before .before)) (i .if1 .left))
 
 pub is-ordered-spec : {M : Type 1} → statement M
 is-ordered-spec =
     tie.close
-    (tie.spec (search needs) (search needs) (search needs) returns (search needs) (search needs) cast-image (search needs) returns-2)
+    (tie.spec (search needs) (search needs) (search needs) returns (search needs) (search needs) (search needs) (search needs) returns-2)

@@ -60,8 +60,7 @@ returns-2 c n within =
     let l = i .before in
     let s = l .before .before .before .before .before .before in
     let row = s .args .row .now in
-    c .is-ordered .ensures
-    ∙ read-ordered row (s .pre .2) (s .pre .3) _ (s .pre .1) n (next-within n row (s .args .place) within)
+    read-ordered row (s .pre .2) (s .pre .3) _ (s .pre .1) n (next-within n row (s .args .place) within) _ (c .is-ordered .ensures)
     ∙ sym (says l n within ∙ rw (i .if1 .taken, not-false (l .before .before .auxiliary-due .result) (c .before .if2 .left)))
 
 returns-3 : tie.Need-returns-3
@@ -81,8 +80,7 @@ returns-4 c n within =
     let l = i .before in
     let s = l .before .before .before .before .before .before in
     let row = s .args .row .now in
-    c .is-ordered2 .ensures
-    ∙ read-ordered row (s .pre .2) (s .pre .3) _ (s .pre .0 .inside) n (pair-within n row (s .args .place) within)
+    read-ordered row (s .pre .2) (s .pre .3) _ (s .pre .0 .inside) n (pair-within n row (s .args .place) within) _ (c .is-ordered2 .ensures)
     ∙ sym (says l n within ∙ rw (i .if1 .left, k .if3 .left, eq-eqb _ 1 (c .before .if4 .taken)))
 
 returns-5 : tie.Need-returns-5

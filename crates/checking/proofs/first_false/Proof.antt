@@ -120,14 +120,14 @@ returns c =
     let e = h .before .before .before .before .before in
     let l = e .before in
     let s = l .before .before .before .before .before .before .before .before .before .before in
-    try-found (S s) (s .pre .0) (s .args .a .now) (l .loop .inv) (e .loop-test .taken) (sym (told h) ∙ not-true _ (c .if2 .taken))
+    try-found (S s) (s .pre .0) (s .args .a .now) (l .loop .inv) (omega (arith, e .loop-test .taken)) (sym (told h) ∙ not-true _ (c .if2 .taken))
 
 next-requires : tie.Need-next-requires Inv-loop μ-loop
 next-requires c κs =
     let e = c .before .before .before .before .before .before in
     let l = e .before in
     let s = l .before .before .before .before .before .before .before .before .before .before in
-    (l .loop .inv .stands, left-some (S s) (s .pre .0) (s .args .a .now) (l .loop .inv) (e .loop-test .taken))
+    (l .loop .inv .stands, left-some (S s) (s .pre .0) (s .args .a .now) (l .loop .inv) (omega (arith, e .loop-test .taken)))
 
 add-q-2 : tie.Need-add-q-2 Inv-loop μ-loop
 add-q-2 c = let l = c .before .before .before .before .before .before .before .before in omega (arith, l .before .before .totals-of .ensures .few-clauses)

@@ -19,7 +19,8 @@ use Rattle.store.proofs.Formed.{row-of}
 use Rattle.lexleader.specs.Models.{literalValue, clauseHolds}
 use Rattle.lexleader.specs.Made.{agrees}
 use Rattle.lexleader.specs.Clause.{pairAt}
-use Rattle.checking.specs.Reading.{byCode, TableOf}
+use Rattle.valuation.specs.Tables.{byCode}
+use Rattle.checking.specs.Reading.{TableOf}
 use Rattle.checking.specs.SixClauses.{ordered}
 use Rattle.checking.proofs.SixLaws.{PairWithin}
 

@@ -28,9 +28,10 @@ ghost use Rattle.lexleader.specs.Models.{clauseHolds, formulaHolds};
 ghost use Rattle.lexleader.specs.Clause.{pairAt};
 ghost use Rattle.lexleader.specs.Places.{sixAt, ClauseStands};
 ghost use Rattle.lexleader.specs.Store.{variablesOf};
+ghost use Rattle.valuation.specs.Tables.{byCode};
 ghost use Rattle.cursor.specs.Cursors.{addedFrom, remainingOf, rowOf, CursorStands, ClauseRemains, AtAuxiliary};
 ghost use Rattle.checking.specs.Checking.{verdictOf, firstFalse};
-ghost use Rattle.checking.specs.Reading.{byCode, TableOf};
+ghost use Rattle.checking.specs.Reading.{TableOf};
 ghost use Rattle.checking.specs.SixClauses.{LiteralsWithin, auxiliaryDue};
 
 // Every clause of the made formula is true, or the number of the first that is false, from 1.

@@ -17,10 +17,10 @@ use Rattle.lexleader.specs.Deciding.{deciding, lowersAlong, SameAlong}
 use Rattle.lexleader.proofs.Tests.{all-mem}
 use Rattle.lexleader.proofs.Pairs.{both}
 use Rattle.lexleader.proofs.Moved.{pairs-within}
-use Rattle.valuation.specs.Tables.{bitsIn, Table}
+use Rattle.valuation.specs.Tables.{byCode, bitsIn, Table}
 use Rattle.valuation.proofs.TableLaws.{length-in}
 use Rattle.trial.specs.Answer.{Answers}
-use Rattle.trial.specs.Spans.{byCode, placed}
+use Rattle.trial.specs.Spans.{placed}
 use Rattle.trial.proofs.PairLaws.{placed-all}
 use Rattle.trial.proofs.Theorem.{trial-answers}
 

@@ -13,7 +13,8 @@ use Rattle.lexleader.specs.Rows.{Pair}
 use Rattle.lexleader.specs.Clause.{pairAt, pairsAt}
 use Rattle.lexleader.proofs.Walk.{pairs-start, walk-past, walk-moved, walk-end, later-pairs}
 use Rattle.lexleader.specs.Deciding.{decides, deciding, lowersAlong}
-use Rattle.trial.specs.Spans.{byCode, placed, Covers, IsSpan}
+use Rattle.valuation.specs.Tables.{byCode}
+use Rattle.trial.specs.Spans.{placed, Covers, IsSpan}
 
 -- ---- a step
 

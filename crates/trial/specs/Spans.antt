@@ -1,17 +1,14 @@
 -- What a trial walks and what it reads. Assumes nothing.
 use mathlib.Core.Path.{_≡_}
 use Prim.Native.Nat.{ℕ, _-_, _*_, _≤_, _<_}
-use mathlib.Core.Bool.{Bool, true, false, _&&_, _||_}
+use mathlib.Core.Bool.{Bool, true, _&&_, _||_}
 use mathlib.Core.List.{List, [], _∷_}
-use lib.ListN.{length, getD}
+use lib.ListN.{length}
 use lib.Dec.{ltb}
 use Rattle.lexleader.specs.Rows.{Pair, pairsOf}
 use Rattle.lexleader.specs.Deciding.{decides}
 use Rattle.lexleader.specs.Clause.{pairsAt, NextMoved}
-
--- values lent by code
-abbrev pub byCode : List Bool → ℕ → Bool
-byCode values code = getD values code false
+use Rattle.valuation.specs.Tables.{byCode}
 
 -- there is a value for each moved variable and for its image, as far as the first that decides; of others there may be any, or none
 unfoldable pub placed : List Bool → List Pair → Bool

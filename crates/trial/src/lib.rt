@@ -18,7 +18,8 @@ ghost use lib.ListN.{length};
 ghost use Rattle.store.specs.Stores.{maxVariables};
 ghost use Rattle.lexleader.specs.Rows.{pairsOf};
 ghost use Rattle.lexleader.specs.Deciding.{deciding, lowersAlong};
-ghost use Rattle.trial.specs.Spans.{byCode, placed, Covers, IsSpan};
+ghost use Rattle.valuation.specs.Tables.{byCode};
+ghost use Rattle.trial.specs.Spans.{placed, Covers, IsSpan};
 
 // Whether the row makes the assignment smaller, and the variable that decided, 0 where none does.
 pub struct Trial {

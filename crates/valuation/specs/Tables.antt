@@ -13,6 +13,10 @@ use Rattle.lexleader.specs.Models.{literalValue}
 abbrev pub maxTable : ℕ
 maxTable = 2 * maxVariables + 2
 
+-- what a table has at a literal's code
+abbrev pub byCode : List Bool → ℕ → Bool
+byCode values code = getD values code false
+
 -- the values of the variables 1..n in a table
 unfoldable pub bitsIn : ℕ → List Bool → List Bool
 bitsIn n values = table n (λ i. getD values (2 * i + 2) false)

@@ -2,7 +2,7 @@
 use mathlib.Core.Bool.{Bool}
 use Prim.Native.Nat.{_+_, _*_}
 use borrow.Author.Tests.{not-true, not-false}
-use Rattle.checking.specs.Reading.{byCode}
+use Rattle.valuation.specs.Tables.{byCode}
 use borrow.Author.Needs.{needs}
 use Rattle.checking.proofs.is_ordered.Statement.{statement}
 use Rattle.checking.proofs.is_ordered.Tie as tie

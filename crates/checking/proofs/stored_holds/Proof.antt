@@ -5,7 +5,7 @@ use native.Mathlib.Omega.{arith}
 use lib.ListN.{length, drop}
 use Rattle.lists.specs.Tests.{anyOf}
 use Rattle.lists.proofs.Steps.{any-drop-hit, any-drop-miss, any-drop-end}
-use Rattle.checking.specs.Reading.{byCode}
+use Rattle.valuation.specs.Tables.{byCode}
 use borrow.Author.Needs.{needs}
 use Rattle.checking.proofs.stored_holds.Statement.{statement}
 use Rattle.checking.proofs.stored_holds.Tie as tie

@@ -8,7 +8,8 @@ use native.Mathlib.Omega.{arith}
 use lib.ListN.{length, getD}
 use Rattle.lexleader.specs.Rows.{pairsOf}
 use Rattle.lexleader.specs.Clause.{pairsAt}
-use Rattle.trial.specs.Spans.{byCode, placed}
+use Rattle.valuation.specs.Tables.{byCode}
+use Rattle.trial.specs.Spans.{placed}
 use Rattle.trial.proofs.PairLaws.{SameFound, found-start, found-on, found-past, found-alike, found-here, found-none, placed-past, placed-here, placed-alike}
 use borrow.Author.Needs.{needs}
 use Rattle.trial.proofs.try_row.Statement.{statement}

@@ -8,38 +8,33 @@ use native.Mathlib.Omega.{arith}
 use borrow.Author.Tests.{ltb-true, lt-ltb}
 use lib.Dec.{ltb}
 use lib.ListN.{length, getD}
-use Rattle.lists.proofs.Cases.{and-l, and-r, and-both, eq-or-ne}
-use Rattle.lexleader.specs.Rows.{Pair}
+use Rattle.lists.proofs.Cases.{never, and-l, and-r, and-both, eq-or-ne}
+use Rattle.lexleader.specs.Rows.{Pair, pairsOf}
 use Rattle.lexleader.specs.Clause.{pairAt, pairsAt}
 use Rattle.lexleader.proofs.Walk.{pairs-start, walk-past, walk-moved, walk-end, later-pairs}
 use Rattle.lexleader.specs.Deciding.{decides, deciding, lowersAlong}
 use Rattle.valuation.specs.Tables.{byCode}
-use Rattle.trial.specs.Spans.{placed, Covers, IsSpan}
+use Rattle.trial.specs.Spans.{placed, SameFound, Decides, Covers, IsSpan}
 
 -- ---- a step
-
--- what is found along the pairs from index i on, the answer and the variable
-pub record SameFound (value : ℕ → Bool) (pairs rest : List Pair) : Type 0 where
-  pub yes : lowersAlong value pairs ≡ lowersAlong value rest
-  pub variable : deciding value pairs ≡ deciding value rest
 
 module _ (value : ℕ → Bool) where
   pub found-start : {pairs rest : List Pair} → pairs ≡ rest → SameFound value pairs rest
   found-start e = record { yes = ap (lowersAlong value) e; variable = ap (deciding value) e }
 
-  pub found-on : {pairs rest next : List Pair} → SameFound value pairs rest → SameFound value rest next → SameFound value pairs next
+  found-on : {pairs rest next : List Pair} → SameFound value pairs rest → SameFound value rest next → SameFound value pairs next
   found-on s t = record { yes = s .yes ∙ t .yes; variable = s .variable ∙ t .variable }
 
   module _ (row : List ℕ) (i : ℕ) (h : i < length row) where
-    pub found-past : getD row i 0 ≡ 2 * (i + 1) → SameFound value (pairsAt i row) (pairsAt (i + 1) row)
+    found-past : getD row i 0 ≡ 2 * (i + 1) → SameFound value (pairsAt i row) (pairsAt (i + 1) row)
     found-past e = found-start (walk-past row i h e)
 
     module _ (m : getD row i 0 ≡ 2 * (i + 1) → ⊥) where
-      pub found-alike : not (Bool·beq (value (2 * (i + 1))) (value (getD row i 0))) ≡ false → SameFound value (pairsAt i row) (pairsAt (i + 1) row)
+      found-alike : not (Bool·beq (value (2 * (i + 1))) (value (getD row i 0))) ≡ false → SameFound value (pairsAt i row) (pairsAt (i + 1) row)
       unfolding lowersAlong deciding decides
       found-alike e = let front = walk-moved row i h m in record { yes = rw (front, e); variable = rw (front, e) }
 
-      pub found-here : not (Bool·beq (value (2 * (i + 1))) (value (getD row i 0))) ≡ true
+      found-here : not (Bool·beq (value (2 * (i + 1))) (value (getD row i 0))) ≡ true
           → (deciding value (pairsAt i row) ≡ i + 1) × (lowersAlong value (pairsAt i row) ≡ value (2 * (i + 1)))
       unfolding lowersAlong deciding decides
       found-here e =
@@ -47,7 +42,7 @@ module _ (value : ℕ → Bool) where
           let front = walk-moved row i h m in
           (rw (front, e) half, rw (front, e))
 
-  pub found-none : (deciding value [] ≡ 0) × (lowersAlong value [] ≡ false)
+  found-none : (deciding value [] ≡ 0) × (lowersAlong value [] ≡ false)
   unfolding lowersAlong deciding
   found-none = (refl, refl)
 
@@ -63,7 +58,7 @@ placed-all values (q ∷ pairs) all =
     (rw (placed-all values pairs (λ p m. all p (List·Memᴰ·tail m))) (or-true (decides (byCode values) q)))
 
 module _ (values : List Bool) (row : List ℕ) (i : ℕ) (h : i < length row) (p : placed values (pairsAt i row) ≡ true) where
-  pub placed-past : getD row i 0 ≡ 2 * (i + 1) → placed values (pairsAt (i + 1) row) ≡ true
+  placed-past : getD row i 0 ≡ 2 * (i + 1) → placed values (pairsAt (i + 1) row) ≡ true
   placed-past e = rw (walk-past row i h e) at p
 
   module _ (m : getD row i 0 ≡ 2 * (i + 1) → ⊥) where
@@ -86,9 +81,52 @@ module _ (values : List Bool) (row : List ℕ) (i : ℕ) (h : i < length row) (p
           ltb-true (getD row i 0) (length values) (and-r (ltb (2 * (i + 1)) (length values)) (ltb (getD row i 0) (length values)) both),
         )
 
-    pub placed-alike : not (Bool·beq (byCode values (2 * (i + 1))) (byCode values (getD row i 0))) ≡ false → placed values (pairsAt (i + 1) row) ≡ true
+    placed-alike : not (Bool·beq (byCode values (2 * (i + 1))) (byCode values (getD row i 0))) ≡ false → placed values (pairsAt (i + 1) row) ≡ true
     unfolding decides
     placed-alike e = rw e at (and-r inside after front)
+
+-- ---- the ways out of `decides`
+
+module _ (row : List ℕ) (values : List Bool) (i : ℕ) (h : i < length row) (p : placed values (pairsAt i row) ≡ true) where
+  pub decides-past : getD row i 0 ≡ 2 * (i + 1) → Decides row values i false
+  decides-past e = record {
+    place = λ t. never t;
+    variable = λ t. never t;
+    yes = λ t. never t;
+    rest = λ _. found-past (byCode values) row i h e;
+    rest-placed = λ _. placed-past values row i h p e;
+  }
+
+  pub decides-moved : (getD row i 0 ≡ 2 * (i + 1) → ⊥) → Decides row values i (not (Bool·beq (byCode values (2 * (i + 1))) (byCode values (getD row i 0))))
+  decides-moved m = record {
+    place = λ _. placed-here values row i h p m .0;
+    variable = λ t. found-here (byCode values) row i h m t .0;
+    yes = λ t. found-here (byCode values) row i h m t .1;
+    rest = λ f. found-alike (byCode values) row i h m f;
+    rest-placed = λ f. placed-alike values row i h p m f;
+  }
+
+-- ---- a walk that has found nothing before index i
+
+pub record Trying (row : List ℕ) (values : List Bool) (i : ℕ) : Type 0 where
+  pub found : SameFound (byCode values) (pairsOf row) (pairsAt i row)
+  pub places : placed values (pairsAt i row) ≡ true
+
+module _ {row : List ℕ} {values : List Bool} {i : ℕ} (t : Trying row values i) where
+  -- what a trial answers
+  abbrev Answer : ℕ → Bool → Type 0
+  Answer variable lowers = (variable ≡ deciding (byCode values) (pairsOf row)) × (lowers ≡ lowersAlong (byCode values) (pairsOf row))
+
+  pub trying-on : {b : Bool} → Decides row values i b → b ≡ false → Trying row values (i + 1)
+  trying-on d f = record { found = found-on (byCode values) (t .found) (d .rest f); places = d .rest-placed f }
+
+  pub trying-here : {b : Bool} → Decides row values i b → b ≡ true → (variable : ℕ) (lowers : Bool) → variable ≡ i + 1 → lowers ≡ byCode values (2 * (i + 1)) → Answer variable lowers
+  trying-here d e variable lowers v l = (v ∙ sym (t .found .variable ∙ d .variable e), l ∙ sym (t .found .yes ∙ d .yes e))
+
+  pub trying-none : pairsAt i row ≡ [] → Answer 0 false
+  trying-none e =
+      let none = found-on (byCode values) (t .found) (found-start (byCode values) e) in
+      (sym (none .variable ∙ found-none (byCode values) .0), sym (none .yes ∙ found-none (byCode values) .1))
 
 -- ---- the pairs of a row
 

@@ -1,12 +1,12 @@
 -- What a trial walks and what it reads. Assumes nothing.
 use mathlib.Core.Path.{_≡_}
-use Prim.Native.Nat.{ℕ, _-_, _*_, _≤_, _<_}
-use mathlib.Core.Bool.{Bool, true, _&&_, _||_}
+use Prim.Native.Nat.{ℕ, _+_, _-_, _*_, _≤_, _<_}
+use mathlib.Core.Bool.{Bool, true, false, _&&_, _||_}
 use mathlib.Core.List.{List, [], _∷_}
 use lib.ListN.{length, getD}
 use lib.Dec.{ltb}
 use Rattle.lexleader.specs.Rows.{Pair, pairsOf}
-use Rattle.lexleader.specs.Deciding.{decides}
+use Rattle.lexleader.specs.Deciding.{decides, deciding, lowersAlong}
 use Rattle.lexleader.specs.Clause.{pairsAt, NextMoved}
 use Rattle.valuation.specs.Tables.{byCode}
 
@@ -14,6 +14,19 @@ use Rattle.valuation.specs.Tables.{byCode}
 unfoldable pub placed : List Bool → List Pair → Bool
 placed values [] = true
 placed values (q ∷ pairs) = (ltb (q .x) (length values) && ltb (q .y) (length values)) && (decides (byCode values) q || placed values pairs)
+
+-- the same is found along some pairs as along others: the answer, and the variable
+pub record SameFound (value : ℕ → Bool) (pairs rest : List Pair) : Type 0 where
+  pub yes : lowersAlong value pairs ≡ lowersAlong value rest
+  pub variable : deciding value pairs ≡ deciding value rest
+
+-- b says whether the variable at index i decides. Where it does, that is what is found from i on; where it does not, the rest decides.
+pub record Decides (row : List ℕ) (values : List Bool) (i : ℕ) (b : Bool) : Type 0 where
+  pub place : b ≡ true → 2 * (i + 1) < length values
+  pub variable : b ≡ true → deciding (byCode values) (pairsAt i row) ≡ i + 1
+  pub yes : b ≡ true → lowersAlong (byCode values) (pairsAt i row) ≡ byCode values (2 * (i + 1))
+  pub rest : b ≡ false → SameFound (byCode values) (pairsAt i row) (pairsAt (i + 1) row)
+  pub rest-placed : b ≡ false → placed values (pairsAt (i + 1) row) ≡ true
 
 -- all moved variables have an index from `first` up to `end`
 pub record Covers (row : List ℕ) (first end : ℕ) : Type 0 where

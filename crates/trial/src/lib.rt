@@ -13,13 +13,14 @@
 // variable to the last, and a trial then walks that alone.
 ghost use mathlib.Core.Path.{_≡_};
 ghost use mathlib.Core.Bool.{true};
-ghost use Prim.Native.Nat.{_≤_};
+ghost use Prim.Native.Nat.{_+_, _*_, _≤_, _<_};
 ghost use lib.ListN.{length};
 ghost use Rattle.store.specs.Stores.{maxVariables};
 ghost use Rattle.lexleader.specs.Rows.{pairsOf};
+ghost use Rattle.lexleader.specs.Clause.{pairsAt};
 ghost use Rattle.lexleader.specs.Deciding.{deciding, lowersAlong};
 ghost use Rattle.valuation.specs.Tables.{byCode};
-ghost use Rattle.trial.specs.Spans.{placed, Covers, IsSpan};
+ghost use Rattle.trial.specs.Spans.{placed, Decides, Covers, IsSpan};
 
 // Whether the row makes the assignment smaller, and the variable that decided, 0 where none does.
 pub struct Trial {
@@ -33,7 +34,8 @@ pub struct Span {
     pub end: usize,
 }
 
-// Tries a row on the values of literals by code, where no variable outside of a span is moved.
+// Tries a row on the values of literals by code, where no variable outside of a span is moved. Two variables to a turn, which is a step
+// and a test of the end less for every other one.
 pub fn try_row(row: &[u16], span: Span, values: &[bool]) -> Trial
     requires { ⌜ Covers (now row) (span .first) (span .end) × (placed (now values) (pairsOf (now row)) ≡ true) ⌝ }
     ensures variable { λ r. ⌜ r .variable ≡ deciding (byCode (now (values .entry))) (pairsOf (now (row .entry))) ⌝ }
@@ -42,23 +44,48 @@ pub fn try_row(row: &[u16], span: Span, values: &[bool]) -> Trial
     let first = span.first;
     let end = span.end;
     let mut i = first;
-    while i < end {
-        let own = 2 * (i + 1);
-        let image = row[i] as usize;
-        if image != own {
-            let value = values[own];
-            if value != values[image] {
-                return Trial {
-                    lowers: value,
-                    variable: i + 1,
-                };
-            }
+    while i + 1 < end {
+        if decides(row, i, values) {
+            return decided(i, values);
         }
-        i += 1;
+        if decides(row, i + 1, values) {
+            return decided(i + 1, values);
+        }
+        i += 2;
+    }
+    if i < end {
+        if decides(row, i, values) {
+            return decided(i, values);
+        }
     }
     Trial {
         lowers: false,
         variable: 0,
+    }
+}
+
+// Whether the variable at an index decides: it is moved, and has another value than its image.
+fn decides(row: &[u16], i: usize, values: &[bool]) -> bool
+    requires { ⌜ (i < length (now row)) × (placed (now values) (pairsAt i (now row)) ≡ true) ⌝ }
+    ensures { λ r. ⌜ Decides (now (row .entry)) (now (values .entry)) i r ⌝ }
+{
+    let own = 2 * (i + 1);
+    let image = row[i] as usize;
+    if image == own {
+        return false;
+    }
+    values[own] != values[image]
+}
+
+// What the variable at an index decides: A moved is smaller where its value is true.
+fn decided(i: usize, values: &[bool]) -> Trial
+    requires { ⌜ 2 * (i + 1) < length (now values) ⌝ }
+    ensures variable { λ r. ⌜ r .variable ≡ i + 1 ⌝ }
+    ensures lowers { λ r. ⌜ r .lowers ≡ byCode (now (values .entry)) (2 * (i + 1)) ⌝ }
+{
+    Trial {
+        lowers: values[2 * (i + 1)],
+        variable: i + 1,
     }
 }
 

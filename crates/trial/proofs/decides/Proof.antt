@@ -1,5 +1,5 @@
 -- `trial::decides` meets its contract, by one law for each way out. Assumes nothing.
-use Prim.Native.Nat.{ℕ, _+_, _*_, _<_}
+use Prim.Native.Nat.{_+_, _*_, _<_}
 use native.Mathlib.Omega.{arith}
 use lib.ListN.{length, getD}
 use Rattle.trial.proofs.PairLaws.{decides-past, decides-moved, placed-here}

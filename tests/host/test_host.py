@@ -79,7 +79,7 @@ class Stores(Agree):
     def test_random(self):
         chance = random.Random(4)
         answers, lines, accepted = {}, {}, Counter()
-        for _ in range(2200):
+        for _ in range(2500):
             n = chance.choice([0, 1, 2, 3, 4, 5, 6, 9])
             clauses, rows = generate.formula(chance, n, 12)
             text = generate.text(chance, n, clauses)

@@ -401,7 +401,7 @@ class Demand3(unittest.TestCase):
     def test_lists(self):
         chance = random.Random(11)
         seen = Counter()
-        for _ in range(320):
+        for _ in range(400):
             n = chance.choice([0, 1, 2, 3, 3, 4, 4, 5, 5, 6, 7])
             clauses, rows = generate.family(chance, n, (generate.cycles, generate.powers, generate.columns))
             host = opened(b"p cnf %d %d\n" % (n, len(clauses)) + b"".join(map(reference.clause_line, clauses)), 400, 120, 80)

@@ -519,6 +519,11 @@ def models(formula, a, free):
         yield from models(left, {**a, free[0]: value}, free[1:])
 
 
+def small_rows():
+    """All rows of up to four variables, signed or not, and those of five without signs: a count of variables and its rows."""
+    return [(n, list(signed_rows(n))) for n in range(1, 5)] + [(5, list(itertools.permutations(range(1, 6))))]
+
+
 def signed_rows(n):
     """All permutations of 1..n, with all choices of signs."""
     for sizes in itertools.permutations(range(1, n + 1)):
@@ -617,7 +622,7 @@ class Demands(unittest.TestCase):
 
     def test_random_formulas(self):
         rng, seen = random.Random(17), Counter()
-        for _ in range(550):
+        for _ in range(600):
             text, clauses, row = random_formula(rng, rng.choice((0, 1, 2, 3, 4, 5, 6, 6)))
             host = Host(text, 128, 64, 64, 40)
             self.assertEqual(host.answer[0], "done")
@@ -633,10 +638,9 @@ class Demands(unittest.TestCase):
             self.assertGreater(seen[sort], least, sort)
 
     def test_every_row_fills_in_uniquely(self):
-        """Every row of up to four variables, signed or not, and pairs of them: kept is what none makes smaller, with one setting, and filling in writes it."""
+        """Every small row, and pairs of them: kept is what none makes smaller, with one setting, and filling in writes it."""
         rng = random.Random(18)
-        for n in range(1, 5):
-            rows = list(signed_rows(n))
+        for n, rows in small_rows():
             for held in [[p] for p in rows] + [rng.choices(rows, k=2) for _ in range(100)]:
                 host = Host(b"p cnf %d 0" % n).with_rows(*held)
                 made, (total, count) = list(ref.made_formula(*host.store)), ref.made_counts(host.record, host.images)
@@ -648,9 +652,9 @@ class Demands(unittest.TestCase):
                     self.assertEqual(full, [] if lowered else [ref.filled_in(host.record, host.images, a)])
 
     def test_trial_is_comparison(self):
-        """CR 2 and reading F9: every row of up to four variables, signed or not, on every assignment."""
-        for n in range(1, 5):
-            for p in signed_rows(n):
+        """CR 2 and reading F9: every small row on every assignment."""
+        for n, rows in small_rows():
+            for p in rows:
                 row = dict(enumerate(p, 1))
                 for bits in itertools.product((False, True), repeat=n):
                     a = dict(enumerate(bits, 1))

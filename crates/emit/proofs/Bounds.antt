@@ -7,11 +7,11 @@ use native.Mathlib.Omega.{arith}
 use lib.ListN.{length, getD}
 use Rattle.lists.specs.Tests.{allOf}
 use Rattle.lists.proofs.Members.{all-at}
+use Rattle.lists.proofs.Tests.{all-mem}
 use Rattle.store.specs.Literals.{isLiteral}
 use Rattle.store.specs.Stores.{Store, isFormed}
 use Rattle.store.proofs.FormLaws.{literal-high}
 use Rattle.lexleader.specs.Store.{madeOf, variablesOf, clausesOf}
-use Rattle.lexleader.proofs.Tests.{all-mem}
 use Rattle.lexleader.proofs.StoreBounds.{variables-most, clauses-most, store-within, clause-most}
 use Rattle.render.specs.Text.{clauseLine}
 use Rattle.render.proofs.LineLaws.{line-within, header-within}

@@ -9,6 +9,7 @@ use borrow.Author.Tests.{not-true}
 use lib.ListN.{length, length-append}
 use Rattle.lists.specs.Tests.{allOf}
 use Rattle.lists.proofs.Cases.{and-l, and-r, and-both}
+use Rattle.lists.proofs.Tests.{all-mem, mem-all}
 use Rattle.packed.specs.Order.{valueOf}
 use Rattle.store.specs.Literals.{isLiteral}
 use Rattle.store.specs.Stores.{isRow}
@@ -17,7 +18,6 @@ use Rattle.lexleader.specs.Models.{formulaHolds, Model}
 use Rattle.lexleader.specs.Rows.{lowers, pairsOf}
 use Rattle.lexleader.specs.Made.{rowClauses, auxiliaries, rowsClauses, made, madeVariables, rowSettings, settings}
 use Rattle.lexleader.specs.Kept.{Completes, Least}
-use Rattle.lexleader.proofs.Tests.{all-mem, mem-all}
 use Rattle.lexleader.proofs.Truth.{formula-append, literal-front, formula-front}
 use Rattle.lexleader.proofs.Values.{reads, reads-append, reads-behind}
 use Rattle.lexleader.proofs.Pairs.{pairs-say, along-same, settings-same}

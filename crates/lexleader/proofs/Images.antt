@@ -7,6 +7,7 @@ use native.Mathlib.Omega.{arith}
 use lib.ListN.{length, getD, length-map}
 use Rattle.lists.specs.Tests.{allOf}
 use Rattle.lists.proofs.Members.{any-at, any-in, map-at, any-map}
+use Rattle.lists.proofs.Tests.{all-mem, mem-all, any-same}
 use Rattle.packed.specs.Order.{valueOf}
 use Rattle.store.specs.Literals.{isNegative, oppositeOf, isLiteral}
 use Rattle.store.proofs.FormLaws.{literal-low, literal-high}
@@ -15,7 +16,6 @@ use Rattle.symmetry.specs.Symmetry.{imageOf, clauseImage, IsSymmetry}
 use Rattle.symmetry.proofs.SetLaws.{mem-at, at-mem, same-eq, same-sym}
 use Rattle.lexleader.specs.Models.{literalValue, clauseHolds, formulaHolds}
 use Rattle.lexleader.specs.Rows.{moved}
-use Rattle.lexleader.proofs.Tests.{all-mem, mem-all, any-same}
 use Rattle.lexleader.proofs.Truth.{value-opposite}
 
 pub length-moved : (row : List ℕ) (a : List Bool) → length (moved row a) ≡ length row

@@ -1,4 +1,3 @@
-pub mod Tests
 pub mod Truth
 pub mod Images
 pub mod Values

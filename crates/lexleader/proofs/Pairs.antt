@@ -5,11 +5,11 @@ use mathlib.Core.List.{List, [], _∷_, List·Memᴰ·head, List·Memᴰ·tail}
 use Prim.Native.Nat.{ℕ, _+_}
 use Rattle.lists.specs.Tests.{anyOf, allOf}
 use Rattle.lists.proofs.Cases.{and-l, and-r}
+use Rattle.lists.proofs.Tests.{all-mem}
 use Rattle.lexleader.specs.Models.{literalValue, clauseHolds, formulaHolds}
 use Rattle.lexleader.specs.Rows.{Pair}
 use Rattle.lexleader.specs.Deciding.{decides, deciding, lowersAlong, SameAlong}
 use Rattle.lexleader.specs.Made.{laterClauses, pairClauses, agrees, settingsAfter}
-use Rattle.lexleader.proofs.Tests.{all-mem}
 use Rattle.lexleader.proofs.Truth.{value-opposite, value-positive}
 use Rattle.lexleader.proofs.Values.{reads}
 

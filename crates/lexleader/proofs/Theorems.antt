@@ -7,6 +7,7 @@ use Prim.Native.Nat.{ℕ, _≤_}
 use native.Mathlib.Omega.{arith}
 use lib.ListN.{length, take, drop, take-append-drop, length-take}
 use Rattle.lists.specs.Tests.{allOf}
+use Rattle.lists.proofs.Tests.{all-mem}
 use Rattle.store.specs.Literals.{isLiteral}
 use Rattle.store.specs.Stores.{isRow}
 use Rattle.store.proofs.Formed.{row-of}
@@ -15,7 +16,6 @@ use Rattle.lexleader.specs.Rows.{moved, lowers}
 use Rattle.lexleader.specs.Made.{made, madeVariables, settings}
 use Rattle.lexleader.specs.Kept.{Completes, Kept, Least, Carried, stay, move, Symmetric}
 use Rattle.lexleader.specs.Descent.{settled, spent, descend}
-use Rattle.lexleader.proofs.Tests.{all-mem}
 use Rattle.lexleader.proofs.Images.{length-moved, formula-moved}
 use Rattle.lexleader.proofs.Completed.{completes-iff}
 use Rattle.lexleader.proofs.Descent.{ended, carried-to-least}

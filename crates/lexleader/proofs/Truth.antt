@@ -8,11 +8,11 @@ use borrow.Author.Tests.{eqb-true, eqb-false, eq-eqb, ne-eqb}
 use lib.ListN.{length, List·getD-append}
 use Rattle.lists.specs.Tests.{allOf}
 use Rattle.lists.proofs.Members.{all-append}
+use Rattle.lists.proofs.Tests.{any-same, all-same}
 use Rattle.packed.specs.Order.{valueOf}
 use Rattle.store.specs.Literals.{isNegative, oppositeOf, isLiteral}
 use Rattle.store.proofs.FormLaws.{literal-low, literal-high}
 use Rattle.lexleader.specs.Models.{literalValue, clauseHolds, formulaHolds}
-use Rattle.lexleader.proofs.Tests.{any-same, all-same}
 
 module _ (v : ℕ → Bool) where
   pub value-opposite : (code : ℕ) → literalValue v (oppositeOf code) ≡ not (literalValue v code)

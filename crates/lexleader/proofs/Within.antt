@@ -9,9 +9,9 @@ use lib.ListN.{length}
 use Rattle.lists.specs.Tests.{allOf}
 use Rattle.lists.proofs.Cases.{and-l, and-r, and-both}
 use Rattle.lists.proofs.Members.{all-append}
-use Rattle.store.specs.Literals.{isNegative, oppositeOf, isLiteral}
+use Rattle.store.specs.Literals.{oppositeOf, isLiteral}
 use Rattle.store.specs.Stores.{isRow}
-use Rattle.store.proofs.FormLaws.{literal-low, literal-high, literal-within}
+use Rattle.store.proofs.FormLaws.{literal-low, literal-high, literal-within, opposite-within}
 use Rattle.store.proofs.Formed.{row-of}
 use Rattle.lexleader.specs.Rows.{Pair, pairsOf}
 use Rattle.lexleader.specs.Made.{laterClauses, pairClauses, rowClauses, auxiliaries, rowsClauses, allAuxiliaries, made, madeVariables}
@@ -47,22 +47,6 @@ pairs-more n N h (q ∷ pairs) e =
     (pairs-more n N h pairs (and-r (isLiteral n (q .x) && isLiteral n (q .y)) _ e))
 
 module _ (N : ℕ) where
-  opposite-within : (code : ℕ) → isLiteral N code ≡ true → isLiteral N (oppositeOf code) ≡ true
-  opposite-within code e = go (isNegative code) refl
-    where
-      low : 1 ≤ code / 2
-      low = literal-low N code e
-
-      high : code / 2 ≤ N
-      high = literal-high N code e
-
-      within : (other : ℕ) → other / 2 ≡ code / 2 → isLiteral N other ≡ true
-      within other h = literal-within N other (omega (arith, low)) (omega (arith, high))
-
-      go : (b : Bool) → isNegative code ≡ b → isLiteral N (cond b (code - 1) (code + 1)) ≡ true
-      go true odd = within (code - 1) (omega (arith, eqb-true (code % 2) 1 odd))
-      go false even = within (code + 1) (omega (arith, eqb-false (code % 2) 1 even))
-
   variable-within : (e : ℕ) → 1 ≤ e → e ≤ N → isLiteral N (2 * e) ≡ true
   variable-within e low high = literal-within N (2 * e) (omega arith) (omega arith)
 
@@ -87,11 +71,11 @@ module _ (N : ℕ) where
         x,
         y,
         y2,
-        opposite-within (2 * (d + 1)) e,
-        opposite-within (2 * d) before,
-        opposite-within (q .x) x,
-        opposite-within (q .y) y,
-        opposite-within (p .x) x2,
+        opposite-within N (2 * (d + 1)) e,
+        opposite-within N (2 * d) before,
+        opposite-within N (q .x) x,
+        opposite-within N (q .y) y,
+        opposite-within N (p .x) x2,
         more,
       )
 
@@ -101,7 +85,7 @@ module _ (N : ℕ) where
   pairs-clauses-within e [] low high h = refl
   pairs-clauses-within e (q ∷ []) low high h =
       let own = and-l (isLiteral N (q .x) && isLiteral N (q .y)) _ h in
-      rw (opposite-within (q .x) (and-l (isLiteral N (q .x)) _ own), and-r (isLiteral N (q .x)) _ own)
+      rw (opposite-within N (q .x) (and-l (isLiteral N (q .x)) _ own), and-r (isLiteral N (q .x)) _ own)
   pairs-clauses-within e (q ∷ p ∷ pairs) low high h =
       let rest = and-r (isLiteral N (q .x) && isLiteral N (q .y)) _ h in
       let x = and-l (isLiteral N (q .x)) _ (and-l (isLiteral N (q .x) && isLiteral N (q .y)) _ h) in
@@ -115,10 +99,10 @@ module _ (N : ℕ) where
         x,
         y,
         y2,
-        opposite-within (2 * e) own,
-        opposite-within (q .x) x,
-        opposite-within (q .y) y,
-        opposite-within (p .x) x2,
+        opposite-within N (2 * e) own,
+        opposite-within N (q .x) x,
+        opposite-within N (q .y) y,
+        opposite-within N (p .x) x2,
         more,
       )
 

@@ -1,5 +1,6 @@
 pub mod Cases
 pub mod Members
+pub mod Tests
 pub mod Steps
 pub mod Distinct
 pub mod TableLaws

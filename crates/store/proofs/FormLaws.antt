@@ -1,11 +1,11 @@
 -- The test of a store's form: one law for each way out of the functions that make it. Assumes nothing.
 use mathlib.Core.Path.{_≡_, refl, sym, _∙_}
-use mathlib.Core.Bool.{Bool, true, false, _&&_, _||_, and-assoc, and-false, and-true, or-true, or-false}
+use mathlib.Core.Bool.{Bool, true, false, cond, _&&_, _||_, and-assoc, and-false, and-true, or-true, or-false}
 use mathlib.Core.List.{List, [], _∷_, map}
 use Prim.Native.Nat.{ℕ, _+_, _-_, _*_, _%_, _≤_, _<_}
 use native.Mathlib.Decide.{ℕ-discrete}
 use native.Mathlib.Omega.{arith}
-use borrow.Author.Tests.{eq-eqb, ne-eqb, lt-leb, le-leb, leb-true, lt-ltb, ltb-true}
+use borrow.Author.Tests.{eq-eqb, ne-eqb, eqb-true, eqb-false, lt-leb, le-leb, leb-true, lt-ltb, ltb-true}
 use lib.ListN.{length, getD, take, drop, set, drop-of-length-le, length-map, length-set, List·getD-map, replicate, length-replicate, getD-replicate}
 use lib.Seq.{getD-set-same, getD-set-other, take-all}
 use lib.Dec.{eqb, leb, ltb}
@@ -14,10 +14,19 @@ use Rattle.lists.proofs.Cases.{and-l, and-r, and-both, bool-ext}
 use Rattle.lists.proofs.Members.{all-in, all-not}
 use Rattle.lists.proofs.Steps.{drop-step}
 use Rattle.lists.proofs.Distinct.{has-more, distinct-more, distinct-twice}
-use Rattle.store.specs.Literals.{variableOf, isLiteral}
+use Rattle.store.specs.Literals.{variableOf, isNegative, oppositeOf, isLiteral}
 use Rattle.store.specs.Stores.{maxVariables, rising, literalCount, isRow}
 
 -- ---- codes
+
+-- the opposite of a literal has its variable and the other sign
+pub opposite-is : (code : ℕ) → (variableOf (oppositeOf code) ≡ variableOf code) × ((oppositeOf code + code) % 2 ≡ 1)
+opposite-is code = go (isNegative code) refl
+  where
+    go : (b : Bool) → isNegative code ≡ b → let opposite = cond b (code - 1) (code + 1) in
+        (variableOf opposite ≡ variableOf code) × ((opposite + code) % 2 ≡ 1)
+    go true e = let odd = eqb-true (code % 2) 1 e in (omega arith, omega arith)
+    go false e = let even = eqb-false (code % 2) 1 e in (omega arith, omega arith)
 
 module _ (n code : ℕ) where
   pub literal-zero : variableOf code ≡ 0 → isLiteral n code ≡ false
@@ -42,6 +51,11 @@ module _ (n code : ℕ) where
       bool-ext (ltb ((w + 65534) % 65536) (2 * n)) (isLiteral n code)
       (λ e. let below = ltb-true ((w + 65534) % 65536) (2 * n) e in literal-within (omega arith) (omega arith))
       (λ e. lt-ltb ((w + 65534) % 65536) (2 * n) (omega (arith, literal-low e, literal-high e)))
+
+pub opposite-within : (n code : ℕ) → isLiteral n code ≡ true → isLiteral n (oppositeOf code) ≡ true
+opposite-within n code e =
+    let o = opposite-is code in
+    literal-within n (oppositeOf code) (omega (arith, o .0, literal-low n code e)) (omega (arith, o .0, literal-high n code e))
 
 -- ---- the ends
 

@@ -9,7 +9,7 @@ use lib.ListN.{getD}
 use Rattle.lists.specs.Tests.{allOf}
 use Rattle.lists.proofs.Members.{all-has}
 use Rattle.store.specs.Literals.{variableOf, isNegative, oppositeOf, isLiteral}
-use Rattle.store.proofs.FormLaws.{literal-low, literal-high, literal-within}
+use Rattle.store.proofs.FormLaws.{opposite-is, literal-low, literal-high, literal-within}
 use Rattle.store.proofs.Formed.{Row}
 use Rattle.symmetry.specs.Sets.{SameSet}
 use Rattle.symmetry.specs.Symmetry.{imageOf, clauseImage}
@@ -27,13 +27,32 @@ module _ (row : List ℕ) (code : ℕ) where
 -- a literal or its opposite, by a sign: the variable is kept, and the signs add up
 pub turned : (code a : ℕ) → let r = cond (isNegative code) (oppositeOf a) a in
     (r / 2 ≡ a / 2) × ((r + code + a) % 2 ≡ 0)
-turned code a = go (isNegative code) refl (isNegative a) refl
+turned code a = go (isNegative code) refl
   where
-    go : (b : Bool) → isNegative code ≡ b → (c : Bool) → isNegative a ≡ c → let r = cond b (cond c (a - 1) (a + 1)) a in
+    go : (b : Bool) → isNegative code ≡ b → let r = cond b (oppositeOf a) a in
         (r / 2 ≡ a / 2) × ((r + code + a) % 2 ≡ 0)
-    go true e true f = let x = eqb-true (code % 2) 1 e in let y = eqb-true (a % 2) 1 f in (omega arith, omega arith)
-    go true e false f = let x = eqb-true (code % 2) 1 e in let y = eqb-false (a % 2) 1 f in (omega arith, omega arith)
-    go false e c f = let x = eqb-false (code % 2) 1 e in (refl, omega arith)
+    go true e = let x = eqb-true (code % 2) 1 e in let o = opposite-is a in (o .0, omega (arith, o .1))
+    go false e = let x = eqb-false (code % 2) 1 e in (refl, omega arith)
+
+-- opposite literals have opposite images
+pub image-opposite : (row : List ℕ) (code : ℕ) → imageOf row (oppositeOf code) ≡ oppositeOf (imageOf row code)
+unfolding imageOf
+image-opposite row code =
+    let o = opposite-is code in
+    let own = turned code (getD row (variableOf code - 1) 0) in
+    let other = turned (oppositeOf code) (getD row (variableOf (oppositeOf code) - 1) 0) in
+    let back = opposite-is (imageOf row code) in
+    let same = ap (λ (v : ℕ). getD row (v - 1) 0) (o .0) in
+    one-code (half _ _ _ _ _ (other .0) same (own .0) (back .0)) (parity _ _ _ _ _ _ code (other .1) same (own .1) (back .1) (o .1))
+  where
+    half : (x a b r own : ℕ) → x / 2 ≡ a / 2 → a ≡ b → own / 2 ≡ b / 2 → r / 2 ≡ own / 2 → x / 2 ≡ r / 2
+    half x a b r own p e q f = omega arith
+
+    parity : (x a b r own opposite code : ℕ) → (x + opposite + a) % 2 ≡ 0 → a ≡ b → (own + code + b) % 2 ≡ 0 → (r + own) % 2 ≡ 1 → (opposite + code) % 2 ≡ 1 → x % 2 ≡ r % 2
+    parity x a b r own opposite code p e q f g = omega arith
+
+    one-code : {x r : ℕ} → x / 2 ≡ r / 2 → x % 2 ≡ r % 2 → x ≡ r
+    one-code h p = omega arith
 
 module _ (n : ℕ) (row : List ℕ) (r : Row n row) where
   pub image-good : (code : ℕ) → isLiteral n code ≡ true → isLiteral n (imageOf row code) ≡ true

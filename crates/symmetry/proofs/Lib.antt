@@ -1,5 +1,6 @@
 pub mod SetLaws
 pub mod ImageLaws
+pub mod JudgedLaws
 pub mod Missing
 pub mod KeyLaws
 pub mod Looking

@@ -1,95 +1,108 @@
--- What the number of the first missing image says: 0 just where the row is a symmetry, and else which clause is the first. Assumes nothing.
-use mathlib.Core.Path.{_≡_, refl, sym, subst}
-use mathlib.Core.Bool.{Bool, true, false, cond, _&&_}
+-- What the number of the first missing image says: 0 just where the row is a symmetry. And what was a symmetry before CR 7 is one. Assumes nothing.
+use mathlib.Core.Path.{_≡_, refl, sym, _∙_}
+use mathlib.Core.Bool.{Bool, true, false, cond, _||_}
 use mathlib.Core.List.{List, [], _∷_, List·Memᴰ, Memᴰ·map, Memᴰ·of-map}
 use mathlib.Core.Logic.{_↔_}
-use Prim.Native.Nat.{ℕ, zero, suc, _+_, _<_, zero-le, suc-le-suc}
-use native.Mathlib.Nat.{not-suc-le-zero, le-of-suc-le-suc}
+use Prim.Native.Nat.{ℕ, _+_, _<_}
 use native.Mathlib.Omega.{arith}
-use lib.ListN.{length, getD}
+use lib.ListN.{getD}
 use Rattle.lists.specs.Tests.{allOf}
-use Rattle.lists.proofs.Cases.{never}
-use Rattle.lists.proofs.Members.{any-at, any-in, all-at, all-in}
+use Rattle.lists.proofs.Cases.{never, bool-ext, and-l, and-r}
+use Rattle.lists.proofs.Members.{any-at, any-in}
+use Rattle.lists.proofs.Tests.{all-mem, mem-all}
 use Rattle.store.specs.Literals.{isLiteral}
 use Rattle.store.proofs.Formed.{Row}
 use Rattle.symmetry.specs.Sets.{sameSet, SameSet, Among}
-use Rattle.symmetry.specs.Symmetry.{clauseImage, IsSymmetry, hasImage, missingFrom, firstMissing}
+use Rattle.symmetry.specs.Judged.{hasPair, judged}
+use Rattle.symmetry.specs.Symmetry.{clauseImage, MapsToItself, IsSymmetry, hasImage, missingFrom, firstMissing}
 use Rattle.symmetry.proofs.SetLaws.{mem-at, at-mem, sameSet-iff, same-eq, same-trans}
 use Rattle.symmetry.proofs.ImageLaws.{images-one}
+use Rattle.symmetry.proofs.JudgedLaws.{pair-image, judged-iff, judged-all, among-judged}
 use Rattle.symmetry.proofs.Onto.{onto}
 
 among-same : {a b : List ℕ} {formula : List (List ℕ)} → SameSet a b → Among b formula → Among a formula
 among-same s m = record { twin = m .twin; member = m .member; same = same-trans s (m .same) }
 
-module _ (row : List ℕ) (formula : List (List ℕ)) where
-  pub hasImage-iff : (clause : List ℕ) → (hasImage row formula clause ≡ true) ↔ Among (clauseImage row clause) formula
+module _ (row : List ℕ) (all : List (List ℕ)) where
+  pub hasImage-iff : (clause : List ℕ) → (hasImage row all clause ≡ true) ↔ Among (clauseImage row clause) all
   unfolding hasImage
   hasImage-iff clause = (
-    λ e. let r = any-at (sameSet (clauseImage row clause)) formula [] e in
-        record { twin = getD formula (r .0) []; member = at-mem [] formula (r .0) (r .1); same = sameSet-iff _ _ .0 (r .2) },
+    λ e. let r = any-at (sameSet (clauseImage row clause)) all [] e in
+        record { twin = getD all (r .0) []; member = at-mem [] all (r .0) (r .1); same = sameSet-iff _ _ .0 (r .2) },
     λ m. let r = mem-at [] (m .member) in
-        any-in (sameSet (clauseImage row clause)) formula [] (r .0) (r .1) (sameSet-iff _ _ .1 (same-trans (m .same) (same-eq (sym (r .2))))),
+        any-in (sameSet (clauseImage row clause)) all [] (r .0) (r .1) (sameSet-iff _ _ .1 (same-trans (m .same) (same-eq (sym (r .2))))),
   )
 
-  -- no image is missing from a part just where each of its clauses has one
-  none-iff : (k : ℕ) (clauses : List (List ℕ)) → 0 < k → (missingFrom row formula k clauses ≡ 0) ↔ (allOf (hasImage row formula) clauses ≡ true)
-  unfolding missingFrom allOf
+  -- no image is missing from a part just where each judged clause of it has one
+  none-iff : (k : ℕ) (clauses : List (List ℕ)) → 0 < k → (missingFrom row all k clauses ≡ 0) ↔ (allOf (hasImage row all) (judged clauses) ≡ true)
+  unfolding missingFrom allOf judged
   none-iff k [] h = (λ e. refl, λ e. refl)
-  none-iff k (c ∷ clauses) h = go (hasImage row formula c) (none-iff (k + 1) clauses (omega arith))
+  none-iff k (c ∷ clauses) h = go (hasPair c) (hasImage row all c) refl (none-iff (k + 1) clauses (omega arith))
     where
-      go : (b : Bool) → (missingFrom row formula (k + 1) clauses ≡ 0) ↔ (allOf (hasImage row formula) clauses ≡ true)
-          → (cond b (missingFrom row formula (k + 1) clauses) k ≡ 0) ↔ ((b && allOf (hasImage row formula) clauses) ≡ true)
-      go true rest = rest
-      go false rest = (λ e. absurd (omega arith), λ e. never e)
+      go : (p b : Bool) → hasImage row all c ≡ b → (missingFrom row all (k + 1) clauses ≡ 0) ↔ (allOf (hasImage row all) (judged clauses) ≡ true)
+          → (cond (p || b) (missingFrom row all (k + 1) clauses) k ≡ 0) ↔ (allOf (hasImage row all) (cond p (judged clauses) (c ∷ judged clauses)) ≡ true)
+      go true b q rest = rest
+      go false true q rest = rw q rest
+      go false false q rest = rw q (λ e. absurd (omega arith), λ e. never e)
 
-  -- clause k, from 0, is the first whose image is missing
-  abbrev First : List (List ℕ) → ℕ → Type 0
-  First clauses k =
-      (k < length clauses) × (hasImage row formula (getD clauses k []) ≡ false) × ((j : ℕ) → j < k → hasImage row formula (getD clauses j []) ≡ true)
-
-  first-at : (b m : ℕ) (clauses : List (List ℕ)) → missingFrom row formula b clauses ≡ m + 1 → (k : ℕ) × (b + k ≡ m + 1) × First clauses k
-  unfolding missingFrom
-  first-at b m [] e = absurd (omega arith)
-  first-at b m (c ∷ clauses) e = go (hasImage row formula c) refl (first-at (b + 1) m clauses) e
-    where
-      go : (h : Bool) → hasImage row formula c ≡ h → (missingFrom row formula (b + 1) clauses ≡ m + 1 → (k : ℕ) × (b + 1 + k ≡ m + 1) × First clauses k)
-          → cond h (missingFrom row formula (b + 1) clauses) b ≡ m + 1 → (k : ℕ) × (b + k ≡ m + 1) × First (c ∷ clauses) k
-      go true q rest e = let r = rest e in (suc (r .0), omega (arith, r .1), (suc-le-suc (r .2 .0), r .2 .1, before (r .0) (r .2 .2)))
-        where
-          before : (k : ℕ) → ((j : ℕ) → j < k → hasImage row formula (getD clauses j []) ≡ true)
-              → (j : ℕ) → j < suc k → hasImage row formula (getD (c ∷ clauses) j []) ≡ true
-          before k f zero h = q
-          before k f (suc j) h = f j (le-of-suc-le-suc h)
-      go false q rest e = (0, omega arith, (suc-le-suc zero-le, q, λ j h. absurd (not-suc-le-zero h)))
-
-  pub missing-is : (k : ℕ) → firstMissing row formula ≡ k + 1
-      → (k < length formula) × (hasImage row formula (getD formula k []) ≡ false) × ((j : ℕ) → j < k → hasImage row formula (getD formula j []) ≡ true)
-  missing-is k e = let r = first-at 1 k formula e in let q : r .0 ≡ k = omega (arith, r .1) in subst (First formula) q (r .2)
-
--- Each image is a clause, and different clauses have different images, so each clause is an image; and the other way round.
-pub none-missing-iff : (n : ℕ) (row : List ℕ) (formula : List (List ℕ)) → Row n row → allOf (allOf (isLiteral n)) formula ≡ true
-    → (firstMissing row formula ≡ 0) ↔ IsSymmetry row formula
-none-missing-iff n row formula r good = (to, from)
+-- Each image is one of the clauses, and different clauses have different images, so each clause is an image; and the other way round.
+maps-iff : (n : ℕ) (row : List ℕ) (clauses : List (List ℕ)) → Row n row → allOf (allOf (isLiteral n)) clauses ≡ true
+    → (allOf (hasImage row clauses) clauses ≡ true) ↔ MapsToItself row clauses
+maps-iff n row clauses r good = (to, from)
   where
-    literals : {c : List ℕ} → List·Memᴰ c formula → allOf (isLiteral n) c ≡ true
-    literals m = let t = mem-at [] m in rw (t .2) at (all-at (allOf (isLiteral n)) formula [] good (t .0) (t .1))
+    literals : {c : List ℕ} → List·Memᴰ c clauses → allOf (isLiteral n) c ≡ true
+    literals m = all-mem (allOf (isLiteral n)) m good
 
-    into : firstMissing row formula ≡ 0 → {c : List ℕ} → List·Memᴰ c formula → Among (clauseImage row c) formula
-    into e {c} m =
-        let t = mem-at [] m in
-        hasImage-iff row formula c .0 (rw (t .2) at (all-at (hasImage row formula) formula [] (none-iff row formula 1 formula (omega arith) .0 e) (t .0) (t .1)))
+    into : allOf (hasImage row clauses) clauses ≡ true → {c : List ℕ} → List·Memᴰ c clauses → Among (clauseImage row c) clauses
+    into e {c} m = hasImage-iff row clauses c .0 (all-mem (hasImage row clauses) m e)
 
-    to : firstMissing row formula ≡ 0 → IsSymmetry row formula
+    to : allOf (hasImage row clauses) clauses ≡ true → MapsToItself row clauses
     to e clause = (
-      λ m. let t = Memᴰ·of-map (clauseImage row) formula (m .member) in among-same (same-trans (m .same) (same-eq (sym (t .2)))) (into e (t .1)),
+      λ m. let t = Memᴰ·of-map (clauseImage row) clauses (m .member) in among-same (same-trans (m .same) (same-eq (sym (t .2)))) (into e (t .1)),
       λ m. among-same (m .same)
-          (onto (clauseImage row) formula (λ c. into e (c .1)) (λ a b. images-one n row r (a .0) (b .0) (literals (a .1)) (literals (b .1))) (m .twin, m .member)),
+          (onto (clauseImage row) clauses (λ c. into e (c .1)) (λ a b. images-one n row r (a .0) (b .0) (literals (a .1)) (literals (b .1))) (m .twin, m .member)),
     )
 
-    from : IsSymmetry row formula → firstMissing row formula ≡ 0
+    from : MapsToItself row clauses → allOf (hasImage row clauses) clauses ≡ true
     from s =
-        none-iff row formula 1 formula (omega arith) .1
-        (all-in (hasImage row formula) formula [] (λ i h.
-        let c : List ℕ = getD formula i [] in
-        hasImage-iff row formula c .1
-        (s (clauseImage row c) .0 (record { twin = clauseImage row c; member = Memᴰ·map (clauseImage row) (at-mem [] formula i h); same = same-eq refl }))))
+        mem-all (hasImage row clauses) clauses (λ c m.
+        hasImage-iff row clauses c .1
+        (s (clauseImage row c) .0 (record { twin = clauseImage row c; member = Memᴰ·map (clauseImage row) m; same = same-eq refl })))
+
+module _ (n : ℕ) (row : List ℕ) (formula : List (List ℕ)) (r : Row n row) where
+  -- the image of a judged clause is a judged clause if it is a clause at all
+  image-judged : (clause : List ℕ) → allOf (isLiteral n) clause ≡ true → hasPair clause ≡ false → hasImage row formula clause ≡ hasImage row (judged formula) clause
+  image-judged clause good none =
+      let among = among-judged formula (clauseImage row clause) (pair-image n row r clause good ∙ none) in
+      bool-ext (hasImage row formula clause) (hasImage row (judged formula) clause)
+      (λ e. hasImage-iff row (judged formula) clause .1 (among .0 (hasImage-iff row formula clause .0 e)))
+      (λ e. hasImage-iff row formula clause .1 (among .1 (hasImage-iff row (judged formula) clause .0 e)))
+
+  -- so it may be looked for among all clauses
+  pub missing-among-all : (k : ℕ) (clauses : List (List ℕ)) → allOf (allOf (isLiteral n)) clauses ≡ true
+      → missingFrom row formula k clauses ≡ missingFrom row (judged formula) k clauses
+  unfolding missingFrom allOf
+  missing-among-all k [] good = refl
+  missing-among-all k (c ∷ clauses) good =
+      go (hasPair c) refl (missing-among-all (k + 1) clauses (and-r (allOf (isLiteral n) c) (allOf (allOf (isLiteral n)) clauses) good))
+    where
+      go : (p : Bool) → hasPair c ≡ p → missingFrom row formula (k + 1) clauses ≡ missingFrom row (judged formula) (k + 1) clauses
+          → cond (p || hasImage row formula c) (missingFrom row formula (k + 1) clauses) k
+          ≡ cond (p || hasImage row (judged formula) c) (missingFrom row (judged formula) (k + 1) clauses) k
+      go true q rest = rest
+      go false q rest = rw (image-judged c (and-l (allOf (isLiteral n) c) (allOf (allOf (isLiteral n)) clauses) good) q, rest)
+
+  module _ (good : allOf (allOf (isLiteral n)) formula ≡ true) where
+    pub none-missing-iff : (firstMissing row formula ≡ 0) ↔ IsSymmetry row formula
+    none-missing-iff =
+        let none = none-iff row (judged formula) 1 formula (omega arith) in
+        let maps = maps-iff n row (judged formula) r (judged-all (allOf (isLiteral n)) formula good) in
+        (λ e. maps .0 (none .0 e), λ s. none .1 (maps .1 s))
+
+    -- "Every permutation accepted before is accepted still" (document 02, CR 7): what maps all clauses to themselves does so with the judged ones
+    pub symmetry-still : MapsToItself row formula → IsSymmetry row formula
+    symmetry-still s =
+        maps-iff n row (judged formula) r (judged-all (allOf (isLiteral n)) formula good) .0
+        (mem-all (hasImage row (judged formula)) (judged formula) (λ c m.
+        let own = judged-iff formula c .0 m in
+        rw (← image-judged c (all-mem (allOf (isLiteral n)) (own .0) good) (own .1)) (all-mem (hasImage row formula) (own .0) (maps-iff n row formula r good .1 s))))

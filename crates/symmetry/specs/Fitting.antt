@@ -22,7 +22,8 @@ pub record RowFits (m : ℕ) (literals ends keys row : List ℕ) : Type 0 where
   pub variables-fit : length row ≤ maxVariables
   pub is-row : isRow (length row) row ≡ true
 
--- a table of the places of the images of the row's literals
+-- a row, and a table of the places of the images of its literals
 pub record ImagePlaces (row table : List ℕ) : Type 0 where
+  pub is-row : isRow (length row) row ≡ true
   pub sends : (code : ℕ) → isLiteral (length row) code ≡ true → sentTo table code ≡ imageOf row code
   pub places : Places table

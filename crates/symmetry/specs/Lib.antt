@@ -1,4 +1,5 @@
 pub mod Sets
+pub mod Judged
 pub mod Symmetry
 pub mod Fitting
 pub mod Index

@@ -24,9 +24,10 @@ ghost use Rattle.store.specs.Literals.{isLiteral};
 ghost use Rattle.store.specs.Stores.{clausesIn, clauseAt, isRow, maxVariables};
 ghost use Rattle.numbers.specs.Numbers.{numbers, numberCount};
 ghost use Rattle.keys.specs.Keys.{keyOf};
-ghost use Rattle.keys.specs.Marks.{Places};
+ghost use Rattle.keys.specs.Marks.{Marked, Places, sentClause};
 ghost use Rattle.symmetry.specs.Sets.{sameSet};
-ghost use Rattle.symmetry.specs.Symmetry.{imageOf, firstMissing};
+ghost use Rattle.symmetry.specs.Judged.{hasPair};
+ghost use Rattle.symmetry.specs.Symmetry.{imageOf, missingFrom, firstMissing};
 ghost use Rattle.symmetry.specs.Fitting.{RightClauses, RowFits, ImagePlaces};
 ghost use Rattle.symmetry.specs.Sought.{Sought, SoughtKey};
 ghost use Rattle.symmetry.specs.Index.{Indexed};
@@ -87,24 +88,17 @@ fn first_missing_by(
         × Indexed m (now keys) (now heads) (now nexts) ⌝ }
     ensures { λ r. let formula = clausesIn m (now (literals .entry)) (now (ends .entry)) in
         ⌜ ((row : List ℕ) → ImagePlaces row (now (places .entry)) → allOf (allOf (isLiteral (length row))) formula ≡ true
-        → r ≡ firstMissing row formula) ⌝ }
+        → r ≡ missingFrom row formula 1 formula) ⌝ }
 {
     let mut marks = [0u16; numbers::COUNT];
     let mut c = 0;
     while c < m {
         let key = keys::key_at(literals, ends, m, c, places, table, &mut marks);
-        if !has_image(
-            key,
-            (c + 1) as u16,
-            &marks,
-            literals,
-            ends,
-            keys,
-            m,
-            heads,
-            nexts,
-        ) {
-            return c + 1;
+        let mark = (c + 1) as u16;
+        if !has_image(key, mark, &marks, literals, ends, keys, m, heads, nexts) {
+            if !has_pair(clauses::clause(literals, ends, m, c), places, mark, &marks) {
+                return c + 1;
+            }
         }
         c += 1;
     }
@@ -196,6 +190,30 @@ fn is_image(clause: &[u16], mark: u16, marks: &[u16]) -> bool
         i += 1;
     }
     true
+}
+
+// Whether what a clause is sent to has a literal together with its opposite. It has this mark and nothing else has, so one pass is enough.
+fn has_pair(
+    clause: &[u16],
+    places: &[u16; numbers::COUNT],
+    mark: u16,
+    marks: &[u16],
+) -> bool
+    requires { ⌜ (allOf (isLiteral maxVariables) (now clause) ≡ true)
+        × Places (now places)
+        × Marked mark (sentClause (now places) (now clause)) (now marks)
+        × (length (now marks) ≡ numberCount) ⌝ }
+    ensures { λ r. ⌜ r ≡ hasPair (sentClause (now (places .entry)) (now (clause .entry))) ⌝ }
+{
+    let mut i = 0;
+    while i < clause.len() {
+        let image = literal::wide(places[keys::place(literal::wide(clause[i]))]) + 2;
+        if marks[keys::place(literal::opposite(image))] == mark {
+            return true;
+        }
+        i += 1;
+    }
+    false
 }
 
 // The image of a literal of the row's variables.

@@ -6,6 +6,7 @@ use Prim.Native.Nat.{ℕ, _<_}
 use native.Mathlib.Omega.{arith}
 use lib.ListN.{length}
 use Rattle.lists.proofs.Cases.{and-l, and-r}
+use Rattle.lists.proofs.Tests.{all-mem}
 use Rattle.packed.specs.Order.{valueOf}
 use Rattle.store.specs.Literals.{isLiteral}
 use Rattle.store.specs.Stores.{isRow}
@@ -14,7 +15,6 @@ use Rattle.store.proofs.Formed.{row-of}
 use Rattle.lexleader.specs.Models.{literalValue}
 use Rattle.lexleader.specs.Rows.{Pair, pairsOf}
 use Rattle.lexleader.specs.Deciding.{deciding, lowersAlong, SameAlong}
-use Rattle.lexleader.proofs.Tests.{all-mem}
 use Rattle.lexleader.proofs.Pairs.{both}
 use Rattle.lexleader.proofs.Moved.{pairs-within}
 use Rattle.valuation.specs.Tables.{byCode, bitsIn, Table}

@@ -1,11 +1,14 @@
 -- `symmetry::first_missing` meets its contract: the places of the images and an index of the keys are made in scratch memory, and the clauses are gone through by them.
 -- Assumes nothing.
-use mathlib.Core.Path.{refl, sym}
+use mathlib.Core.Path.{refl, sym, _∙_}
+use lib.ListN.{length}
 use Rattle.store.proofs.Cuts.{clauses-count}
 use Rattle.store.specs.Stores.{maxVariables}
 use Rattle.store.proofs.Within.{formula-within}
+use Rattle.store.proofs.Formed.{row-of}
 use Rattle.keys.proofs.MarkLaws.{unmarked}
 use Rattle.keys.proofs.RightLaws.{right-long}
+use Rattle.symmetry.proofs.Theorem.{missing-among-all}
 use borrow.Author.Needs.{needs}
 use native.Mathlib.Omega.{arith}
 use Rattle.symmetry.proofs.first_missing.Statement.{statement}
@@ -48,4 +51,7 @@ first-missing-spec =
     (λ c.
     let placed = c .before .before .before .before .before .before .before .before .before .before in
     let s = begun placed in
-    c .first-missing-by .ensures (s .args .row .now) (placed .image-places .ensures) (s .pre .0 .formula .literals-good)))
+    let fits = s .pre .0 in
+    let row = s .args .row .now in
+    c .first-missing-by .ensures row (placed .image-places .ensures) (fits .formula .literals-good)
+    ∙ missing-among-all (length row) row _ (row-of (length row) row (fits .is-row)) 1 _ (fits .formula .literals-good)))

@@ -87,6 +87,7 @@ returns : tie.Need-returns Inv-loop μ-loop
 returns c =
     let at = c .before .before in
     record {
+      is-row = begun at .pre .1;
       sends = λ code g. at .loop .inv .sends code g (omega (arith, literal-high _ code g, c .before .variable .ensures, c .if1 .left));
       places = at .loop .inv .places;
     }

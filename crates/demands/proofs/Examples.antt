@@ -22,6 +22,7 @@ use Rattle.opening.specs.Opening.{bodyOf, formulaOf, openedBy}
 use Rattle.permutation.specs.Lines.{isName, notNumber, badNameAfter, badName, badValueAfter, namesOn, valuesOn}
 use Rattle.permutation.specs.Stated.{statedBy, imageAmong, rowStated}
 use Rattle.symmetry.specs.Sets.{within, sameSet}
+use Rattle.symmetry.specs.Judged.{hasPair, judged}
 use Rattle.symmetry.specs.Symmetry.{imageOf, clauseImage, hasImage, missingFrom}
 use Rattle.offering.specs.Offering.{ifRoom, ifSymmetry, offeredBy}
 use Rattle.lexleader.specs.Rows.{pairsFrom, pairsOf}
@@ -78,6 +79,6 @@ unfolding
     openStore offerSays offerStore withdrawSays withdrawStore after anyOf allOf distinct table isBlank run wordsFrom linesFrom isDigit decimalFrom digitsOf sizeOf numeralOf
     isLiteral codeIn rising literalCount rowsOf cut plainOf heldRows isName isRow demands isFormed different total keyBy numbers rightKeys wellFormed standingOf afterComments wordsIn sameBytes fourWords sizesOf problemIn
     problemOf scanFrom literalsIn endsFrom clausesFrom bodyOf formulaOf openedBy notNumber badNameAfter badName badValueAfter namesOn valuesOn statedBy imageAmong rowStated within sameSet
-    imageOf clauseImage hasImage missingFrom ifRoom ifSymmetry offeredBy pairsFrom pairsOf laterClauses pairClauses rowClauses rowsClauses made auxiliaries allAuxiliaries
+    imageOf clauseImage hasPair judged hasImage missingFrom ifRoom ifSymmetry offeredBy pairsFrom pairsOf laterClauses pairClauses rowClauses rowsClauses made auxiliaries allAuxiliaries
     madeVariables madeOf variablesOf
 corrected = refl

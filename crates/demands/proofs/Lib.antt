@@ -17,3 +17,4 @@ pub mod Starred
 pub mod Examples
 pub mod Keys
 pub mod Signs
+pub mod AlwaysTrue

@@ -21,6 +21,7 @@ use Rattle.permutation.specs.Lines.{isName, notNumber, badNameAfter, badValueAf
 use Rattle.permutation.specs.declared.Fault.{Fault}
 use Rattle.permutation.proofs.InOrder.{isValue}
 use Rattle.permutation.proofs.NameLaws.{name-literal, name-sign, is-name, no-name}
+use Rattle.symmetry.specs.Judged.{hasPair, judged}
 use Rattle.symmetry.specs.Symmetry.{hasImage, missingFrom}
 use Rattle.symmetry.proofs.SetLaws.{has-iff}
 use Rattle.symmetry.proofs.Theorem.{hasImage-iff}
@@ -226,7 +227,7 @@ module _ (n end : ℕ) (line : List ℕ) (all : AllPass (Name n) (wordsAt line 0
 
 module _ (row : List ℕ) (formula : List (List ℕ)) where
   abbrev pub clauseWalk : List (List ℕ) → List (List ℕ) → ℕ
-  clauseWalk before clauses = missingFrom row formula (length before + 1) clauses
+  clauseWalk before clauses = missingFrom row (judged formula) (length before + 1) clauses
 
   abbrev pub numberAt : List (List ℕ) → List ℕ → List (List ℕ) → ℕ
   numberAt before clause after = length before + 1
@@ -234,11 +235,12 @@ module _ (row : List ℕ) (formula : List (List ℕ)) where
   clause-turn : (before : List (List ℕ)) (clause : List ℕ) (after : List (List ℕ)) → AllPass (HasImage row formula) before
       → Turn (HasImage row formula) clauseWalk numberAt before clause after
   unfolding missingFrom
-  clause-turn before clause after p = by (hasImage row formula clause) refl
+  clause-turn before clause after p = by (hasPair clause) refl (hasImage row (judged formula) clause) refl
     where
-      by : (t : Bool) → hasImage row formula clause ≡ t → Turn (HasImage row formula) clauseWalk numberAt before clause after
-      by true e = on (hasImage-iff row formula clause .0 e) (rw (e, length-append before (clause ∷ [])))
-      by false e = stop (λ h. never (sym e ∙ hasImage-iff row formula clause .1 h)) (rw e)
+      by : (p : Bool) → hasPair clause ≡ p → (t : Bool) → hasImage row (judged formula) clause ≡ t → Turn (HasImage row formula) clauseWalk numberAt before clause after
+      by true q t e = on (λ none. never (sym none ∙ q)) (rw (q, length-append before (clause ∷ [])))
+      by false q true e = on (λ none. hasImage-iff row (judged formula) clause .0 e) (rw (q, e, length-append before (clause ∷ [])))
+      by false q false e = stop (λ h. never (sym e ∙ hasImage-iff row (judged formula) clause .1 (h q))) (rw (q, e))
 
   pub clause-walked : Walked (HasImage row formula) clauseWalk numberAt formula
   clause-walked = walked (HasImage row formula) clauseWalk numberAt clause-turn formula

@@ -46,7 +46,8 @@ module _ (s : Keyed) where
   textWritten buffer buffers = writtenBy (headerSays s (length buffer)) (headerLeaves s buffer) ++ clausesWritten buffers 1 (clausesOf (s .store))
 
   pub record Demand2 : Type 0 where
-    -- "A permutation is accepted exactly when it turns the formula's set of clauses into itself, the input rules and limits permitting,"
+    -- "A permutation is accepted exactly when it turns the formula's set of clauses into itself, the input rules and limits permitting,": from CR 7 on, the set of those
+    -- without a contradictory pair
     pub accepts : (names values : List ℕ)
         → (offerSays s names values ≡ done accepted) ↔ (Permitted names values × IsSymmetry (rowFor (s .store) names values) (plainOf (s .store)))
     -- the row held from then on is that permutation: "Name i goes to its value p(i); variables not named stay" (document 01)

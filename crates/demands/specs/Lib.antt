@@ -7,3 +7,4 @@ pub mod TakingBack
 pub mod Efficiency
 pub mod Keys
 pub mod Signs
+pub mod AlwaysTrue

@@ -12,11 +12,14 @@ use Rattle.packed.specs.Order.{valueOf}
 use Rattle.store.specs.Literals.{isNegative, oppositeOf, isLiteral}
 use Rattle.store.proofs.FormLaws.{literal-low, literal-high}
 use Rattle.symmetry.specs.Sets.{SameSet, Among}
-use Rattle.symmetry.specs.Symmetry.{imageOf, clauseImage, IsSymmetry}
+use Rattle.symmetry.specs.Judged.{judged}
+use Rattle.symmetry.specs.Symmetry.{imageOf, clauseImage, MapsToItself, IsSymmetry}
 use Rattle.symmetry.proofs.SetLaws.{mem-at, at-mem, same-eq, same-sym}
+use Rattle.symmetry.proofs.JudgedLaws.{judged-all}
 use Rattle.lexleader.specs.Models.{literalValue, clauseHolds, formulaHolds}
 use Rattle.lexleader.specs.Rows.{moved}
 use Rattle.lexleader.proofs.Truth.{value-opposite}
+use Rattle.lexleader.proofs.AlwaysTrue.{holds-judged}
 
 pub length-moved : (row : List ℕ) (a : List Bool) → length (moved row a) ≡ length row
 unfolding moved
@@ -50,14 +53,20 @@ module _ (n : ℕ) (row : List ℕ) (size : length row ≡ n) (a : List Bool) wh
       any-same (isLiteral n) (literalValue (valueOf (moved row a))) (λ code. literalValue (valueOf a) (imageOf row code)) literal-moved clause h
       ∙ sym (any-map (literalValue (valueOf a)) (imageOf row) clause)
 
-  pub formula-moved : (formula : List (List ℕ)) → allOf (allOf (isLiteral n)) formula ≡ true → IsSymmetry row formula
-      → formulaHolds (valueOf a) formula ≡ true → formulaHolds (valueOf (moved row a)) formula ≡ true
+  clauses-moved : (clauses : List (List ℕ)) → allOf (allOf (isLiteral n)) clauses ≡ true → MapsToItself row clauses
+      → formulaHolds (valueOf a) clauses ≡ true → formulaHolds (valueOf (moved row a)) clauses ≡ true
   unfolding formulaHolds
-  formula-moved formula literals symmetric h = mem-all (clauseHolds (valueOf (moved row a))) formula each
+  clauses-moved clauses literals maps h = mem-all (clauseHolds (valueOf (moved row a))) clauses each
     where
-      each : (clause : List ℕ) → List·Memᴰ clause formula → clauseHolds (valueOf (moved row a)) clause ≡ true
+      each : (clause : List ℕ) → List·Memᴰ clause clauses → clauseHolds (valueOf (moved row a)) clause ≡ true
       each c m =
-          let image : Among (clauseImage row c) formula =
-          symmetric (clauseImage row c) .0 (record { twin = clauseImage row c; member = Memᴰ·map (clauseImage row) m; same = same-eq refl }) in
+          let image : Among (clauseImage row c) clauses =
+          maps (clauseImage row c) .0 (record { twin = clauseImage row c; member = Memᴰ·map (clauseImage row) m; same = same-eq refl }) in
           clause-moved c (all-mem (allOf (isLiteral n)) m literals)
           ∙ clause-same (valueOf a) (image .twin) (clauseImage row c) (same-sym (image .same)) (all-mem (clauseHolds (valueOf a)) (image .member) h)
+
+  pub formula-moved : (formula : List (List ℕ)) → allOf (allOf (isLiteral n)) formula ≡ true → IsSymmetry row formula
+      → formulaHolds (valueOf a) formula ≡ true → formulaHolds (valueOf (moved row a)) formula ≡ true
+  formula-moved formula literals symmetric h =
+      sym (holds-judged (valueOf (moved row a)) formula)
+      ∙ clauses-moved (judged formula) (judged-all (allOf (isLiteral n)) formula literals) symmetric (holds-judged (valueOf a) formula ∙ h)

@@ -1,4 +1,5 @@
 pub mod Truth
+pub mod AlwaysTrue
 pub mod Images
 pub mod Values
 pub mod Pairs

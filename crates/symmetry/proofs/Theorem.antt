@@ -15,6 +15,7 @@ use Rattle.store.proofs.Formed.{Row}
 use Rattle.symmetry.specs.Sets.{sameSet, SameSet, Among}
 use Rattle.symmetry.specs.Judged.{hasPair, judged}
 use Rattle.symmetry.specs.Symmetry.{clauseImage, MapsToItself, IsSymmetry, hasImage, missingFrom, firstMissing}
+use Rattle.symmetry.specs.Former.{IsFormerSymmetry}
 use Rattle.symmetry.proofs.SetLaws.{mem-at, at-mem, sameSet-iff, same-eq, same-trans}
 use Rattle.symmetry.proofs.ImageLaws.{images-one}
 use Rattle.symmetry.proofs.JudgedLaws.{pair-image, judged-iff, judged-all, among-judged}
@@ -99,8 +100,8 @@ module _ (n : ℕ) (row : List ℕ) (formula : List (List ℕ)) (r : Row n row) 
         let maps = maps-iff n row (judged formula) r (judged-all (allOf (isLiteral n)) formula good) in
         (λ e. maps .0 (none .0 e), λ s. none .1 (maps .1 s))
 
-    -- "Every permutation accepted before is accepted still" (document 02, CR 7): what maps all clauses to themselves does so with the judged ones
-    pub symmetry-still : MapsToItself row formula → IsSymmetry row formula
+    -- what maps all clauses to themselves does so with the judged ones
+    pub symmetry-still : IsFormerSymmetry row formula → IsSymmetry row formula
     symmetry-still s =
         maps-iff n row (judged formula) r (judged-all (allOf (isLiteral n)) formula good) .0
         (mem-all (hasImage row (judged formula)) (judged formula) (λ c m.

@@ -232,6 +232,31 @@ static void spoil(unsigned c)
     write_keys();
 }
 
+/* m clauses of three literals that hold a contradictory pair, of an even variable, so that the shift by one sends none of them to another. */
+static void to_offer_pairs(unsigned n, unsigned m, unsigned rows)
+{
+    closed_formula(n, 0), full_rows(rows - 1), write_offers(1);
+    w.m = m;
+    for (unsigned c = 0; c < m; c++) {
+        unsigned even = 4 * (c % (n / 2) + 1);
+        memcpy(w.literals + 3 * c, (uint16_t[]){(uint16_t)shifted(even, c / (n / 2) + 1), (uint16_t)even, (uint16_t)(even + 1)}, 3 * sizeof *w.literals);
+        w.ends[c] = (uint16_t)(3 * (c + 1));
+    }
+    write_keys();
+}
+
+/* The longest clause, a contradictory pair at its end and not before, whose image is missing. */
+static void to_offer_long_pair(unsigned n, unsigned m, unsigned rows)
+{
+    closed_formula(n, 0), full_rows(rows - 1), write_offers(1);
+    w.m = m;
+    for (unsigned i = 0; i < MAX_L; i++) w.literals[i] = (uint16_t)(2 * (i % (n / 2)) + 2);
+    w.literals[MAX_L - 2] = (uint16_t)(2 * n);
+    w.literals[MAX_L - 1] = (uint16_t)(2 * n + 1);
+    w.ends[0] = MAX_L;
+    write_keys();
+}
+
 static void to_open(unsigned n, unsigned m, unsigned rows) { closed_formula(n, m), full_rows(rows), write_text(0), memset(&w, 0, sizeof w); }
 static void to_open_remarked(unsigned n, unsigned m, unsigned rows) { closed_formula(n, m), full_rows(rows), write_text(1), memset(&w, 0, sizeof w); }
 static void to_offer(unsigned n, unsigned m, unsigned rows) { closed_formula(n, m), full_rows(rows - 1), write_offers(1); }
@@ -367,6 +392,8 @@ static const job jobs[] = {
     {"offer accepted that turns every sign, row 64", to_offer_turning, offer, 512, 4096, 64, 0, 64},
     {"offer refused at clause 4,096", to_refuse_last, offer, 512, 4096, 64, SYMBREAK_NO_SYMMETRY, 4096},
     {"offer refused at clause 1", to_refuse_first, offer, 512, 4096, 64, SYMBREAK_NO_SYMMETRY, 1},
+    {"offer accepted, 4,096 clauses with a contradictory pair whose images are missing, row 64", to_offer_pairs, offer, 512, 4096, 64, 0, 64},
+    {"offer accepted, one such clause of 12,288 literals, row 64", to_offer_long_pair, offer, 512, 1, 64, 0, 64},
     {"start-up: forty offers accepted, the same formula, rows 1 to 40", to_start_up, start_up, 512, 4096, OFFERS, 0, OFFERS},
     {"withdraw, the same formula, 64 full rows", to_write, withdraw, 512, 4096, 64, 0, 63},
     {"header and every 500th clause of 200,320, 64 full rows", to_write, write, 512, 4096, 64, 0, 25},

@@ -204,9 +204,9 @@ symbreak_stored plain_open(RECORD, const uint8_t *text, size_t text_len, uint16_
 
 /* Offers. */
 
-/* The number of the first clause whose image under the row is no clause, or 0. An image's literals are marked with the clause's number; a clause with the
-   image's key has as many different literals, by the key's last bits, and is the image as a set if all of them are marked. Not inlined, so that registers
-   suffice for the loop. */
+/* The number of the first clause without a contradictory pair whose image under the row is no clause, or 0. An image's literals are marked with the clause's
+   number; a clause with the image's key has as many different literals, by the key's last bits, and is the image as a set if all of them are marked. A pair is
+   looked for only where the image is no clause. Not inlined, so that registers suffice for the loop. */
 static __attribute__((noinline)) uint64_t first_missing(uint64_t n, uint64_t m, const uint16_t *literals, const uint16_t *ends, const uint64_t *keys,
                                                         const plain_index *index, const uint16_t *row)
 {
@@ -218,7 +218,7 @@ static __attribute__((noinline)) uint64_t first_missing(uint64_t n, uint64_t m, 
     for (size_t c = 0, i = 0; c < m; c++) {
         uint16_t number = (uint16_t)(c + 1);
         uint64_t key = 0;
-        size_t end = ends[c], other;
+        size_t begin = i, end = ends[c], other;
         for (; i < end; i++) {
             size_t code = image[literals[i]];
             if (marks[code] == number) continue;
@@ -231,7 +231,9 @@ static __attribute__((noinline)) uint64_t first_missing(uint64_t n, uint64_t m, 
             while (j < close && marks[literals[j]] == number) j++;
             if (j == close) break;
         }
-        if (!other) return c + 1;
+        if (other) continue;
+        while (begin < end && marks[image[literals[begin]] ^ 1] != number) begin++;
+        if (begin == end) return c + 1;
     }
     return 0;
 }

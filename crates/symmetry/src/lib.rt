@@ -1,17 +1,22 @@
-// Whether a row is a symmetry of the plain formula (document 01, "Permutations", and refusal 11).
+// Whether a row is a symmetry of the plain formula (document 01, "Permutations", and refusal 11; document 02, CR 7).
 //
 // A clause comes as the part of the literals that it is, and clauses are compared as sets: `is_image` alone decides whether one is the
-// image of another. A row is a symmetry when the set of images equals the set of clauses, which asks for two things: that each image is a
-// clause, and that each clause is an image. Only the first is looked for. A row permutes the literals, so clauses that differ as sets have
-// images that differ as sets; and a map of finitely many clauses into themselves that keeps different ones different reaches them all:
-// follow the images from a clause on until two of them are the same, take the steps back from both, and the clause is itself an image
-// (proofs/Onto.antt). So the first missing image is the whole answer, and it is refusal 11's place (proofs/Theorem.antt).
+// image of another. Offers are judged by the clauses without a contradictory pair: a row is a symmetry when the set of their images is the
+// set of these clauses, which asks for two things: that each image is one of them, and that each of them is an image. Only the first is
+// looked for. A row permutes the literals, so clauses that differ as sets have images that differ as sets; and a map of finitely many
+// clauses into themselves that keeps different ones different reaches them all: follow the images from a clause on until two of them are
+// the same, take the steps back from both, and the clause is itself an image (proofs/Onto.antt). So the first missing image is the whole
+// answer, and it is refusal 11's place (proofs/Theorem.antt).
+//
+// The image of a clause without a pair has none either (`pair-image`, proofs/JudgedLaws.antt), so it may be looked for among all clauses.
+// And a clause with a pair may be looked at like the others as long as its image is found: only where one is missing is a pair looked for.
 //
 // To compare each image with each clause would be the square of m. Clauses with the same literals have the same key (document 02, CR 5), so an image is compared in full
 // with the clauses that have its key and no others, and those are found by an index of the keys. Keys decide nothing: where two clauses share one, the full comparison
 // tells them apart. It takes time in proportion to the clause that the image is compared with: while the key of an image is summed its literals are marked, and it is enough
 // that each literal of the clause has the mark, since the last bits of a key are the count of different literals (docs/KEYS.md; `keys/proofs/Counts.antt`).
 mod index;
+mod judged;
 
 ghost use mathlib.Core.Path.{_≡_};
 ghost use mathlib.Core.Bool.{true, cond};
@@ -24,9 +29,8 @@ ghost use Rattle.store.specs.Literals.{isLiteral};
 ghost use Rattle.store.specs.Stores.{clausesIn, clauseAt, isRow, maxVariables};
 ghost use Rattle.numbers.specs.Numbers.{numbers, numberCount};
 ghost use Rattle.keys.specs.Keys.{keyOf};
-ghost use Rattle.keys.specs.Marks.{Marked, Places, sentClause};
+ghost use Rattle.keys.specs.Marks.{Places};
 ghost use Rattle.symmetry.specs.Sets.{sameSet};
-ghost use Rattle.symmetry.specs.Judged.{hasPair};
 ghost use Rattle.symmetry.specs.Symmetry.{imageOf, missingFrom, firstMissing};
 ghost use Rattle.symmetry.specs.Fitting.{RightClauses, RowFits, ImagePlaces};
 ghost use Rattle.symmetry.specs.Sought.{Sought, SoughtKey};
@@ -96,7 +100,7 @@ fn first_missing_by(
         let key = keys::key_at(literals, ends, m, c, places, table, &mut marks);
         let mark = (c + 1) as u16;
         if !has_image(key, mark, &marks, literals, ends, keys, m, heads, nexts) {
-            if !has_pair(clauses::clause(literals, ends, m, c), places, mark, &marks) {
+            if !judged::has_pair(clauses::clause(literals, ends, m, c), places, mark, &marks) {
                 return c + 1;
             }
         }
@@ -190,30 +194,6 @@ fn is_image(clause: &[u16], mark: u16, marks: &[u16]) -> bool
         i += 1;
     }
     true
-}
-
-// Whether what a clause is sent to has a literal together with its opposite. It has this mark and nothing else has, so one pass is enough.
-fn has_pair(
-    clause: &[u16],
-    places: &[u16; numbers::COUNT],
-    mark: u16,
-    marks: &[u16],
-) -> bool
-    requires { ⌜ (allOf (isLiteral maxVariables) (now clause) ≡ true)
-        × Places (now places)
-        × Marked mark (sentClause (now places) (now clause)) (now marks)
-        × (length (now marks) ≡ numberCount) ⌝ }
-    ensures { λ r. ⌜ r ≡ hasPair (sentClause (now (places .entry)) (now (clause .entry))) ⌝ }
-{
-    let mut i = 0;
-    while i < clause.len() {
-        let image = literal::wide(places[keys::place(literal::wide(clause[i]))]) + 2;
-        if marks[keys::place(literal::opposite(image))] == mark {
-            return true;
-        }
-        i += 1;
-    }
-    false
 }
 
 // The image of a literal of the row's variables.

@@ -1,4 +1,4 @@
--- `symmetry::has_pair` meets its contract. The invariant: the answer is whether one of the literals from i on has an opposite with the mark. Assumes nothing.
+-- `symmetry::judged::has_pair` meets its contract. The invariant: the answer is whether one of the literals from i on has an opposite with the mark. Assumes nothing.
 use mathlib.Core.Path.{_≡_, refl, sym, ap, _∙_}
 use mathlib.Core.Bool.{true, false}
 use mathlib.Core.List.{List}
@@ -16,8 +16,8 @@ use Rattle.keys.proofs.MarkLaws.{sent-literals}
 use Rattle.symmetry.specs.Judged.{hasPair}
 use borrow.Author.Needs.{needs}
 use native.Mathlib.Omega.{arith}
-use Rattle.symmetry.proofs.has_pair.Statement.{statement}
-use Rattle.symmetry.proofs.has_pair.Tie as tie
+use Rattle.symmetry.proofs.judged.has_pair.Statement.{statement}
+use Rattle.symmetry.proofs.judged.has_pair.Tie as tie
 
 abbrev Inv-loop : tie.InvT-loop
 Inv-loop clause places mark marks i₀ i = let sent = sentClause places clause in hasPair sent ≡ anyOf (λ code. has sent (oppositeOf code)) (drop i sent)

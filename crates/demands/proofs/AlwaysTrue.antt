@@ -16,9 +16,9 @@ use Rattle.store.proofs.Within.{literals-within}
 use Rattle.standing.specs.Keyed.{Keyed}
 use Rattle.standing.proofs.StandingLaws.{its-form}
 use Rattle.permutation.proofs.Theorem.{stated-row}
-use Rattle.symmetry.specs.Judged.{hasPair}
+use Rattle.symmetry.specs.Judged.{hasOpposites}
 use Rattle.symmetry.specs.Former.{IsFormerSymmetry}
-use Rattle.symmetry.proofs.JudgedLaws.{pair-iff, pair-image, judged-iff}
+use Rattle.symmetry.proofs.JudgedLaws.{opposites-iff, opposites-image, judged-iff}
 use Rattle.symmetry.proofs.Theorem.{symmetry-still}
 use Rattle.offering.specs.Offering.{rowFor}
 use Rattle.lexleader.proofs.AlwaysTrue.{always-iff, holds-judged}
@@ -28,10 +28,10 @@ use Rattle.demands.specs.AlwaysTrue.{AlwaysTrue}
 use Rattle.demands.proofs.Acceptance.{accepted-iff-symmetry}
 
 -- a variable and its negation, from a literal and its opposite
-contradictory : (clause : List ℕ) → (hasPair clause ≡ true) ↔ ((i : ℕ) × List·Memᴰ (2 * i) clause × List·Memᴰ (2 * i + 1) clause)
-contradictory clause = (
-  λ e. let p = pair-iff clause .0 e in by (p .literal) (p .one) (p .other) (isNegative (p .literal)) refl,
-  λ p. pair-iff clause .1 (record { literal = 2 * (p .0); one = p .1; other = Memᴰ·cast (negation (p .0)) (p .2) }),
+opposites-are : (clause : List ℕ) → (hasOpposites clause ≡ true) ↔ ((i : ℕ) × List·Memᴰ (2 * i) clause × List·Memᴰ (2 * i + 1) clause)
+opposites-are clause = (
+  λ e. let p = opposites-iff clause .0 e in by (p .literal) (p .one) (p .other) (isNegative (p .literal)) refl,
+  λ p. opposites-iff clause .1 (record { literal = 2 * (p .0); one = p .1; other = Memᴰ·cast (negation (p .0)) (p .2) }),
 )
   where
     negation : (i : ℕ) → oppositeOf (2 * i) ≡ 2 * i + 1
@@ -58,11 +58,11 @@ accepted-still s names values p former =
 
 pub always-true : AlwaysTrue
 always-true = record {
-  pair = contradictory;
+  contradictory = opposites-are;
   forbids-nothing = always-iff;
   judges = judged-iff;
   models = λ n formula a. let same = holds-judged (valueOf a) formula in
       (λ m. record { size = m .size; holds = sym same ∙ m .holds }, λ m. record { size = m .size; holds = same ∙ m .holds });
-  image = λ n row clause r good. pair-image n row (row-of n row r) clause good;
+  image = λ n row clause r good. opposites-image n row (row-of n row r) clause good;
   still = accepted-still;
 }

@@ -1,4 +1,5 @@
--- A wrong mark taken back, by computation on what the calls say and leave: the auxiliary numbers of the row withdrawn are used again. Assumes nothing.
+-- What the calls say and leave, by computation: a wrong mark taken back, so that the auxiliary numbers of the row withdrawn are used again (CR 3), and a clause that is always
+-- true (CR 7). Assumes nothing.
 use mathlib.Core.Path.{_≡_, refl}
 use mathlib.Core.List.{List, [], _∷_}
 use Prim.Native.Nat.{ℕ}
@@ -22,13 +23,13 @@ use Rattle.opening.specs.Opening.{bodyOf, formulaOf, openedBy}
 use Rattle.permutation.specs.Lines.{isName, notNumber, badNameAfter, badName, badValueAfter, namesOn, valuesOn}
 use Rattle.permutation.specs.Stated.{statedBy, imageAmong, rowStated}
 use Rattle.symmetry.specs.Sets.{within, sameSet}
-use Rattle.symmetry.specs.Judged.{hasPair, judged}
+use Rattle.symmetry.specs.Judged.{hasOpposites, judged}
 use Rattle.symmetry.specs.Symmetry.{imageOf, clauseImage, hasImage, missingFrom}
 use Rattle.offering.specs.Offering.{ifRoom, ifSymmetry, offeredBy}
 use Rattle.lexleader.specs.Rows.{pairsFrom, pairsOf}
 use Rattle.lexleader.specs.Made.{firstSix, laterClauses, pairClauses, rowClauses, rowsClauses, made, auxiliaries, allAuxiliaries, madeVariables}
 use Rattle.lexleader.specs.Store.{madeOf, variablesOf}
-use Rattle.calls.specs.Calls.{TakenBack, takenBack, openStore, offerSays, offerStore, withdrawSays, withdrawStore}
+use Rattle.calls.specs.Calls.{Accepted, accepted, TakenBack, takenBack, openStore, offerSays, offerStore, withdrawSays, withdrawStore}
 use Rattle.demands.specs.Lists.{Call, offer, withdraw, after}
 
 -- the formula `1 2 3 0`, opened
@@ -37,6 +38,15 @@ opened =
     openStore (withKeys (lent closedRecord (replicate 3 0) (replicate 1 0) (replicate 4 0)) (replicate 1 0))
     (112 ∷ 32 ∷ 99 ∷ 110 ∷ 102 ∷ 32 ∷ 51 ∷ 32 ∷ 49 ∷ 10 ∷ 49 ∷ 32 ∷ 50 ∷ 32 ∷ 51 ∷ 32 ∷ 48 ∷ 10 ∷ [])
 
+-- the formula `1 -1 2 0`, `1 2 0`, `2 3 0`, opened
+abbrev openedToo : Keyed
+openedToo =
+    openStore (withKeys (lent closedRecord (replicate 7 0) (replicate 3 0) (replicate 3 0)) (replicate 3 0))
+    (112 ∷ 32 ∷ 99 ∷ 110 ∷ 102 ∷ 32 ∷ 51 ∷ 32 ∷ 51 ∷ 10
+    ∷ 49 ∷ 32 ∷ 45 ∷ 49 ∷ 32 ∷ 50 ∷ 32 ∷ 48 ∷ 10
+    ∷ 49 ∷ 32 ∷ 50 ∷ 32 ∷ 48 ∷ 10
+    ∷ 50 ∷ 32 ∷ 51 ∷ 32 ∷ 48 ∷ 10 ∷ [])
+
 -- `1 2 3`/`2 3 1`, which has the auxiliaries 4 and 5 where it is the first row, and `1 3`/`3 1`, which then has 4
 abbrev turning : Call
 turning = offer (49 ∷ 32 ∷ 50 ∷ 32 ∷ 51 ∷ []) (50 ∷ 32 ∷ 51 ∷ 32 ∷ 49 ∷ [])
@@ -44,8 +54,9 @@ turning = offer (49 ∷ 32 ∷ 50 ∷ 32 ∷ 51 ∷ []) (50 ∷ 32 ∷ 51 ∷ 32
 abbrev exchange : Call
 exchange = offer (49 ∷ 32 ∷ 51 ∷ []) (51 ∷ 32 ∷ 49 ∷ [])
 
--- what a case comes to: what a withdrawal says, the rows held with the images lent and N, or the made formula
+-- what a case comes to: what an offer or a withdrawal says, the rows held with the images lent and N, or the made formula
 data Case : Type 0 where
+  offering : Said Accepted → Case
   withdrawing : Said TakenBack → Case
   holding : List (List ℕ) → List ℕ → ℕ → Case
   making : List (List ℕ) → Case
@@ -58,7 +69,9 @@ held s = holding (heldRows (s .store)) (s .store .images) (variablesOf (s .store
 
 -- With no row a withdrawal is 30. The turning row is held, and N is 5; taken back, its entries stay and N is 3; a second withdrawal is refused and changes
 -- nothing. The exchange, offered then, has the auxiliary 4 of the row taken back: its clauses are the table's first six, for 4 and the pairs 1, 3 and 3, 1.
-corrected :
+-- Over `1 -1 2` the same exchange is accepted, which sends that clause to none of the formula's and was refused for it before CR 7; the exchange of 1 and 2 is refused at
+-- clause 3 of all three, as the image of `2 3` is missing; and all three are in the made formula.
+computed :
     saying opened
     ∷ held (after opened (turning ∷ []))
     ∷ saying (after opened (turning ∷ []))
@@ -66,6 +79,9 @@ corrected :
     ∷ saying (after opened (turning ∷ withdraw ∷ []))
     ∷ held (after opened (turning ∷ withdraw ∷ withdraw ∷ exchange ∷ []))
     ∷ making (madeOf (after opened (turning ∷ withdraw ∷ withdraw ∷ exchange ∷ []) .store))
+    ∷ offering (offerSays openedToo (49 ∷ 32 ∷ 51 ∷ []) (51 ∷ 32 ∷ 49 ∷ []))
+    ∷ offering (offerSays openedToo (49 ∷ 32 ∷ 50 ∷ []) (50 ∷ 32 ∷ 49 ∷ []))
+    ∷ making (madeOf (openedToo .store))
     ∷ []
     ≡ withdrawing (refused 30 0)
     ∷ holding ((4 ∷ 6 ∷ 2 ∷ []) ∷ []) (4 ∷ 6 ∷ 2 ∷ 0 ∷ []) 5
@@ -74,11 +90,14 @@ corrected :
     ∷ withdrawing (refused 30 0)
     ∷ holding ((6 ∷ 4 ∷ 2 ∷ []) ∷ []) (6 ∷ 4 ∷ 2 ∷ 0 ∷ []) 4
     ∷ making ((2 ∷ 4 ∷ 6 ∷ []) ∷ firstSix 4 (record { x = 2; y = 6 }) (record { x = 6; y = 2 }))
+    ∷ offering (done accepted)
+    ∷ offering (refused 11 3)
+    ∷ making ((2 ∷ 3 ∷ 4 ∷ []) ∷ (2 ∷ 4 ∷ []) ∷ (4 ∷ 6 ∷ []) ∷ [])
     ∷ []
 unfolding
     openStore offerSays offerStore withdrawSays withdrawStore after anyOf allOf distinct table isBlank run wordsFrom linesFrom isDigit decimalFrom digitsOf sizeOf numeralOf
     isLiteral codeIn rising literalCount rowsOf cut plainOf heldRows isName isRow demands isFormed different total keyBy numbers rightKeys wellFormed standingOf afterComments wordsIn sameBytes fourWords sizesOf problemIn
     problemOf scanFrom literalsIn endsFrom clausesFrom bodyOf formulaOf openedBy notNumber badNameAfter badName badValueAfter namesOn valuesOn statedBy imageAmong rowStated within sameSet
-    imageOf clauseImage hasPair judged hasImage missingFrom ifRoom ifSymmetry offeredBy pairsFrom pairsOf laterClauses pairClauses rowClauses rowsClauses made auxiliaries allAuxiliaries
+    imageOf clauseImage hasOpposites judged hasImage missingFrom ifRoom ifSymmetry offeredBy pairsFrom pairsOf laterClauses pairClauses rowClauses rowsClauses made auxiliaries allAuxiliaries
     madeVariables madeOf variablesOf
-corrected = refl
+computed = refl

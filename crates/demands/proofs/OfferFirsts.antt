@@ -21,7 +21,7 @@ use Rattle.permutation.specs.Lines.{isName, notNumber, badNameAfter, badValueAf
 use Rattle.permutation.specs.declared.Fault.{Fault}
 use Rattle.permutation.proofs.InOrder.{isValue}
 use Rattle.permutation.proofs.NameLaws.{name-literal, name-sign, is-name, no-name}
-use Rattle.symmetry.specs.Judged.{hasPair, judged}
+use Rattle.symmetry.specs.Judged.{hasOpposites, judged}
 use Rattle.symmetry.specs.Symmetry.{hasImage, missingFrom}
 use Rattle.symmetry.proofs.SetLaws.{has-iff}
 use Rattle.symmetry.proofs.Theorem.{hasImage-iff}
@@ -235,9 +235,9 @@ module _ (row : List ℕ) (formula : List (List ℕ)) where
   clause-turn : (before : List (List ℕ)) (clause : List ℕ) (after : List (List ℕ)) → AllPass (HasImage row formula) before
       → Turn (HasImage row formula) clauseWalk numberAt before clause after
   unfolding missingFrom
-  clause-turn before clause after p = by (hasPair clause) refl (hasImage row (judged formula) clause) refl
+  clause-turn before clause after p = by (hasOpposites clause) refl (hasImage row (judged formula) clause) refl
     where
-      by : (p : Bool) → hasPair clause ≡ p → (t : Bool) → hasImage row (judged formula) clause ≡ t → Turn (HasImage row formula) clauseWalk numberAt before clause after
+      by : (p : Bool) → hasOpposites clause ≡ p → (t : Bool) → hasImage row (judged formula) clause ≡ t → Turn (HasImage row formula) clauseWalk numberAt before clause after
       by true q t e = on (λ none. never (sym none ∙ q)) (rw (q, length-append before (clause ∷ [])))
       by false q true e = on (λ none. hasImage-iff row (judged formula) clause .0 e) (rw (q, e, length-append before (clause ∷ [])))
       by false q false e = stop (λ h. never (sym e ∙ hasImage-iff row (judged formula) clause .1 (h q))) (rw (q, e))

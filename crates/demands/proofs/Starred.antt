@@ -27,7 +27,7 @@ use Rattle.opening.specs.Opening.{bodyOf, formulaOf, openedBy}
 use Rattle.permutation.specs.Lines.{isName, notNumber, badNameAfter, badName, badValueAfter, namesOn, valuesOn}
 use Rattle.permutation.specs.Stated.{statedBy, imageAmong, rowStated}
 use Rattle.symmetry.specs.Sets.{within, sameSet}
-use Rattle.symmetry.specs.Judged.{hasPair, judged}
+use Rattle.symmetry.specs.Judged.{hasOpposites, judged}
 use Rattle.symmetry.specs.Symmetry.{imageOf, clauseImage, hasImage, missingFrom}
 use Rattle.offering.specs.Offering.{ifRoom, ifSymmetry, offeredBy}
 use Rattle.lexleader.specs.Models.{literalValue}
@@ -113,7 +113,7 @@ starred :
 unfolding
     openStore offerSays offerStore anyOf allOf distinct table isBlank run wordsFrom linesFrom isDigit decimalFrom digitsOf sizeOf numeralOf isLiteral codeIn rising literalCount
     rowsOf cut plainOf isName isRow demands isFormed different total keyBy numbers rightKeys wellFormed standingOf afterComments wordsIn sameBytes fourWords sizesOf problemIn problemOf scanFrom literalsIn endsFrom clausesFrom bodyOf formulaOf openedBy notNumber
-    badNameAfter badName badValueAfter namesOn valuesOn statedBy imageAmong rowStated within sameSet imageOf clauseImage hasPair judged hasImage missingFrom ifRoom ifSymmetry offeredBy
+    badNameAfter badName badValueAfter namesOn valuesOn statedBy imageAmong rowStated within sameSet imageOf clauseImage hasOpposites judged hasImage missingFrom ifRoom ifSymmetry offeredBy
     efficiencySays hasEfficiency efficiencyOf nearestOf descendSays descendLeaves descended descendFrom stepBy lowers moved less literalValue heldRows bitsOf wordsOf binary
     wordCount bitAt bitIn spareBits isAssignment fillSays fillLeaves filledWords variablesOf madeVariables allAuxiliaries auxiliaries pairsOf pairsFrom filledIn settings
     rowSettings settingsAfter agrees

@@ -11,7 +11,7 @@ use Rattle.store.specs.Literals.{isLiteral}
 use Rattle.store.specs.Refusals.{done}
 use Rattle.store.specs.Stores.{plainOf, isRow}
 use Rattle.standing.specs.Keyed.{Keyed}
-use Rattle.symmetry.specs.Judged.{hasPair, judged}
+use Rattle.symmetry.specs.Judged.{hasOpposites, judged}
 use Rattle.symmetry.specs.Symmetry.{clauseImage}
 use Rattle.symmetry.specs.Former.{IsFormerSymmetry}
 use Rattle.offering.specs.Offering.{rowFor}
@@ -21,14 +21,14 @@ use Rattle.demands.specs.Demand2.{Permitted}
 
 pub record AlwaysTrue : Type 0 where
   -- "a contradictory pair of literals": i together with -i
-  pub pair : (clause : List ℕ) → (hasPair clause ≡ true) ↔ ((i : ℕ) × List·Memᴰ (2 * i) clause × List·Memᴰ (2 * i + 1) clause)
+  pub contradictory : (clause : List ℕ) → (hasOpposites clause ≡ true) ↔ ((i : ℕ) × List·Memᴰ (2 * i) clause × List·Memᴰ (2 * i + 1) clause)
   -- "Such a clause forbids nothing": it holds under every assignment, and no other clause does
-  pub forbids-nothing : (clause : List ℕ) → (hasPair clause ≡ true) ↔ ((v : ℕ → Bool) → clauseHolds v clause ≡ true)
+  pub forbids-nothing : (clause : List ℕ) → (hasOpposites clause ≡ true) ↔ ((v : ℕ → Bool) → clauseHolds v clause ≡ true)
   -- "so from now on offers are judged without it": by all other clauses, which have the models of them all
-  pub judges : (formula : List (List ℕ)) (clause : List ℕ) → List·Memᴰ clause (judged formula) ↔ (List·Memᴰ clause formula × (hasPair clause ≡ false))
+  pub judges : (formula : List (List ℕ)) (clause : List ℕ) → List·Memᴰ clause (judged formula) ↔ (List·Memᴰ clause formula × (hasOpposites clause ≡ false))
   pub models : (n : ℕ) (formula : List (List ℕ)) (a : List Bool) → Model n (judged formula) a ↔ Model n formula a
   -- the image of a judged clause is one that would be judged, so that it is missing among the judged clauses just where it is missing among all
-  pub image : (n : ℕ) (row clause : List ℕ) → isRow n row ≡ true → allOf (isLiteral n) clause ≡ true → hasPair (clauseImage row clause) ≡ hasPair clause
+  pub image : (n : ℕ) (row clause : List ℕ) → isRow n row ≡ true → allOf (isLiteral n) clause ≡ true → hasOpposites (clauseImage row clause) ≡ hasOpposites clause
   -- "Every permutation accepted before is accepted still."
   pub still : (s : Keyed) (names values : List ℕ) → Permitted s names values → IsFormerSymmetry (rowFor (s .store) names values) (plainOf (s .store))
       → offerSays s names values ≡ done accepted

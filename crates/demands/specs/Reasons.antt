@@ -22,7 +22,7 @@ use Rattle.opening.specs.Opening.{bodyOf}
 use Rattle.opening.specs.declared.Sizes.{Sizes}
 use Rattle.opening.specs.declared.Problem.{Problem}
 use Rattle.symmetry.specs.Sets.{Among}
-use Rattle.symmetry.specs.Judged.{hasPair, judged}
+use Rattle.symmetry.specs.Judged.{hasOpposites, judged}
 use Rattle.symmetry.specs.Symmetry.{clauseImage}
 use Rattle.offering.specs.Offering.{rowFor, imagesNeeded}
 use Rattle.lexleader.specs.Store.{variablesOf, clausesOf}
@@ -159,7 +159,7 @@ badValue names line = record {
 
 -- of a clause without a contradictory pair the image is, as a set, one of the clauses without
 abbrev pub HasImage : List ℕ → List (List ℕ) → List (List ℕ) → List ℕ → Type 0
-HasImage row formula before clause = hasPair clause ≡ false → Among (clauseImage row clause) (judged formula)
+HasImage row formula before clause = hasOpposites clause ≡ false → Among (clauseImage row clause) (judged formula)
 
 -- "11 gives the first of these whose image is missing, by its number in the whole formula" (document 02, CR 7)
 abbrev pub noSymmetry : List ℕ → List (List ℕ) → Reason

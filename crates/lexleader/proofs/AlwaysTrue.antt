@@ -9,12 +9,12 @@ use native.Mathlib.Omega.{arith}
 use borrow.Author.Tests.{eqb-true, eqb-false}
 use lib.ListN.{getD}
 use Rattle.lists.specs.Tests.{allOf, has}
-use Rattle.lists.proofs.Cases.{never, not-so}
+use Rattle.lists.proofs.Cases.{never}
 use Rattle.lists.proofs.Members.{any-at, any-in}
 use Rattle.store.specs.Literals.{variableOf, isNegative, oppositeOf}
-use Rattle.symmetry.specs.Judged.{hasPair, judged}
+use Rattle.symmetry.specs.Judged.{hasOpposites, judged}
 use Rattle.symmetry.proofs.SetLaws.{mem-at, at-mem, has-iff}
-use Rattle.symmetry.proofs.JudgedLaws.{pair-iff}
+use Rattle.symmetry.proofs.JudgedLaws.{opposites-iff}
 use Rattle.lexleader.specs.Models.{literalValue, clauseHolds, formulaHolds}
 use Rattle.lexleader.proofs.Truth.{value-opposite}
 
@@ -24,8 +24,8 @@ module _ (v : ℕ → Bool) where
   literal-holds clause code m e = let r = mem-at 0 m in any-in (literalValue v) clause 0 (r .0) (r .1) (rw (r .2) e)
 
   -- of a literal and its opposite one is true
-  pair-holds : (clause : List ℕ) → hasPair clause ≡ true → clauseHolds v clause ≡ true
-  pair-holds clause e = let p = pair-iff clause .0 e in go (p .literal) (p .one) (p .other) (literalValue v (p .literal)) refl
+  opposites-hold : (clause : List ℕ) → hasOpposites clause ≡ true → clauseHolds v clause ≡ true
+  opposites-hold clause e = let p = opposites-iff clause .0 e in go (p .literal) (p .one) (p .other) (literalValue v (p .literal)) refl
     where
       go : (code : ℕ) → List·Memᴰ code clause → List·Memᴰ (oppositeOf code) clause → (b : Bool) → literalValue v code ≡ b → clauseHolds v clause ≡ true
       go code one other true q = literal-holds clause code one q
@@ -34,11 +34,11 @@ module _ (v : ℕ → Bool) where
   pub holds-judged : (formula : List (List ℕ)) → formulaHolds v (judged formula) ≡ formulaHolds v formula
   unfolding formulaHolds judged allOf
   holds-judged [] = refl
-  holds-judged (c ∷ formula) = go (hasPair c) refl (holds-judged formula)
+  holds-judged (c ∷ formula) = go (hasOpposites c) refl (holds-judged formula)
     where
-      go : (b : Bool) → hasPair c ≡ b → formulaHolds v (judged formula) ≡ formulaHolds v formula
+      go : (b : Bool) → hasOpposites c ≡ b → formulaHolds v (judged formula) ≡ formulaHolds v formula
           → formulaHolds v (cond b (judged formula) (c ∷ judged formula)) ≡ formulaHolds v (c ∷ formula)
-      go true q rest = rw (pair-holds c q, rest)
+      go true q rest = rw (opposites-hold c q, rest)
       go false q rest = rw rest
 
 -- the assignment that is to make a clause false: a variable is true where its negation stands in the clause
@@ -46,21 +46,21 @@ abbrev against : List ℕ → ℕ → Bool
 against clause i = has clause (2 * i + 1)
 
 module _ (clause : List ℕ) where
-  only-pairs : ((v : ℕ → Bool) → clauseHolds v clause ≡ true) → hasPair clause ≡ true
+  only-opposites : ((v : ℕ → Bool) → clauseHolds v clause ≡ true) → hasOpposites clause ≡ true
   unfolding clauseHolds literalValue
-  only-pairs always = let r = any-at (literalValue (against clause)) clause 0 (always (against clause)) in go (getD clause (r .0) 0) (at-mem 0 clause (r .0) (r .1)) (r .2)
+  only-opposites always = let r = any-at (literalValue (against clause)) clause 0 (always (against clause)) in go (getD clause (r .0) 0) (at-mem 0 clause (r .0) (r .1)) (r .2)
     where
       -- a negative literal of the clause is false; where a positive one is true, its opposite stands there too
-      go : (code : ℕ) → List·Memᴰ code clause → literalValue (against clause) code ≡ true → hasPair clause ≡ true
+      go : (code : ℕ) → List·Memᴰ code clause → literalValue (against clause) code ≡ true → hasOpposites clause ≡ true
       go code m = by (isNegative code) refl
         where
-          by : (b : Bool) → isNegative code ≡ b → cond b (not (against clause (variableOf code))) (against clause (variableOf code)) ≡ true → hasPair clause ≡ true
+          by : (b : Bool) → isNegative code ≡ b → cond b (not (against clause (variableOf code))) (against clause (variableOf code)) ≡ true → hasOpposites clause ≡ true
           by true q e =
               let own : 2 * variableOf code + 1 ≡ code = omega (arith, eqb-true (code % 2) 1 q) in
               never (sym (ap not (ap (has clause) own ∙ has-iff clause code .1 m)) ∙ e)
           by false q e =
               let other : 2 * variableOf code + 1 ≡ code + 1 = omega (arith, eqb-false (code % 2) 1 q) in
-              pair-iff clause .1 (record { literal = code; one = m; other = rw q (has-iff clause (code + 1) .0 (sym (ap (has clause) other) ∙ e)) })
+              opposites-iff clause .1 (record { literal = code; one = m; other = rw q (has-iff clause (code + 1) .0 (sym (ap (has clause) other) ∙ e)) })
 
-  pub always-iff : (hasPair clause ≡ true) ↔ ((v : ℕ → Bool) → clauseHolds v clause ≡ true)
-  always-iff = (λ e v. pair-holds v clause e, only-pairs)
+  pub always-iff : (hasOpposites clause ≡ true) ↔ ((v : ℕ → Bool) → clauseHolds v clause ≡ true)
+  always-iff = (λ e v. opposites-hold v clause e, only-opposites)

@@ -1,15 +1,14 @@
 -- The made formula is one of the variables 1..N: every literal of it is a literal of these. Assumes nothing.
 use mathlib.Core.Path.{_≡_, refl, _∙_}
-use mathlib.Core.Bool.{Bool, true, false, cond, _&&_}
+use mathlib.Core.Bool.{true, _&&_}
 use mathlib.Core.List.{List, [], _∷_}
-use Prim.Native.Nat.{ℕ, _+_, _-_, _*_, _/_, _%_, _≤_}
+use Prim.Native.Nat.{ℕ, _+_, _-_, _*_, _≤_}
 use native.Mathlib.Omega.{arith}
-use borrow.Author.Tests.{eqb-true, eqb-false}
 use lib.ListN.{length}
 use Rattle.lists.specs.Tests.{allOf}
 use Rattle.lists.proofs.Cases.{and-l, and-r, and-both}
 use Rattle.lists.proofs.Members.{all-append}
-use Rattle.store.specs.Literals.{oppositeOf, isLiteral}
+use Rattle.store.specs.Literals.{isLiteral}
 use Rattle.store.specs.Stores.{isRow}
 use Rattle.store.proofs.FormLaws.{literal-low, literal-high, literal-within, opposite-within}
 use Rattle.store.proofs.Formed.{row-of}

@@ -4,7 +4,7 @@ use mathlib.Core.List.{List, [], _∷_}
 use Prim.Native.Nat.{ℕ}
 use Rattle.lists.specs.Tests.{allOf, anyOf}
 use Rattle.symmetry.specs.Sets.{within, sameSet}
-use Rattle.symmetry.specs.Judged.{hasPair, judged}
+use Rattle.symmetry.specs.Judged.{hasOpposites, judged}
 use Rattle.symmetry.specs.Symmetry.{imageOf, clauseImage, hasImage, missingFrom, firstMissing}
 
 -- document 01's listing, as codes
@@ -13,25 +13,25 @@ listing = (2 ∷ 4 ∷ []) ∷ (4 ∷ 6 ∷ []) ∷ []
 
 -- 1 and 3 exchanged
 ends-exchanged : firstMissing (6 ∷ 4 ∷ 2 ∷ []) listing ≡ 0
-unfolding listing imageOf clauseImage hasPair judged hasImage missingFrom within sameSet allOf anyOf
+unfolding listing imageOf clauseImage hasOpposites judged hasImage missingFrom within sameSet allOf anyOf
 ends-exchanged = refl
 
 -- 1 and 2 exchanged: the image (1 3) of the second clause is missing
 first-exchanged : firstMissing (4 ∷ 2 ∷ 6 ∷ []) listing ≡ 2
-unfolding listing imageOf clauseImage hasPair judged hasImage missingFrom within sameSet allOf anyOf
+unfolding listing imageOf clauseImage hasOpposites judged hasImage missingFrom within sameSet allOf anyOf
 first-exchanged = refl
 
 -- clauses are sets: (2 1)(3 2 3), in another order and with a repeated literal
 as-sets : firstMissing (6 ∷ 4 ∷ 2 ∷ []) ((4 ∷ 2 ∷ []) ∷ (6 ∷ 4 ∷ 6 ∷ []) ∷ []) ≡ 0
-unfolding imageOf clauseImage hasPair judged hasImage missingFrom within sameSet allOf anyOf
+unfolding imageOf clauseImage hasOpposites judged hasImage missingFrom within sameSet allOf anyOf
 as-sets = refl
 
 -- a clause with a contradictory pair is not judged: (1 -1 2) and the listing, 1 and 3 exchanged, which was refused at clause 1 before CR 7
-pair-passed-over : firstMissing (6 ∷ 4 ∷ 2 ∷ []) ((2 ∷ 3 ∷ 4 ∷ []) ∷ listing) ≡ 0
-unfolding listing imageOf clauseImage hasPair judged hasImage missingFrom within sameSet allOf anyOf
-pair-passed-over = refl
+opposites-passed-over : firstMissing (6 ∷ 4 ∷ 2 ∷ []) ((2 ∷ 3 ∷ 4 ∷ []) ∷ listing) ≡ 0
+unfolding listing imageOf clauseImage hasOpposites judged hasImage missingFrom within sameSet allOf anyOf
+opposites-passed-over = refl
 
 -- but it counts: with 1 and 2 exchanged it is clause 3 of the whole formula whose image is missing
 numbered-in-all : firstMissing (4 ∷ 2 ∷ 6 ∷ []) ((2 ∷ 3 ∷ 4 ∷ []) ∷ listing) ≡ 3
-unfolding listing imageOf clauseImage hasPair judged hasImage missingFrom within sameSet allOf anyOf
+unfolding listing imageOf clauseImage hasOpposites judged hasImage missingFrom within sameSet allOf anyOf
 numbered-in-all = refl

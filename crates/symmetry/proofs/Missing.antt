@@ -5,12 +5,12 @@ use mathlib.Core.List.{List, []}
 use Prim.Native.Nat.{ℕ, _+_, _≤_, _<_}
 use lib.ListN.{length, getD, drop, drop-of-length-le}
 use Rattle.lists.proofs.Steps.{drop-step}
-use Rattle.symmetry.specs.Judged.{hasPair}
+use Rattle.symmetry.specs.Judged.{hasOpposites}
 use Rattle.symmetry.specs.Symmetry.{hasImage, missingFrom}
 
 module _ (row : List ℕ) (formula : List (List ℕ)) (k c : ℕ) where
   module _ (clause : List ℕ) (is : clause ≡ getD formula c []) (h : c < length formula) where
-    pub missing-here : hasImage row formula clause ≡ false → hasPair clause ≡ false → missingFrom row formula k (drop c formula) ≡ k
+    pub missing-here : hasImage row formula clause ≡ false → hasOpposites clause ≡ false → missingFrom row formula k (drop c formula) ≡ k
     unfolding missingFrom
     missing-here e f = rw (drop-step formula c [] h, ← is, e, f)
 
@@ -21,9 +21,9 @@ module _ (row : List ℕ) (formula : List (List ℕ)) (k c : ℕ) where
     unfolding missingFrom
     found-later e = rw (drop-step formula c [] h, ← is, e, or-true)
 
-    pub pair-later : hasPair clause ≡ true → Later
+    pub opposites-later : hasOpposites clause ≡ true → Later
     unfolding missingFrom
-    pair-later e = rw (drop-step formula c [] h, ← is, e)
+    opposites-later e = rw (drop-step formula c [] h, ← is, e)
 
   pub missing-end : length formula ≤ c → missingFrom row formula k (drop c formula) ≡ 0
   unfolding missingFrom

@@ -13,12 +13,12 @@ use Rattle.lists.proofs.Tests.{all-mem, mem-all}
 use Rattle.store.specs.Literals.{isLiteral}
 use Rattle.store.proofs.Formed.{Row}
 use Rattle.symmetry.specs.Sets.{sameSet, SameSet, Among}
-use Rattle.symmetry.specs.Judged.{hasPair, judged}
+use Rattle.symmetry.specs.Judged.{hasOpposites, judged}
 use Rattle.symmetry.specs.Symmetry.{clauseImage, MapsToItself, IsSymmetry, hasImage, missingFrom, firstMissing}
 use Rattle.symmetry.specs.Former.{IsFormerSymmetry}
 use Rattle.symmetry.proofs.SetLaws.{mem-at, at-mem, sameSet-iff, same-eq, same-trans}
 use Rattle.symmetry.proofs.ImageLaws.{images-one}
-use Rattle.symmetry.proofs.JudgedLaws.{pair-image, judged-iff, judged-all, among-judged}
+use Rattle.symmetry.proofs.JudgedLaws.{opposites-image, judged-iff, judged-all, among-judged}
 use Rattle.symmetry.proofs.Onto.{onto}
 
 among-same : {a b : List ℕ} {formula : List (List ℕ)} → SameSet a b → Among b formula → Among a formula
@@ -38,7 +38,7 @@ module _ (row : List ℕ) (all : List (List ℕ)) where
   none-iff : (k : ℕ) (clauses : List (List ℕ)) → 0 < k → (missingFrom row all k clauses ≡ 0) ↔ (allOf (hasImage row all) (judged clauses) ≡ true)
   unfolding missingFrom allOf judged
   none-iff k [] h = (λ e. refl, λ e. refl)
-  none-iff k (c ∷ clauses) h = go (hasPair c) (hasImage row all c) refl (none-iff (k + 1) clauses (omega arith))
+  none-iff k (c ∷ clauses) h = go (hasOpposites c) (hasImage row all c) refl (none-iff (k + 1) clauses (omega arith))
     where
       go : (p b : Bool) → hasImage row all c ≡ b → (missingFrom row all (k + 1) clauses ≡ 0) ↔ (allOf (hasImage row all) (judged clauses) ≡ true)
           → (cond (p || b) (missingFrom row all (k + 1) clauses) k ≡ 0) ↔ (allOf (hasImage row all) (cond p (judged clauses) (c ∷ judged clauses)) ≡ true)
@@ -72,9 +72,9 @@ maps-iff n row clauses r good = (to, from)
 
 module _ (n : ℕ) (row : List ℕ) (formula : List (List ℕ)) (r : Row n row) where
   -- the image of a judged clause is a judged clause if it is a clause at all
-  image-judged : (clause : List ℕ) → allOf (isLiteral n) clause ≡ true → hasPair clause ≡ false → hasImage row formula clause ≡ hasImage row (judged formula) clause
+  image-judged : (clause : List ℕ) → allOf (isLiteral n) clause ≡ true → hasOpposites clause ≡ false → hasImage row formula clause ≡ hasImage row (judged formula) clause
   image-judged clause good none =
-      let among = among-judged formula (clauseImage row clause) (pair-image n row r clause good ∙ none) in
+      let among = among-judged formula (clauseImage row clause) (opposites-image n row r clause good ∙ none) in
       bool-ext (hasImage row formula clause) (hasImage row (judged formula) clause)
       (λ e. hasImage-iff row (judged formula) clause .1 (among .0 (hasImage-iff row formula clause .0 e)))
       (λ e. hasImage-iff row formula clause .1 (among .1 (hasImage-iff row (judged formula) clause .0 e)))
@@ -85,9 +85,9 @@ module _ (n : ℕ) (row : List ℕ) (formula : List (List ℕ)) (r : Row n row) 
   unfolding missingFrom allOf
   missing-among-all k [] good = refl
   missing-among-all k (c ∷ clauses) good =
-      go (hasPair c) refl (missing-among-all (k + 1) clauses (and-r (allOf (isLiteral n) c) (allOf (allOf (isLiteral n)) clauses) good))
+      go (hasOpposites c) refl (missing-among-all (k + 1) clauses (and-r (allOf (isLiteral n) c) (allOf (allOf (isLiteral n)) clauses) good))
     where
-      go : (p : Bool) → hasPair c ≡ p → missingFrom row formula (k + 1) clauses ≡ missingFrom row (judged formula) (k + 1) clauses
+      go : (p : Bool) → hasOpposites c ≡ p → missingFrom row formula (k + 1) clauses ≡ missingFrom row (judged formula) (k + 1) clauses
           → cond (p || hasImage row formula c) (missingFrom row formula (k + 1) clauses) k
           ≡ cond (p || hasImage row (judged formula) c) (missingFrom row (judged formula) (k + 1) clauses) k
       go true q rest = rest

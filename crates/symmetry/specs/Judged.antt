@@ -6,10 +6,10 @@ use Rattle.lists.specs.Tests.{anyOf, has}
 use Rattle.store.specs.Literals.{oppositeOf}
 
 -- "a contradictory pair of literals": some literal of the clause stands in it together with its opposite
-unfoldable pub hasPair : List ℕ → Bool
-hasPair clause = anyOf (λ code. has clause (oppositeOf code)) clause
+unfoldable pub hasOpposites : List ℕ → Bool
+hasOpposites clause = anyOf (λ code. has clause (oppositeOf code)) clause
 
 -- "the set of clauses without a contradictory pair of literals"
 unfoldable pub judged : List (List ℕ) → List (List ℕ)
 judged [] = []
-judged (clause ∷ formula) = cond (hasPair clause) (judged formula) (clause ∷ judged formula)
+judged (clause ∷ formula) = cond (hasOpposites clause) (judged formula) (clause ∷ judged formula)

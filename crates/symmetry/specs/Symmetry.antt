@@ -7,7 +7,7 @@ use lib.ListN.{getD}
 use Rattle.lists.specs.Tests.{anyOf}
 use Rattle.store.specs.Literals.{variableOf, isNegative, oppositeOf}
 use Rattle.symmetry.specs.Sets.{sameSet, SameFormula}
-use Rattle.symmetry.specs.Judged.{hasPair, judged}
+use Rattle.symmetry.specs.Judged.{hasOpposites, judged}
 
 -- the image of a literal: that of its variable, turned where the literal is negative
 unfoldable pub imageOf : List ℕ → ℕ → ℕ
@@ -31,7 +31,7 @@ hasImage row clauses clause = anyOf (sameSet (clauseImage row clause)) clauses
 -- the number, from k on, of the first clause without a contradictory pair whose image is missing from `all`; 0 where none is
 unfoldable pub missingFrom : List ℕ → List (List ℕ) → ℕ → List (List ℕ) → ℕ
 missingFrom row all k [] = 0
-missingFrom row all k (clause ∷ clauses) = cond (hasPair clause || hasImage row all clause) (missingFrom row all (k + 1) clauses) k
+missingFrom row all k (clause ∷ clauses) = cond (hasOpposites clause || hasImage row all clause) (missingFrom row all (k + 1) clauses) k
 
 -- "11 gives the first of these whose image is missing, by its number in the whole formula"
 abbrev pub firstMissing : List ℕ → List (List ℕ) → ℕ

@@ -8,7 +8,7 @@
 // the same, take the steps back from both, and the clause is itself an image (proofs/Onto.antt). So the first missing image is the whole
 // answer, and it is refusal 11's place (proofs/Theorem.antt).
 //
-// The image of a clause without a pair has none either (`pair-image`, proofs/JudgedLaws.antt), so it may be looked for among all clauses.
+// The image of a clause without a pair has none either (`opposites-image`, proofs/JudgedLaws.antt), so it may be looked for among all clauses.
 // And a clause with a pair may be looked at like the others as long as its image is found: only where one is missing is a pair looked for.
 //
 // To compare each image with each clause would be the square of m. Clauses with the same literals have the same key (document 02, CR 5), so an image is compared in full
@@ -100,7 +100,7 @@ fn first_missing_by(
         let key = keys::key_at(literals, ends, m, c, places, table, &mut marks);
         let mark = (c + 1) as u16;
         if !has_image(key, mark, &marks, literals, ends, keys, m, heads, nexts) {
-            if !judged::has_pair(clauses::clause(literals, ends, m, c), places, mark, &marks) {
+            if !judged::has_opposites(clauses::clause(literals, ends, m, c), places, mark, &marks) {
                 return c + 1;
             }
         }

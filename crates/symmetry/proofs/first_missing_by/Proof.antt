@@ -17,12 +17,12 @@ use Rattle.keys.specs.Keys.{keyBy}
 use Rattle.keys.specs.Marks.{Below, sentClause}
 use Rattle.keys.proofs.MarkLaws.{unmarked, sent-literals}
 use Rattle.symmetry.specs.Sets.{sameSet}
-use Rattle.symmetry.specs.Judged.{hasPair}
+use Rattle.symmetry.specs.Judged.{hasOpposites}
 use Rattle.symmetry.specs.Symmetry.{hasImage, missingFrom}
 use Rattle.symmetry.specs.Fitting.{ImagePlaces}
 use Rattle.symmetry.specs.Sought.{Sought, SoughtKey}
-use Rattle.symmetry.proofs.JudgedLaws.{pair-image}
-use Rattle.symmetry.proofs.Missing.{missing-here, found-later, pair-later, missing-end}
+use Rattle.symmetry.proofs.JudgedLaws.{opposites-image}
+use Rattle.symmetry.proofs.Missing.{missing-here, found-later, opposites-later, missing-end}
 use Rattle.symmetry.proofs.KeyLaws.{one-key, sent-image}
 use native.Mathlib.Omega.{arith}
 use borrow.Author.Needs.{needs}
@@ -99,16 +99,16 @@ found-image c row places good =
     ∙ ap (λ (image : List ℕ). anyOf (sameSet image) (formula s)) (sent-image row (s .args .places .now) places _ (fits t row good))
 
 -- and of a pair: what the clause is sent to has one just where it has one itself
-found-pair : (c : tie.In-loop Inv-loop μ-loop) (clause : List ℕ) → let at = c .before in
+found-opposites : (c : tie.In-loop Inv-loop μ-loop) (clause : List ℕ) → let at = c .before in
     let s = begun at in
     let own = clauseAt (s .args .literals .now) (s .args .ends .now) (at .loop .c) in
     clause ≡ own → (row : List ℕ) → ImagePlaces row (s .args .places .now) → allOf (allOf (isLiteral (length row))) (formula s) ≡ true
-    → hasPair (sentClause (s .args .places .now) clause) ≡ hasPair own
-found-pair c clause is row places good =
+    → hasOpposites (sentClause (s .args .places .now) clause) ≡ hasOpposites own
+found-opposites c clause is row places good =
     let s = begun (c .before) in
-    ap (λ (clause : List ℕ). hasPair (sentClause (s .args .places .now) clause)) is
-    ∙ ap hasPair (sent-image row (s .args .places .now) places _ (fits c row good))
-    ∙ pair-image (length row) row (row-of (length row) row (places .is-row)) _ (fits c row good)
+    ap (λ (clause : List ℕ). hasOpposites (sentClause (s .args .places .now) clause)) is
+    ∙ ap hasOpposites (sent-image row (s .args .places .now) places _ (fits c row good))
+    ∙ opposites-image (length row) row (row-of (length row) row (places .is-row)) _ (fits c row good)
 
 key-at-requires : tie.Need-key-at-requires Inv-loop μ-loop
 key-at-requires c κs = let at = c .before .before in let s = begun at in (s .pre .0 .formula, omega arith, s .pre .1, at .loop .inv .1)
@@ -122,8 +122,8 @@ has-image-requires c κs =
 clause-requires : tie.Need-clause-requires Inv-loop μ-loop
 clause-requires c κs = let at = c .before .before .before .before .before .before .before in (begun at .pre .0 .formula .clauses, omega arith)
 
-has-pair-requires : tie.Need-has-pair-requires Inv-loop μ-loop
-has-pair-requires c κs =
+has-opposites-requires : tie.Need-has-opposites-requires Inv-loop μ-loop
+has-opposites-requires c κs =
     let is = c .before .clause .ensures in
     let k = c .before .before .before .before .before .before in
     let at = k .before .before .before in
@@ -145,7 +145,7 @@ returns c row places good =
     (t .before .loop .inv .0 row places good
     ∙ missing-here _ _ _ (t .before .loop .c) _ (h .1) (h .0)
     (sym (found-image i row places good) ∙ not-true _ (p .before .before .before .if1 .taken))
-    (sym (p .has-pair .ensures ∙ found-pair t _ (p .before .before .clause .ensures) row places good) ∙ not-true _ (c .if2 .taken)))
+    (sym (p .has-opposites .ensures ∙ found-opposites t _ (p .before .before .clause .ensures) row places good) ∙ not-true _ (c .if2 .taken)))
 
 -- else its image was found or a pair
 loop-again : tie.Need-loop-again Inv-loop μ-loop
@@ -157,7 +157,7 @@ loop-again c =
     let next : at .loop .c + 2 ≡ at .loop .c + 1 + 1 = omega arith in (
       λ row places good. at .loop .inv .0 row places good
           ∙ ⊎-elim
-          (λ f. pair-later _ _ _ (at .loop .c) _ (h .1) (h .0) (sym (f .3 .ensures ∙ found-pair t _ (f .1 .ensures) row places good) ∙ not-false _ (f .4 .left)))
+          (λ f. opposites-later _ _ _ (at .loop .c) _ (h .1) (h .0) (sym (f .3 .ensures ∙ found-opposites t _ (f .1 .ensures) row places good) ∙ not-false _ (f .4 .left)))
           (λ f. found-later _ _ _ (at .loop .c) _ (h .1) (h .0) (sym (found-image i row places good) ∙ not-false _ (f .left)))
           (c .if1 .came),
       rw next at (i .before .before .before .key-at .ensures .1 .1),
@@ -181,7 +181,7 @@ first-missing-by-spec =
     has-image-requires
     clause-requires
     (λ c. sym (c .before .before .before .before .before .before .key-at .ensures .1 .1 .room))
-    has-pair-requires
+    has-opposites-requires
     (search needs)
     returns
     (search needs)

@@ -1,8 +1,8 @@
--- `symmetry::judged::has_pair` meets its contract. The invariant: the answer is whether one of the literals from i on has an opposite with the mark. Assumes nothing.
+-- `symmetry::judged::has_opposites` meets its contract. The invariant: the answer is whether one of the literals from i on has an opposite with the mark. Assumes nothing.
 use mathlib.Core.Path.{_≡_, refl, sym, ap, _∙_}
 use mathlib.Core.Bool.{true, false}
 use mathlib.Core.List.{List}
-use Prim.Native.Nat.{ℕ, _+_, _-_, _<_}
+use Prim.Native.Nat.{ℕ, _+_, _-_}
 use borrow.Author.Tests.{eq-eqb, ne-eqb}
 use lib.ListN.{length, getD, drop, length-map}
 use Rattle.lists.specs.Tests.{anyOf, has}
@@ -13,14 +13,14 @@ use Rattle.store.specs.Stores.{maxVariables}
 use Rattle.store.proofs.FormLaws.{literal-low, opposite-within}
 use Rattle.keys.specs.Marks.{sentTo, sentClause}
 use Rattle.keys.proofs.MarkLaws.{sent-literals}
-use Rattle.symmetry.specs.Judged.{hasPair}
+use Rattle.symmetry.specs.Judged.{hasOpposites}
 use borrow.Author.Needs.{needs}
 use native.Mathlib.Omega.{arith}
-use Rattle.symmetry.proofs.judged.has_pair.Statement.{statement}
-use Rattle.symmetry.proofs.judged.has_pair.Tie as tie
+use Rattle.symmetry.proofs.judged.has_opposites.Statement.{statement}
+use Rattle.symmetry.proofs.judged.has_opposites.Tie as tie
 
 abbrev Inv-loop : tie.InvT-loop
-Inv-loop clause places mark marks i₀ i = let sent = sentClause places clause in hasPair sent ≡ anyOf (λ code. has sent (oppositeOf code)) (drop i sent)
+Inv-loop clause places mark marks i₀ i = let sent = sentClause places clause in hasOpposites sent ≡ anyOf (λ code. has sent (oppositeOf code)) (drop i sent)
 
 abbrev μ-loop : tie.MeasureT-loop
 μ-loop clause places mark marks i₀ i = length clause - i
@@ -36,7 +36,7 @@ size : (s : tie.Start Inv-loop μ-loop) → length (sent s) ≡ length (s .args 
 size s = length-map (s .args .clause .now) (sentTo (s .args .places .now))
 
 loop-holds : tie.Need-loop-holds Inv-loop μ-loop
-unfolding hasPair
+unfolding hasOpposites
 loop-holds c = refl
 
 -- the literal at hand
@@ -107,8 +107,8 @@ returns-2 c =
     let s = begun at in
     sym (at .loop .inv ∙ any-drop-end (λ code. has (sent s) (oppositeOf code)) (sent s) (at .loop .i) (omega (arith, size s)))
 
-pub has-pair-spec : {M : Type 1} → statement M
-has-pair-spec =
+pub has-opposites-spec : {M : Type 1} → statement M
+has-opposites-spec =
     tie.close
     (tie.spec
     Inv-loop

@@ -45,7 +45,7 @@ enum symbreak_refusal {
     SYMBREAK_BAD_NAME = 8,          /* names line: a name outside 1..n, as every negative one, or repeated, or no name (place: the line's length) */
     SYMBREAK_VALUE_NOT_NUMBER = 9,  /* value line: a word that is no number */
     SYMBREAK_BAD_VALUE = 10,        /* value line: a value that is no name, the `-` apart, or whose name is used already, or too few (place: the line's length) */
-    SYMBREAK_NO_SYMMETRY = 11,      /* no symmetry (place: the number, from 1, of the first clause whose image is missing) */
+    SYMBREAK_NO_SYMMETRY = 11,      /* no symmetry (place: the number, from 1, of the first clause, none that holds i and -i, whose image is missing) */
     SYMBREAK_BAD_ASSIGNMENT = 12,   /* an assignment of the wrong length or with a spare bit set; in a comparison, unequal lengths or more than 519 words */
     SYMBREAK_NO_SUCH_CLAUSE = 13,   /* clause number 0 or above M */
     SYMBREAK_NO_FIGURE = 14,        /* not unlabelled <= allowed <= labelled, labelled = unlabelled, or labelled over 10^12 */
@@ -113,7 +113,8 @@ symbreak_stored symbreak_open(uint64_t variables, uint64_t clauses, uint64_t row
 
 /* Offers a permutation p: a line of names and a line of values in that order, without line feeds. p takes each name to its value, one of the names or, with a
  * `-`, the negation of one, each once; variables that are not named stay, and -i goes to the opposite of what i goes to. It is held, as one row more, exactly when
- * it takes the formula's set of clauses to itself. images must have room for (rows + 1) * n entries.
+ * it takes the formula's set of clauses to itself, without those that hold a literal and its negation: they are always true. images must have room for
+ * (rows + 1) * n entries.
  * Refusals 20, 21, 22, 7, 8, 9, 10, 11, 23, in this order. */
 symbreak_stored symbreak_offer(uint64_t variables, uint64_t clauses, uint64_t rows, uint64_t is_open, const uint16_t *literals, size_t literals_len,
                                const uint16_t *ends, size_t ends_len, const uint64_t *keys, size_t keys_len, uint16_t *images, size_t images_len,

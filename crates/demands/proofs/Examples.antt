@@ -39,8 +39,8 @@ opened =
     (112 ∷ 32 ∷ 99 ∷ 110 ∷ 102 ∷ 32 ∷ 51 ∷ 32 ∷ 49 ∷ 10 ∷ 49 ∷ 32 ∷ 50 ∷ 32 ∷ 51 ∷ 32 ∷ 48 ∷ 10 ∷ [])
 
 -- the formula `1 -1 2 0`, `1 2 0`, `2 3 0`, opened
-abbrev openedToo : Keyed
-openedToo =
+abbrev contradictory : Keyed
+contradictory =
     openStore (withKeys (lent closedRecord (replicate 7 0) (replicate 3 0) (replicate 3 0)) (replicate 3 0))
     (112 ∷ 32 ∷ 99 ∷ 110 ∷ 102 ∷ 32 ∷ 51 ∷ 32 ∷ 51 ∷ 10
     ∷ 49 ∷ 32 ∷ 45 ∷ 49 ∷ 32 ∷ 50 ∷ 32 ∷ 48 ∷ 10
@@ -79,9 +79,9 @@ computed :
     ∷ saying (after opened (turning ∷ withdraw ∷ []))
     ∷ held (after opened (turning ∷ withdraw ∷ withdraw ∷ exchange ∷ []))
     ∷ making (madeOf (after opened (turning ∷ withdraw ∷ withdraw ∷ exchange ∷ []) .store))
-    ∷ offering (offerSays openedToo (49 ∷ 32 ∷ 51 ∷ []) (51 ∷ 32 ∷ 49 ∷ []))
-    ∷ offering (offerSays openedToo (49 ∷ 32 ∷ 50 ∷ []) (50 ∷ 32 ∷ 49 ∷ []))
-    ∷ making (madeOf (openedToo .store))
+    ∷ offering (offerSays contradictory (49 ∷ 32 ∷ 51 ∷ []) (51 ∷ 32 ∷ 49 ∷ []))
+    ∷ offering (offerSays contradictory (49 ∷ 32 ∷ 50 ∷ []) (50 ∷ 32 ∷ 49 ∷ []))
+    ∷ making (madeOf (contradictory .store))
     ∷ []
     ≡ withdrawing (refused 30 0)
     ∷ holding ((4 ∷ 6 ∷ 2 ∷ []) ∷ []) (4 ∷ 6 ∷ 2 ∷ 0 ∷ []) 5

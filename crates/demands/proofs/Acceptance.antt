@@ -1,4 +1,4 @@
--- Demand 2, first half: a permutation is accepted exactly when it turns the formula's set of clauses into itself, the input rules and limits
+-- Demand 2, first half: a permutation is accepted exactly when it is a symmetry of the formula, the input rules and limits
 -- permitting, and the row that is then held is the one that the two lines state. Assumes nothing.
 use mathlib.Core.Path.{_≡_, refl, sym, ap, _∙_}
 use mathlib.Core.Bool.{Bool, true, false, cond}
@@ -45,7 +45,7 @@ module _ (s : Keyed) (names values : List ℕ) where
   never : {A : Type 0} {number place : ℕ} → _≡_ {A = Said Accepted} (refused number place) (done accepted) → A
   never e = let z : _≡_ {A = ℕ} 0 1 = cc in absurd (omega arith)
 
-  -- the first clause whose image is missing
+  -- the first judged clause whose image is missing
   abbrev missing : ℕ
   missing = firstMissing (rowFor (s .store) names values) (plainOf (s .store))
 
@@ -82,8 +82,8 @@ module _ (s : Keyed) (names values : List ℕ) where
       tried s names values (ready-of s (a .opened) (a .formed)) (λ e. omega (arith, a .not-full))
       ∙ ap saidOffered (held (s .store) names values (a .stated) _ refl (a .none-missing) (a .room))
 
-  -- Demand 2: of an open, well-formed store that is not full and has room, two lines that state a permutation by the rules are accepted exactly when the
-  -- set of images equals the set of clauses.
+  -- Demand 2: of an open, well-formed store that is not full and has room, two lines that state a permutation by the rules are accepted exactly when it
+  -- is a symmetry.
   pub accepted-iff-symmetry : s .store .counts .is_open ≡ true → wellFormed s ≡ true → s .store .counts .rows < maxRows → imagesNeeded (s .store) ≤ length (s .store .images)
       → statedBy (s .store .counts .variables) names values ≡ Stated.Permutation
       → (offerSays s names values ≡ done accepted) ↔ IsSymmetry (rowFor (s .store) names values) (plainOf (s .store))

@@ -12,7 +12,7 @@ ghost use Rattle.store.specs.Literals.{isLiteral};
 ghost use Rattle.store.specs.Stores.{clauseAt, clausesIn, FormedFormula, maxVariables};
 ghost use Rattle.numbers.specs.Numbers.{numbers, numberCount};
 ghost use Rattle.keys.specs.Keys.{keyBy, keysOf, rightKeys};
-ghost use Rattle.keys.specs.Marks.{Below, Marked, Places, OwnPlaces, sentClause};
+ghost use Rattle.keys.specs.Marks.{Below, Marked, Places, OwnPlaces, sentTo, sentClause};
 use std::num::wrapping_add_u64;
 use store::clauses;
 use store::literal;
@@ -110,7 +110,7 @@ fn key(
     let mut i = clause.len();
     while 0 < i {
         i -= 1;
-        let place = wide(places[place(literal::wide(clause[i]))]);
+        let place = sent(places, literal::wide(clause[i]));
         if marks[place] != mark {
             marks[place] = mark;
             sum = wrapping_add_u64(sum, table[place]);
@@ -119,11 +119,12 @@ fn key(
     sum
 }
 
-// A place that stands in a table.
-fn wide(place: u16) -> usize
-    ensures { λ r. ⌜ r ≡ place ⌝ }
+// The place of what a table sends a literal to.
+pub fn sent(places: &[u16; numbers::COUNT], code: u32) -> usize
+    requires { ⌜ (isLiteral maxVariables code ≡ true) × Places (now places) ⌝ }
+    ensures { λ r. ⌜ (r + 2 ≡ sentTo (now (places .entry)) code) × (r < numberCount) ⌝ }
 {
-    place as usize
+    places[place(code)] as usize
 }
 
 // Where a literal stands in a table of numbers.

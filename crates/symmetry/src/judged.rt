@@ -25,7 +25,7 @@ pub fn has_opposites(
 {
     let mut i = 0;
     while i < clause.len() {
-        let image = literal::wide(places[keys::place(literal::wide(clause[i]))]) + 2;
+        let image = keys::sent(places, literal::wide(clause[i])) as u32 + 2;
         if marks[keys::place(literal::opposite(image))] == mark {
             return true;
         }

@@ -39,8 +39,8 @@ use store::clauses;
 use store::literal;
 use store::record::Record;
 
-// The number, from 1, of the first of m clauses whose image under a row is missing among them; 0 where none is. The table is that of the
-// numbers.
+// The number, from 1, of the first of m clauses that has no contradictory pair and whose image under a row is missing among them; 0 where none is. The table is that of
+// the numbers.
 pub fn first_missing(
     literals: &[u16],
     ends: &[u16],
@@ -75,7 +75,7 @@ fn image_places(row: &[u16], places: &mut [u16])
     }
 }
 
-// The number of the first clause whose image is missing, by the places of the images and an index of the keys: by those of any row.
+// The number of the first clause without a contradictory pair whose image is missing, by the places of the images and an index of the keys: by those of any row.
 fn first_missing_by(
     literals: &[u16],
     ends: &[u16],

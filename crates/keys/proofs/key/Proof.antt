@@ -3,11 +3,10 @@ use mathlib.Core.Path.{_≡_, sym, ap, _∙_}
 use mathlib.Core.Bool.{true}
 use mathlib.Core.List.{List}
 use Prim.Native.Nat.{ℕ, _+_, _-_, _≤_, _<_}
-use lib.ListN.{length, getD, drop, length-map}
+use lib.ListN.{length, drop, length-map}
 use Rattle.lists.proofs.Members.{all-at, map-at}
 use Rattle.store.specs.Literals.{isLiteral}
 use Rattle.store.specs.Stores.{maxVariables}
-use Rattle.numbers.specs.Numbers.{numberCount}
 use Rattle.keys.specs.Keys.{keyBy}
 use Rattle.keys.specs.Marks.{Below, Marked, sentTo, sentClause}
 use Rattle.keys.proofs.KeyLaws.{Hand, key-none, key-again, key-more}
@@ -48,55 +47,42 @@ good c =
     let s = begun at in
     rw (c .wide .ensures .0) (all-at (isLiteral maxVariables) (s .args .clause .now) 0 (s .pre .0) (at .loop .i - 1) (omega (arith, at .loop .inv .2)))
 
--- where it is sent
-place-is : (c : tie.After-wide2 Inv-loop μ-loop) → let s = begun (c .before .before .before .before .before .before) in
-    c .wide2 .result + 2 ≡ sentTo (s .args .places .now) (c .before .before .before .wide .result)
-place-is c =
-    let s = begun (c .before .before .before .before .before .before) in
-    ap (λ (k : ℕ). k + 2) (c .wide2 .ensures ∙ ap (λ (k : ℕ). getD (s .args .places .now) k 0) (c .before .before .place .ensures .0))
-
-inside : (c : tie.After-wide2 Inv-loop μ-loop) → c .wide2 .result < numberCount
-inside c =
-    let s = begun (c .before .before .before .before .before .before) in
-    let p = c .before .before .place in
-    rw (c .wide2 .ensures) (s .pre .1 (p .result) (p .ensures .1))
-
-hand : (c : tie.After-wide2 Inv-loop μ-loop) → let at = c .before .before .before .before .before .before in
+-- and so is the one that it is sent to
+hand : (c : tie.After-sent Inv-loop μ-loop) → let at = c .before .before .before .before in
     let s = begun at in
-    Hand (sent s) (at .loop .i - 1) (at .loop .i) (sentTo (s .args .places .now) (c .before .before .before .wide .result)) (c .wide2 .result)
+    Hand (sent s) (at .loop .i - 1) (at .loop .i) (sentTo (s .args .places .now) (c .before .wide .result)) (c .sent .result)
 hand c =
-    let at = c .before .before .before .before .before .before in
+    let at = c .before .before .before .before in
     let s = begun at in
-    let wide = c .before .before .before .wide in
     let within : at .loop .i - 1 < length (s .args .clause .now) = omega (arith, at .loop .inv .2) in
     record {
       next = omega arith;
       inside = omega (arith, size s);
-      is = ap (sentTo (s .args .places .now)) (wide .ensures .0) ∙ sym (map-at (sentTo (s .args .places .now)) (s .args .clause .now) (at .loop .i - 1) 0 0 within);
+      is = ap (sentTo (s .args .places .now)) (c .before .wide .ensures .0) ∙ sym (map-at (sentTo (s .args .places .now)) (s .args .clause .now) (at .loop .i - 1) 0 0 within);
       low = omega arith;
-      placed = omega (arith, place-is c);
+      placed = omega (arith, c .sent .ensures .0);
     }
 
 -- it has a mark
 slice-read-if1 : tie.Need-slice-read-if1 Inv-loop μ-loop
-slice-read-if1 c = omega (arith, inside (c .before), c .before .before .before .before .before .before .before .loop .inv .3 .room)
+slice-read-if1 c = omega (arith, c .before .sent .ensures .1, c .before .before .before .before .before .loop .inv .3 .room)
 
 loop-again : tie.Need-loop-again Inv-loop μ-loop
 loop-again c =
     let placed = c .before .before .before .before in
-    let at = placed .before .before .before .before .before .before in
+    let at = placed .before .before .before .before in
     let s = begun at in
     let new = is-new (s .args .mark) (sent s) (at .loop .marks) _ _ _ _ (hand placed) (at .loop .inv .1) (c .before .before .if1 .taken) in (
       c .wrapping-add-u64 .ensures ∙ key-more (s .args .table .now) (sent s) _ _ _ _ (hand placed) new _ (at .loop .inv .0),
       marked-more (s .args .mark) (sent s) (at .loop .marks) _ _ _ _ (hand placed) (at .loop .inv .1) (slice-read-if1 (c .before .before .before)),
       omega (arith, at .loop .inv .2),
-      below-more (s .args .mark) (at .loop .marks) _ (inside placed) (at .loop .inv .3),
+      below-more (s .args .mark) (at .loop .marks) _ (placed .sent .ensures .1) (at .loop .inv .3),
     )
 
 loop-again-2 : tie.Need-loop-again-2 Inv-loop μ-loop
 loop-again-2 c =
     let placed = c .before .before in
-    let at = placed .before .before .before .before .before .before in
+    let at = placed .before .before .before .before in
     let s = begun at in
     let seen = came (s .args .mark) (sent s) (at .loop .marks) _ _ _ _ (hand placed) (at .loop .inv .1) (c .if1 .left) in (
       at .loop .inv .0 ∙ key-again (s .args .table .now) (sent s) _ _ _ _ (hand placed) seen,
@@ -128,16 +114,13 @@ key-spec =
     (search needs)
     (search needs)
     (search needs)
-    (λ c κs. good c)
-    (search needs)
-    (search needs)
-    (search needs)
-    (λ c. omega (arith, inside c))
+    (λ c κs. (good c, begun (c .before .before .before) .pre .1))
+    (λ c. omega (arith, c .sent .ensures .1))
     slice-read-if1
-    (λ c. omega (arith, inside (c .before .before)))
+    (λ c. omega (arith, c .before .before .sent .ensures .1))
     (λ c. slice-read-if1 (c .before))
-    (λ c. omega (arith, inside (c .before .before)))
-    (λ c. inside (c .before .before))
+    (λ c. omega (arith, c .before .before .sent .ensures .1))
+    (λ c. c .before .before .sent .ensures .1)
     (search needs)
     (search needs)
     loop-again

@@ -47,57 +47,56 @@ good c =
     rw (c .wide .ensures .0) (all-at (isLiteral maxVariables) (s .args .clause .now) 0 (s .pre .0) (at .loop .i) (omega arith))
 
 -- where it is sent
-sent-is : (c : tie.After-wide2 Inv-loop μ-loop) → let at = c .before .before .before .before .before .before in
-    c .wide2 .result + 2 ≡ getD (sent (begun at)) (at .loop .i) 0
+sent-is : (c : tie.After-sent Inv-loop μ-loop) → let at = c .before .before .before .before in
+    c .sent .result + 2 ≡ getD (sent (begun at)) (at .loop .i) 0
 sent-is c =
-    let at = c .before .before .before .before .before .before in
+    let at = c .before .before .before .before in
     let s = begun at in
-    let placed = c .before .before in
-    ap (λ (k : ℕ). k + 2) (c .wide2 .ensures .0 ∙ ap (λ (k : ℕ). getD (s .args .places .now) k 0) (placed .place .ensures .0))
-    ∙ ap (sentTo (s .args .places .now)) (placed .before .wide .ensures .0)
+    c .sent .ensures .0
+    ∙ ap (sentTo (s .args .places .now)) (c .before .wide .ensures .0)
     ∙ sym (map-at (sentTo (s .args .places .now)) (s .args .clause .now) (at .loop .i) 0 0 (omega arith))
 
 -- and the opposite of that
-opposite-is : (c : tie.After-opposite Inv-loop μ-loop) → let at = c .before .before .before .before .before .before .before in
+opposite-is : (c : tie.After-opposite Inv-loop μ-loop) → let at = c .before .before .before .before .before in
     c .opposite .result ≡ oppositeOf (getD (sent (begun at)) (at .loop .i) 0)
 opposite-is c = c .opposite .ensures ∙ ap oppositeOf (sent-is (c .before))
 
 good-opposite : (c : tie.After-opposite Inv-loop μ-loop) → isLiteral maxVariables (c .opposite .result) ≡ true
 good-opposite c =
-    let at = c .before .before .before .before .before .before .before in
+    let at = c .before .before .before .before .before in
     let s = begun at in
     rw (opposite-is c)
     (opposite-within maxVariables (getD (sent s) (at .loop .i) 0)
     (all-at (isLiteral maxVariables) (sent s) 0 (sent-literals (s .args .places .now) (s .pre .1) (s .args .clause .now) (s .pre .0)) (at .loop .i) (omega (arith, size s))))
 
 -- whether it stands there too
-tested : (c : tie.After-place2 Inv-loop μ-loop) → let at = c .before .before .before .before .before .before .before .before in
+tested : (c : tie.After-place Inv-loop μ-loop) → let at = c .before .before .before .before .before .before in
     let s = begun at in
     let opposite = oppositeOf (getD (sent s) (at .loop .i) 0) in
-    (getD (s .args .marks .now) (c .place2 .result) 0 ≡ s .args .mark → has (sent s) opposite ≡ true)
-    × ((getD (s .args .marks .now) (c .place2 .result) 0 ≡ s .args .mark → ⊥) → has (sent s) opposite ≡ false)
+    (getD (s .args .marks .now) (c .place .result) 0 ≡ s .args .mark → has (sent s) opposite ≡ true)
+    × ((getD (s .args .marks .now) (c .place .result) 0 ≡ s .args .mark → ⊥) → has (sent s) opposite ≡ false)
 tested c =
     let turned = c .before in
-    let s = begun (turned .before .before .before .before .before .before .before) in
-    let here = rw (← c .place2 .ensures .0) at (s .pre .2 (turned .opposite .result) (omega (arith, literal-low maxVariables _ (good-opposite turned)))) in (
+    let s = begun (turned .before .before .before .before .before) in
+    let here = rw (← c .place .ensures .0) at (s .pre .2 (turned .opposite .result) (omega (arith, literal-low maxVariables _ (good-opposite turned)))) in (
       λ e. rw (opposite-is turned) at (sym here ∙ eq-eqb _ _ e),
       λ n. rw (opposite-is turned) at (sym here ∙ ne-eqb _ _ n),
     )
 
 slice-read-if1 : tie.Need-shared-slice-read-if1 Inv-loop μ-loop
-slice-read-if1 c = let p = c .before in omega (arith, p .place2 .ensures .1, begun (p .before .before .before .before .before .before .before .before) .pre .3)
+slice-read-if1 c = let p = c .before in omega (arith, p .place .ensures .1, begun (p .before .before .before .before .before .before) .pre .3)
 
 returns : tie.Need-returns Inv-loop μ-loop
 returns c =
     let p = c .before .before in
-    let at = p .before .before .before .before .before .before .before .before in
+    let at = p .before .before .before .before .before .before in
     let s = begun at in
     sym (at .loop .inv ∙ any-drop-hit (λ code. has (sent s) (oppositeOf code)) (sent s) (at .loop .i) 0 (omega (arith, size s)) (tested p .0 (omega (arith, c .if1 .taken))))
 
 loop-again : tie.Need-loop-again Inv-loop μ-loop
 loop-again c =
     let p = c .before .before in
-    let at = p .before .before .before .before .before .before .before .before in
+    let at = p .before .before .before .before .before .before in
     let s = begun at in
     at .loop .inv ∙ any-drop-miss (λ code. has (sent s) (oppositeOf code)) (sent s) (at .loop .i) 0 (omega (arith, size s)) (tested p .1 (λ own. c .if1 .left (omega (arith, own))))
 
@@ -117,11 +116,9 @@ has-opposites-spec =
     (search needs)
     (search needs)
     (search needs)
-    (λ c κs. good c)
-    (search needs)
-    (search needs)
-    (search needs)
-    (search needs)
+    (λ c κs. (good c, begun (c .before .before .before) .pre .1))
+    (λ c. omega (arith, c .sent .ensures .1))
+    (λ c. omega (arith, c .sent .ensures .1))
     (search needs)
     (λ c κs. good-opposite c)
     (search needs)

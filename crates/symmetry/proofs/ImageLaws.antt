@@ -7,13 +7,12 @@ use native.Mathlib.Omega.{arith}
 use borrow.Author.Tests.{eqb-true, eqb-false}
 use lib.ListN.{getD}
 use Rattle.lists.specs.Tests.{allOf}
-use Rattle.lists.proofs.Members.{all-has}
+use Rattle.lists.proofs.Tests.{all-mem}
 use Rattle.store.specs.Literals.{variableOf, isNegative, oppositeOf, isLiteral}
 use Rattle.store.proofs.FormLaws.{opposite-is, literal-low, literal-high, literal-within}
 use Rattle.store.proofs.Formed.{Row}
 use Rattle.symmetry.specs.Sets.{SameSet}
 use Rattle.symmetry.specs.Symmetry.{imageOf, clauseImage}
-use Rattle.symmetry.proofs.SetLaws.{has-iff}
 
 module _ (row : List ℕ) (code : ℕ) where
   pub image-of-negative : isNegative code ≡ true → imageOf row code ≡ oppositeOf (getD row (variableOf code - 1) 0)
@@ -83,7 +82,7 @@ module _ (n : ℕ) (row : List ℕ) (r : Row n row) where
   unfolding clauseImage
   back a b ga gb s x m =
       let t = Memᴰ·of-map (imageOf row) b (s (imageOf row x) (Memᴰ·map (imageOf row) m)) in
-      let same : t .0 ≡ x = image-one (t .0) x (all-has (isLiteral n) b (t .0) gb (has-iff b (t .0) .1 (t .1))) (all-has (isLiteral n) a x ga (has-iff a x .1 m)) (t .2) in
+      let same : t .0 ≡ x = image-one (t .0) x (all-mem (isLiteral n) (t .1) gb) (all-mem (isLiteral n) m ga) (t .2) in
       Memᴰ·cast (sym same) (t .1)
 
   -- images with the same literals are images of clauses with the same literals

@@ -8,7 +8,7 @@ use native.Mathlib.Nat.{not-suc-le-zero}
 use lib.ListN.{getD}
 use Rattle.lists.specs.Tests.{allOf, has}
 use Rattle.lists.proofs.Cases.{bool-ext, never}
-use Rattle.lists.proofs.Members.{any-at, any-in, all-has}
+use Rattle.lists.proofs.Members.{any-at, any-in}
 use Rattle.lists.proofs.Tests.{all-mem, mem-all}
 use Rattle.store.specs.Literals.{oppositeOf, isLiteral}
 use Rattle.store.proofs.FormLaws.{opposite-within}
@@ -49,7 +49,7 @@ unfolding clauseImage
 opposites-image n row r clause good = bool-ext (hasOpposites (clauseImage row clause)) (hasOpposites clause) to from
   where
     literal : {x : ℕ} → List·Memᴰ x clause → isLiteral n x ≡ true
-    literal {x} m = all-has (isLiteral n) clause x good (has-iff clause x .1 m)
+    literal m = all-mem (isLiteral n) m good
 
     to : hasOpposites (clauseImage row clause) ≡ true → hasOpposites clause ≡ true
     to e =

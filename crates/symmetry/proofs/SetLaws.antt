@@ -8,7 +8,8 @@ use native.Mathlib.Nat.{not-suc-le-zero, le-of-suc-le-suc}
 use lib.ListN.{length, getD}
 use Rattle.lists.specs.Tests.{has}
 use Rattle.lists.proofs.Cases.{and-l, and-r, and-both}
-use Rattle.lists.proofs.Members.{all-in, place, placed, all-has}
+use Rattle.lists.proofs.Members.{place, placed}
+use Rattle.lists.proofs.Tests.{all-mem, mem-all}
 use Rattle.symmetry.specs.Sets.{within, sameSet, SameSet}
 
 -- a member has a place, and what stands at a place is a member
@@ -27,10 +28,7 @@ has-iff l x =
 
 within-iff : (a b : List ℕ) → (within a b ≡ true) ↔ ((x : ℕ) → List·Memᴰ x a → List·Memᴰ x b)
 unfolding within
-within-iff a b = (
-  λ e x m. has-iff b x .0 (all-has (has b) a x e (has-iff a x .1 m)),
-  λ f. all-in (has b) a 0 (λ i h. has-iff b (getD a i 0) .1 (f (getD a i 0) (at-mem 0 a i h))),
-)
+within-iff a b = (λ e x m. has-iff b x .0 (all-mem (has b) m e), λ f. mem-all (has b) a (λ x m. has-iff b x .1 (f x m)))
 
 pub sameSet-iff : (a b : List ℕ) → (sameSet a b ≡ true) ↔ SameSet a b
 unfolding sameSet

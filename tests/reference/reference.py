@@ -1,4 +1,4 @@
-"""Reference symmetry breaker: document 01 with CR 1 to CR 6 of document 02, written from the papers, naive on purpose.
+"""Reference symmetry breaker: document 01 with CR 1 to CR 7 of document 02, written from the papers, naive on purpose.
 
 A call answers ('refused', number, place) or ('done', value...).  A call that may write lent memory returns that
 answer followed by the new contents of each thing it may write; nothing lent is ever changed in place.
@@ -264,12 +264,24 @@ def image(clause_: frozenset, row: Row) -> frozenset:
     return frozenset(row[literal] if literal > 0 else -row[-literal] for literal in clause_)
 
 
+def contradictory(clause_: Clause) -> bool:
+    """CR 7: "a contradictory pair of literals", as in "clauses such as 5 -5 8": the clause is always true."""
+    literals = set(clause_)
+    return any(-literal in literals for literal in literals)
+
+
+def judged(formula: List[Clause]) -> Dict[int, frozenset]:
+    """CR 7: the "clauses without a contradictory pair of literals", each as a set, "by its number in the whole formula"."""
+    return {q: frozenset(clause_) for q, clause_ in enumerate(formula, 1) if not contradictory(clause_)}
+
+
 def require_symmetry(formula: List[Clause], row: Row) -> None:
-    """"p is a symmetry when the set of images equals the set of clauses"; else 11 at the first missing image."""
-    sets = [frozenset(clause_) for clause_ in formula]
-    clause_set, image_set = set(sets), {image(clause_, row) for clause_ in sets}
+    """CR 7: "A symmetry .. is one that maps the set of clauses without a contradictory pair of literals to itself, and 11 gives the first of these whose
+    image is missing"."""
+    clauses = judged(formula)
+    clause_set, image_set = set(clauses.values()), {image(clause_, row) for clause_ in clauses.values()}
     if image_set != clause_set:
-        raise Refusal(11, [image(clause_, row) in clause_set for clause_ in sets].index(False) + 1)
+        raise Refusal(11, min(q for q, clause_ in clauses.items() if image(clause_, row) not in clause_set))
 
 
 @call("record", "images")

@@ -384,6 +384,160 @@ class Signs(unittest.TestCase):
         self.assertEqual(ref.made_counts(ref.Record(3, 2, 3, True), [6, 4, 3, 7, 5, 3, 2, 5, 6]), (3 + 1 + 2, 2 + 6 + 12 + 1))
 
 
+EXCHANGED, NEGATED = (b"1 2", b"2 1"), (b"2", b"-2")
+
+# Clauses over three variables, two lines, and the place of 11, or 0: by the former rule, then by CR 7.
+ALWAYS_TRUE = [
+    ("such a clause alone", b"1 -1 3 0", EXCHANGED, 1, 0),
+    ("the pair alone", b"1 -1 0", EXCHANGED, 1, 0),
+    ("first", b"2 -2 3 0 1 0 2 0", EXCHANGED, 1, 0),
+    ("in the middle", b"1 0 2 -2 3 0 2 0", EXCHANGED, 2, 0),
+    ("last", b"1 0 2 0 2 -2 3 0", EXCHANGED, 3, 0),
+    ("first, in the middle and last", b"1 -1 0 1 0 3 -3 2 0 2 0 1 -1 3 0", EXCHANGED, 1, 0),
+    ("the negative literal first", b"-1 1 3 0", EXCHANGED, 1, 0),
+    ("the pair at both ends", b"1 2 3 -1 0", EXCHANGED, 1, 0),
+    ("the pair last", b"3 -2 1 -1 0", EXCHANGED, 1, 0),
+    ("the pair apart and not first", b"3 1 -2 -1 0", EXCHANGED, 1, 0),
+    ("a pair and repeats", b"1 -1 1 0", EXCHANGED, 1, 0),
+    ("repeats before a pair", b"1 1 1 3 -1 -1 0", EXCHANGED, 1, 0),
+    ("two pairs", b"1 3 -1 -3 0", EXCHANGED, 1, 0),
+    ("a pair that stays beside a literal that moves", b"3 1 -3 0", EXCHANGED, 1, 0),
+    ("moved onto itself", b"3 -3 0 1 2 -1 -2 0", EXCHANGED, 0, 0),
+    ("moved onto another", b"1 -1 3 0 3 2 -2 0", EXCHANGED, 0, 0),
+    ("moved onto another, which is moved onto none", b"1 -1 0 2 -2 0 2 -2 3 0", EXCHANGED, 3, 0),
+    ("a clause without a pair after two with one", b"1 -1 0 3 -3 2 0 1 3 0 2 0", EXCHANGED, 1, 3),
+    ("between two with one", b"1 -1 0 1 3 0 3 -3 2 0", EXCHANGED, 1, 2),
+    ("before one with one", b"1 3 0 1 -1 0", EXCHANGED, 1, 1),
+    ("after equal sets and one with a pair", b"1 0 2 2 0 1 -1 0 -1 0 -1 0", EXCHANGED, 3, 4),
+    ("after one with a pair that is moved onto itself", b"3 -3 0 1 0", EXCHANGED, 2, 2),
+    ("its image is there but for a pair", b"2 1 -1 0 2 3 -3 0 1 0", EXCHANGED, 1, 3),
+    ("it holds all but the negation of another", b"1 -1 2 0 1 2 0 1 0", EXCHANGED, 1, 3),
+    ("repeats without a pair", b"1 1 0", EXCHANGED, 1, 1),
+    ("a repeat without a pair after a clause with one", b"1 -1 0 3 1 3 0", EXCHANGED, 1, 2),
+    ("the same size in two clauses", b"1 0 -1 0", EXCHANGED, 1, 1),
+    ("the empty clause alone", b"0", EXCHANGED, 0, 0),
+    ("the empty clause before a clause with a pair", b"0 1 -1 0", EXCHANGED, 2, 0),
+    ("the empty clause after one, then one without", b"1 -1 0 0 1 0", EXCHANGED, 1, 3),
+    ("a pair beside a literal that is negated", b"1 -1 2 0", NEGATED, 1, 0),
+    ("a pair that is negated", b"2 -2 1 0", NEGATED, 0, 0),
+    ("a pair and a symmetry that turns a sign", b"1 2 0 3 2 -3 0 -2 1 0", NEGATED, 2, 0),
+    ("a missing negation after a clause with a pair", b"3 2 -3 0 -2 1 0", NEGATED, 1, 2),
+    ("a clause with a pair is no image of one without", b"2 1 0 1 2 -2 0", NEGATED, 1, 1),
+]
+
+# The sixteen clauses over two variables, as sets of the four literals, and the eight rows.
+FOUR = (1, -1, 2, -2)
+SIXTEEN = [tuple(c) for size in range(5) for c in itertools.combinations(FOUR, size)]
+
+
+def bit(holds, at):
+    return 1 << at if holds else 0
+
+
+def united(parts):
+    """The union of what each bit of a number of sixteen bits stands for, as a table for all of these numbers."""
+    table = [0]
+    for part in parts:
+        table += [part | rest for rest in table]
+    return table
+
+
+class AlwaysTrue(unittest.TestCase):
+    """CR 7 and readings C8, C9, C10 and O4."""
+
+    def test_cases(self):
+        for name, body, lines, former, place in ALWAYS_TRUE:
+            with self.subTest(name):
+                host = Host(b"p cnf 3 %d\n" % body.split().count(b"0") + body)
+                clauses, row = ref.plain_clauses(*host.store[:3]), ref.stated_row(3, *(list(map(int, line.split())) for line in lines))
+                self.assertEqual((former_rule(clauses, row), host.answer[0]), (former, "done"))
+                self.assertEqual(host.offer(*lines), ("refused", 11, place) if place else ("done",))
+                self.assertEqual((host.record.rows, ref.plain_clauses(*host.store[:3])), (int(not place), clauses))
+
+    def test_like(self):
+        """The request's clause: 5 and 6 are alike, and so are 1 to 4."""
+        text = b"p cnf 8 5\n5 -5 8 0\n5 1 2 3 4 0\n1 -1 7 0\n6 1 2 3 4 0\n8 3 -3 0\n"
+        for names, values in (b"5 6", b"6 5"), (b"1 2 3 4", b"2 3 4 1"), (b"1 4", b"4 1"), (b"7 8", b"-8 7"), (b"8", b"-8"):
+            host = Host(text)
+            row = ref.stated_row(8, *(list(map(int, line.split())) for line in (names, values)))
+            self.assertNotEqual(former_rule(ref.plain_clauses(*host.store[:3]), row), 0)
+            self.assertEqual((host.offer(names, values), ref.made_text(*host.store).split(b"\n", 1)[1][:len(text) - 10]), (("done",), text[10:]))
+        for names, values, place in (b"1 5", b"5 1", 4), (b"4 7", b"7 4", 2), (b"5", b"-5", 2), (b"6", b"-6", 4):
+            self.assertEqual(Host(text).offer(names, values), ("refused", 11, place))
+
+    def test_only_such(self):
+        """A formula of clauses with a pair alone has every row as a symmetry."""
+        for n in 1, 2, 3:
+            clauses = [c for c in [(1, -1), (1, -1, 1), (-2, 1, 2), (3, 1, 2, -3)] if max(map(abs, c)) <= n]
+            host = Host(b"p cnf %d %d\n" % (n, len(clauses)) + b"".join(map(ref.clause_line, clauses)))
+            for row in signed_rows(n):
+                host.record = host.record._replace(rows=0)
+                self.assertEqual(host.offer(*(b" ".join(b"%d" % i for i in line) for line in (range(1, n + 1), row))), ("done",), row)
+                self.assertEqual(ref.rows_of(host.record, host.images), [dict(enumerate(row, 1))])
+
+    def test_written(self):
+        """Such clauses are written out as they were read, and counted."""
+        added = b"-1 3 0\n-4 -1 3 0\n-4 1 -3 0\n4 1 3 0\n4 -1 -3 0\n-4 -3 1 0\n"
+        for count, clauses in (3, b"1 2 0\n1 -1 2 0\n2 3 0\n"), (5, b"3 -3 3 0\n1 2 0\n-1 -1 1 2 0\n2 3 0\n-2 1 2 0\n"):
+            self.assertEqual(ref.program(b"p cnf 3 %d\n%b%%\n1 3\n3 1\n" % (count, clauses)), b"p cnf 4 %d\n%b%b" % (count + 6, clauses, added))
+        self.assertEqual(ref.program(b"p cnf 2 1\n2 -2 0\n%\n1\n-1\n"), b"p cnf 2 2\n2 -2 0\n-1 -1 0\n")
+        self.assertEqual(ref.program(b"p cnf 3 2\n1 -1 0\n1 3 0\n%\n1 2\n2 1\n"), b"refused 11 2\n")
+
+    def test_checked(self):
+        """The checking call counts such clauses, and says of none that it is false."""
+        host = Host(b"p cnf 3 4\n1 -1 0\n2 3 0\n-2 3 2 0\n1 3 0\n")
+        self.assertEqual(host.offer(b"1 2", b"2 1"), ("done",))
+        self.assertEqual(ref.made_counts(host.record, host.images), (4, 10))
+        for full, answer in ("0001", 2), ("0101", 4), ("1000", 2), ("0011", 0), ("1010", 5), ("1011", 5), ("0010", 8), ("1111", 0), ("1110", 9):
+            self.assertEqual(ref.check(*host.store, words(full)), ("done", answer), full)
+        self.assertEqual(fill_in(host, "011"), (("done", 1), words("0110")))
+        self.assertEqual(descend(host, "101"), (("done", "settled", 1), "011"))
+
+    def test_keys(self):
+        """Such a clause has a key, and where it is wrong the store is badly formed."""
+        host = Host(b"p cnf 3 3\n1 -1 2 0\n1 2 0\n-2 2 -2 0", keys=4)
+        keys = [NUMBERS[1] + NUMBERS[-1] + NUMBERS[2], NUMBERS[1] + NUMBERS[2], NUMBERS[2] + NUMBERS[-2]]
+        self.assertEqual(host.keys, [*keys, 6])
+        for at, wrong in (0, 0), (0, keys[0] ^ 1), (0, NUMBERS[2]), (0, keys[1]), (2, 0), (2, keys[2] + NUMBERS[-2]), (2, keys[0]):
+            host.keys = [wrong if place == at else key for place, key in enumerate(keys)]
+            self.assertEqual((host.offer(b"1 2", b"2 1"), host.withdraw()), (("refused", 21, 0),) * 2)
+        host.keys = keys
+        self.assertEqual(host.offer(b"1 2", b"2 1"), ("done",))
+
+    def test_every_formula_of_two_variables(self):
+        """All 65,536 formulas, as numbers with a bit for each clause, by all 8 rows: what is accepted, before too, and that models are moved to models."""
+        numbers = {frozenset(c): at for at, c in enumerate(SIXTEEN)}
+        assignments = [{1: one, 2: two} for one in (False, True) for two in (False, True)]
+        false = united([sum(bit(not ref.true_clause(c, a), at) for at, a in enumerate(assignments)) for c in SIXTEEN])
+        judged = sum(bit(not ref.contradictory(c), at) for at, c in enumerate(SIXTEEN))
+        former = now = 0
+        for p in signed_rows(2):
+            row = dict(enumerate(p, 1))
+            images = united([1 << numbers[ref.image(frozenset(c), row)] for c in SIXTEEN])
+            moved = united([1 << assignments.index(ref.moved(row, a)) for a in assignments])
+            before = {f for f in range(1 << 16) if images[f] == f}
+            accepted = [f for f in range(1 << 16) if images[f & judged] == f & judged]
+            former, now = former + len(before), now + len(accepted)
+            self.assertLessEqual(before, set(accepted))
+            self.assertTrue(all(moved[15 & ~false[f]] == 15 & ~false[f] for f in accepted))
+        self.assertEqual((bin(judged).count("1"), former, now), (9, 76928, 104448))
+
+    def test_every_small_formula_of_two_variables(self):
+        """The rule as the reference has it, on all formulas of up to three clauses in any order, repeats included, by all 8 rows: the place by the test's own rule."""
+        seen = Counter()
+        for clauses in itertools.chain.from_iterable(itertools.product(SIXTEEN, repeat=size) for size in range(4)):
+            for p in signed_rows(2):
+                row = dict(enumerate(p, 1))
+                place = place_of_11(clauses, row)
+                try:
+                    ref.require_symmetry(clauses, row)
+                    self.assertEqual(place, 0, (clauses, p))
+                except ref.Refusal as refusal:
+                    self.assertEqual(refusal.answer, ("refused", 11, place), (clauses, p))
+                seen[former_rule(clauses, row), place] += 1
+        self.assertEqual({(former, place) for former, place in seen if place == 0 or place != former}, {(0, 0), (1, 0), (2, 0), (3, 0), (1, 2), (1, 3), (2, 3)})
+
+
 class StoreReadings(unittest.TestCase):
     """Readings D: 20 and 21 in every call that needs an open store, entries past those in use not looked at."""
 
@@ -548,8 +702,21 @@ def carried(row, a):
     return {i: a[abs(row[i])] ^ (row[i] < 0) for i in a}
 
 
+def former_rule(clauses, row):
+    """Before CR 7: 0 where the set of images equals the set of clauses, else the number of the first clause whose image is missing."""
+    sets, images = [frozenset(c) for c in clauses], [frozenset(applied(row, l) for l in c) for c in clauses]
+    return 0 if set(images) == set(sets) else next(q for q, each in enumerate(images, 1) if each not in sets)
+
+
+def place_of_11(clauses, row):
+    """CR 7: the number of the first clause without a pair whose image is missing, or 0; images are looked for among all clauses."""
+    without = [len(set(map(abs, c))) == len(set(c)) for c in clauses]
+    sets = {tuple(sorted(set(c))) for c in clauses}
+    return next((q for q, c in enumerate(clauses, 1) if without[q - 1] and tuple(sorted({applied(row, l) for l in c})) not in sets), 0)
+
+
 def random_formula(rng, n):
-    """A text, often the closure of some clauses under a random permutation, literals shuffled and repeated."""
+    """A text, often the closure of some clauses under a random permutation, literals shuffled and repeated, then at times clauses with a pair put in."""
     row = random_row(rng, n)
     clauses = []
     for _ in range(rng.randint(0, 3)):
@@ -559,6 +726,9 @@ def random_formula(rng, n):
                 clauses.append(rng.sample(c, len(c)) + c[:rng.randint(0, 1)])
             c = [applied(row, l) for l in c]
     clauses += rng.sample(clauses, min(len(clauses), rng.randint(0, 1)))
+    for _ in range(rng.choice((0, 0, 1, 2)) if n else 0):
+        i, *others = (rng.choice((1, -1)) * rng.randint(1, n) for _ in range(rng.randint(1, 4)))
+        clauses.append(rng.sample([i, -i, *others], len(others) + 2))
     rng.shuffle(clauses)
     lines = [" ".join(map(str, [*c, 0])) for c in clauses]
     return "\n".join([f"p cnf {n} {len(clauses)}", *lines]).encode(), clauses, row
@@ -567,7 +737,7 @@ def random_formula(rng, n):
 class Demands(unittest.TestCase):
     """Demands 2 and 3 of the brief, brute force over all assignments of random small formulas."""
 
-    def offers(self, rng, host, clauses, row):
+    def offers(self, rng, host, clauses, row, seen):
         """A list of offers, refused ones included; the accepted rows by a definition of the test's own."""
         n, accepted = host.record.variables, []
         power = {i: i for i in row}
@@ -577,11 +747,12 @@ class Demands(unittest.TestCase):
             names = [i for i in rng.sample(list(row), n) if chosen[i] != i or rng.random() < .3]
             values = [chosen[i] for i in names][:None if rng.random() < .9 else -1]
             answer = host.offer(" ".join(map(str, names)).encode(), " ".join(map(str, values)).encode())
-            sets = {tuple(sorted(set(c))) for c in clauses}
-            images = {tuple(sorted({applied(chosen, l) for l in c})) for c in clauses}
-            right = bool(names) and len(values) == len(names) and images == sets
-            self.assertEqual(answer == ("done",), right, answer)
-            accepted += [chosen] if right else []
+            place, stated = place_of_11(clauses, chosen), bool(names) and len(values) == len(names)
+            self.assertEqual(answer == ("done",), stated and place == 0, answer)
+            if stated:
+                self.assertEqual(answer, ("refused", 11, place) if place else ("done",))
+                seen["refused after a pair" if place else "accepted over a pair"] += former_rule(clauses, chosen) != place
+            accepted += [chosen] if answer == ("done",) else []
         return accepted
 
     def demand_3(self, rng, host, clauses, accepted):
@@ -626,7 +797,7 @@ class Demands(unittest.TestCase):
             text, clauses, row = random_formula(rng, rng.choice((0, 1, 2, 3, 4, 5, 6, 6)))
             host = Host(text, 128, 64, 64, 40)
             self.assertEqual(host.answer[0], "done")
-            accepted = self.offers(rng, host, clauses, row)
+            accepted = self.offers(rng, host, clauses, row, seen)
             self.assertEqual(ref.rows_of(host.record, host.images), accepted)
             self.assertEqual(host.images[len(accepted) * len(row):], [7] * (40 - len(accepted) * len(row)))
             self.demand_3(rng, host, clauses, accepted)
@@ -634,7 +805,8 @@ class Demands(unittest.TestCase):
                 moving = [i for i in p if p[i] != i]
                 seen.update(["held", "moving one" if len(moving) == 1 else "moving more" if moving else "identity"])
                 seen.update({"signed" for i in moving if p[i] < 0} | {"own negation" for i in moving if p[i] == -i})
-        for sort, least in ("held", 500), ("moving one", 30), ("moving more", 300), ("identity", 100), ("signed", 200), ("own negation", 100):
+        for sort, least in ("held", 500), ("moving one", 30), ("moving more", 300), ("identity", 100), ("signed", 200), ("own negation", 100), \
+                ("accepted over a pair", 100), ("refused after a pair", 50):
             self.assertGreater(seen[sort], least, sort)
 
     def test_every_row_fills_in_uniquely(self):

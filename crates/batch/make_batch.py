@@ -14,18 +14,23 @@ sys.path[:0] = [os.path.join(TESTS, "reference"), os.path.join(TESTS, "host")]
 import generate
 import reference
 
-# How many inputs of each kind: refused with a number, or accepted with as many rows that move something, of which some turn signs or none.
+# How many inputs of each kind: refused with a number, or accepted with as many rows that move something, of which some turn signs or none. Apart from these, inputs
+# with a clause that holds a pair and whose image is missing: refused with 11 at a clause after it, or accepted, with or without signs.
 WANTED = {**{("refused", number): 3 for number in (1, 3, 4, 6, 7, 8, 9, 10, 11, 15)},
-          ("accepted", 0, False): 6, **{("accepted", rows, signed): 3 for rows in (1, 2, 3, 4) for signed in (False, True)}}
+          ("accepted", 0, False): 6, **{("accepted", rows, signed): 3 for rows in (1, 2, 3, 4) for signed in (False, True)},
+          ("refused after a pair", 11): 3, **{("accepted over a pair", signed): 3 for signed in (False, True)}}
 
 
 def kind(data):
     """What the reference says of an input, in WANTED's terms."""
     printed = reference.program(data)
     if printed.startswith(b"refused"):
-        return "refused", int(printed.split()[1])
+        number = int(printed.split()[1])
+        after = number == 11 and "missing after a pair" in generate.judged_input(data)
+        return "refused after a pair" if after else "refused", number
     rows = generate.moving_rows(data)
-    return "accepted", len(rows), any("signed" in generate.sorts(row) for row in rows)
+    signed = any("signed" in generate.sorts(row) for row in rows)
+    return ("accepted over a pair", signed) if "symmetry over a pair" in generate.judged_input(data) else ("accepted", len(rows), signed)
 
 
 def batch(chance):

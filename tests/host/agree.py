@@ -1,6 +1,7 @@
 """Each export beside the reference: the same answer, and the same in every entry of all that was lent."""
 import unittest
 
+import generate
 import library
 import reference
 
@@ -15,6 +16,13 @@ def told(record):
 def held(host):
     """The rows of a well formed store, as lists of images."""
     return [list(row.values()) for row in reference.rows_of(host.record, host.images[:])]
+
+
+def judged(host, names, values, answer):
+    """Of which sorts (generate.JUDGED) an offer was that came to be judged: that was accepted, or refused with 11, or with 23, which is tried after it."""
+    if answer != ("done",) and answer[1] not in (11, 23):
+        return []
+    return generate.judged(reference.plain_clauses(*host.parts()[:3]), generate.stated(host.record.variables, names, values))
 
 
 class Agree(unittest.TestCase):

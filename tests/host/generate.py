@@ -46,7 +46,88 @@ def sorts(row):
     return [sort for sort, holds in zip(SORTS, [moved and not signed, signed, len(moved) == 1, negated and len(moved) > 1]) if holds]
 
 
+def holds_pair(clause):
+    """A literal and its negation are in the clause, so that it is always true."""
+    return any(-literal in clause for literal in clause)
+
+
+def stands_apart(clause):
+    """The clause holds a pair, but its first literal is in none, and no two neighbours are one."""
+    return holds_pair(clause) and -clause[0] not in clause and all(one != -other for one, other in zip(clause, clause[1:]))
+
+
+JUDGED = ["symmetry over a pair", "symmetry over a pair apart", "symmetry with a pair onto another", "missing after a pair", "missing at a repeat"]
+
+
+def missing(clauses, row):
+    """The clauses whose image by a permutation is none of them."""
+    sets = {frozenset(clause) for clause in clauses}
+    return [clause for clause in clauses if frozenset(image(clause, row)) not in sets]
+
+
+def judged(clauses, row):
+    """Of which sorts a permutation is for these clauses: it keeps those without a pair, but not one with a pair, or not one whose pairs are apart, or it takes one with
+    a pair to another; or the first clause without a pair whose image is missing comes after one with a pair whose image is missing, or it repeats a literal."""
+    lost = missing(clauses, row)
+    over = list(itertools.takewhile(holds_pair, lost))
+    onto = [clause for clause in filter(holds_pair, clauses) if frozenset(image(clause, row)) != frozenset(clause) and clause not in lost]
+    kept, wrong = len(over) == len(lost), lost[len(over):][:1]
+    found = [kept and over, kept and any(map(stands_apart, over)), kept and onto, wrong and over, any(len(set(clause)) < len(clause) for clause in wrong)]
+    return [sort for sort, holds in zip(JUDGED, found) if holds]
+
+
+def some_literals(chance, n, sizes):
+    """So many literals of 1..n as one of the sizes says."""
+    return [chance.choice([-1, 1]) * chance.randint(1, n) for _ in range(chance.choice(sizes))]
+
+
+def is_missing(clause, row, clauses):
+    """The clause's image by a permutation is none of these clauses, were it one of them."""
+    return clause in missing([*clauses, clause], row)
+
+
+def with_pair(chance, n, row, clauses):
+    """A clause that holds a pair, adjacent or apart, and whose image is missing, if one is found."""
+    tried = [[-first, first, *others] for first, *others in (some_literals(chance, n, [1, 2, 2, 3, 4, 7]) for _ in range(8))]
+    found = next((clause for clause in tried if is_missing(clause, row, clauses)), tried[0])
+    orders = [chance.sample(found, len(found)) for _ in range(chance.choice([1, 8]))]
+    return next(filter(stands_apart, orders), orders[0])
+
+
+def with_pairs(chance, n, clauses, rows):
+    """The same clauses, half the time with some put in that hold a pair and whose image by one of the rows is missing, or at times put in too."""
+    clauses = list(clauses)
+    for _ in range(chance.choice([0, 0, 0, 1, 2, 3]) if n else 0):
+        row = chance.choice(rows or [list(range(1, n + 1))])
+        new = with_pair(chance, n, row, clauses)
+        for clause in [new, image(new, row)][:chance.choice([1, 1, 1, 2])]:
+            clauses.insert(chance.choice([0, chance.randint(0, len(clauses)), len(clauses)]), clause)
+    return clauses
+
+
+def over_pairs(chance, n):
+    """A permutation of 1..n, n above 1, and clauses that it keeps, but for some with a pair, whose images are missing; half the time with a clause without a pair put
+    in after one of them, whose image is missing too. With it comes its number, or 0."""
+    row = cycle(chance, n, chance.randint(1, n))
+    clauses = closed([clause for clause in drawn(chance, n, 3)[0] if clause or chance.random() < 0.2], [row], 1000)
+    for _ in range(chance.choice([1, 1, 2, 3])):
+        clauses.insert(chance.randint(0, len(clauses)), with_pair(chance, n, row, clauses))
+    first = clauses.index((missing(clauses, row) or clauses)[0]) + 1
+    tried = [some_literals(chance, n, [1, 2, 2, 3, 4]) for _ in range(chance.choice([0, 8]))]
+    broken = next((clause for clause in tried if not holds_pair(clause) and is_missing(clause, row, clauses)), None)
+    if broken is None:
+        return row, clauses, 0
+    at = chance.randint(first, len(clauses))
+    return row, clauses[:at] + [broken] + clauses[at:], at + 1
+
+
 def formula(chance, n, most):
+    """Clauses over 1..n, as `drawn` has them, at times with some put in that hold a pair, and permutations of which some keep the others."""
+    clauses, rows = drawn(chance, n, most)
+    return with_pairs(chance, n, clauses, rows), rows
+
+
+def drawn(chance, n, most):
     """Clauses over 1..n, with repeats of literals and clauses and empty clauses, and permutations of which some keep them."""
     clauses = [[chance.choice([-1, 1]) * chance.randint(1, n) for _ in range(chance.randrange(4))] if n else [] for _ in range(chance.randrange(4))]
     rows = [permutation(chance, n) for _ in range(chance.randrange(4))]
@@ -172,8 +253,8 @@ def stated(n, names, values):
 def cycles(chance, n, most=60):
     """Cycles of 1..n and their products, and clauses that they keep if there is room."""
     rows = [cycle(chance, n, chance.randint(min(n, 1), n)) for _ in range(chance.choice([1, 1, 2, 3]))]
-    clauses = closed(formula(chance, n, 3)[0] + formula(chance, n, 3)[0], rows, most)
-    return clauses, rows + [image(first, second) for first in rows for second in rows]
+    clauses = closed(drawn(chance, n, 3)[0] + drawn(chance, n, 3)[0], rows, most)
+    return with_pairs(chance, n, clauses, rows), rows + [image(first, second) for first in rows for second in rows]
 
 
 def program_input(chance, n, most):
@@ -213,13 +294,26 @@ def moving_rows(data):
     return [row for row in rows if sorts(row)]
 
 
+def judged_input(data):
+    """Of which sorts the offers of an input are, for an input that is accepted or refused with 11: those up to the refused one."""
+    formula_text, lines = reference.split_input(data)
+    place, line = reference.problem_line(formula_text)
+    n, m = reference.problem_counts(place, line)
+    clauses, found = reference.read_clauses(formula_text, place, n, m), []
+    for row in (stated(n, lines[0], values) for values in lines[1:]):
+        found += judged(clauses, row)
+        if not all(map(holds_pair, missing(clauses, row))):
+            break
+    return found
+
+
 def powers(chance, n):
     """A cycle of 1..n and some of its powers, and clauses that they keep."""
     first = cycle(chance, n, chance.randint(min(n, 2), n))
     rows = [first]
     for _ in range(chance.randrange(4)):
         rows.append(image(rows[-1], first))
-    return closed(formula(chance, n, 3)[0][:2], [first], 4 * n + 4), rows
+    return with_pairs(chance, n, closed(drawn(chance, n, 3)[0][:2], [first], 4 * n + 4), rows), rows
 
 
 def columns(chance, n):
@@ -232,11 +326,12 @@ def columns(chance, n):
     maps = [{line[at]: line[turn[at]] for line in table for at in range(width)} for turn in turns]
     maps += [{i: -i for i in line} for line in table[:chance.randrange(2)]]
     rows = [[to.get(i, -to.get(-i, -i)) for i in range(1, n + 1)] for to in maps]
-    return closed(formula(chance, n, 3)[0], rows, 200), rows
+    return with_pairs(chance, n, closed(drawn(chance, n, 3)[0], rows, 200), rows), rows
 
 
 def edged(chance, n):
-    """Cycles of 1..n that add so many auxiliaries that the last number is beside a multiple of 64, at times one that adds none, and no clauses to break."""
+    """Cycles of 1..n that add so many auxiliaries that the last number is beside a multiple of 64, at times one that adds none, and no clauses that
+    they could break: none, or some that hold a pair."""
     last = chance.choice([edge for edge in (63, 64, 65, 127, 128, 129, 191, 192, 193) if edge >= n])
     rows = []
     while n > 1 and last > n:
@@ -245,7 +340,7 @@ def edged(chance, n):
         last -= size - 1
     for _ in range(chance.randrange(3)):
         rows.insert(chance.randint(0, len(rows)), cycle(chance, n, min(n, 1)))
-    return [], rows
+    return with_pairs(chance, n, [], rows), rows
 
 
 def family(chance, n, kinds=(cycles, powers, columns, edged, edged)):

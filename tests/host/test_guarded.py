@@ -14,10 +14,10 @@ import library
 import reference
 import test_host
 import test_models
-from agree import LIBRARY, Agree, held
+from agree import LIBRARY, Agree, held, judged
 from library import TOP
 
-STORES = library.rounds(1000)
+STORES = library.rounds(1200)
 END, START = library.Guarded(at_end=True), library.Guarded(at_end=False)
 
 
@@ -118,10 +118,13 @@ class Random(Agree):
         limit = chance.choice([0, 1, 2, chance.getrandbits(64), TOP])
         yield "descend", self.descend(host, test_models.at_times_misfit(chance, n, a), limit)[0]
 
-    def changes(self, chance, host, n, clauses, rows):
-        """An offer, a withdrawal, then an opening; the answers."""
+    def changes(self, chance, host, n, clauses, rows, seen):
+        """An offer, a withdrawal, then an opening; the answers. Of the offer it is seen of which sorts it is."""
         lines = generate.offers(chance, n, [chance.choice(rows + [generate.permutation(chance, n)])])
-        yield "offer", self.offer(host, *(generate.damaged(chance, line) if chance.random() < 0.15 else line for line in lines))
+        lines = [generate.damaged(chance, line) if chance.random() < 0.15 else line for line in lines]
+        answer = self.offer(host, *lines)
+        seen.update(judged(host, *lines, answer))
+        yield "offer", answer
         yield "withdraw", self.withdraw(host)
         text = generate.text(chance, n, clauses)
         record = host.record._replace(variables=chance.choice(generate.EDGES), open=chance.choice([0, 1, TOP]))
@@ -144,7 +147,7 @@ class Random(Agree):
         made = reference.made_text(*host.parts()).splitlines(True) if sound else [b"p cnf 1 1\n", b"1 2 3 0\n"]
         yield from self.lines(chance, host, made)
         yield from self.models(chance, host, n, int(made[0].split()[2]) if sound else n)
-        yield from self.changes(chance, host, n, clauses, rows)
+        yield from self.changes(chance, host, n, clauses, rows, seen)
         yield from self.compared(chance)
 
     def test_random(self):
@@ -156,6 +159,8 @@ class Random(Agree):
             self.assertGreater(seen[sort], 5, sort)
         for sort in generate.SORTS:
             self.assertGreater(seen[sort], 200, sort)
+        for sort in generate.JUDGED:
+            self.assertGreater(seen[sort], 5, sort)
 
 
 class Stores(test_host.Stores):
@@ -164,6 +169,10 @@ class Stores(test_host.Stores):
 
 class Withdrawals(test_host.Withdrawals):
     test_lists = test_damaged = None
+
+
+class AlwaysTrue(test_host.AlwaysTrue):
+    test_random = None
 
 
 class Keys(test_host.Keys):
@@ -178,7 +187,7 @@ def load_tests(loader, *_):
     """The guards, then all cases at the end of a page and again at the start of one."""
     suite = loader.loadTestsFromTestCase(Guards)
     for name, memory in [("AtEnd", END), ("AtStart", START)]:
-        for case in [Random, Stores, Withdrawals, test_host.Signs, Keys, Compare, test_models.Worked, test_models.Refusals]:
+        for case in [Random, Stores, Withdrawals, test_host.Signs, AlwaysTrue, Keys, Compare, test_models.Worked, test_models.Refusals]:
             placed = type(case.__name__ + name, (case,), {"setUp": lambda self, memory=memory: setattr(library, "memory", memory)})
             suite.addTests(loader.loadTestsFromTestCase(placed))
     return suite

@@ -1,6 +1,7 @@
 """The exports against the reference: fixed seeds, ordinary and damaged input. Run by tests/run."""
 import itertools
 import random
+import timeit
 import unittest
 from collections import Counter
 
@@ -8,13 +9,13 @@ import generate
 import library
 import reference
 import tables
-from agree import LIBRARY, Agree, held
+from agree import LIBRARY, Agree, held, judged
 from library import TOP
 
 LISTING = b"p cnf 3 2\n1 2 0\n2 3 0\n"
 
 
-def fresh(literals=64, ends=64, keys=64, images=256, entry=7):
+def fresh(literals=128, ends=64, keys=64, images=256, entry=7):
     """A store that was never opened, with something in every entry."""
     return library.Host(LIBRARY, reference.new_record(), *([entry] * length for length in (literals, ends, keys, images)))
 
@@ -83,7 +84,7 @@ class Stores(Agree):
             n = chance.choice([0, 1, 2, 3, 4, 5, 6, 9])
             clauses, rows = generate.formula(chance, n, 12)
             text = generate.text(chance, n, clauses)
-            sizes = [64, 64, 64, chance.randrange(40)], [64, 64, chance.randrange(14)], [64, 64, chance.randrange(14)], [256, 256, chance.randrange(40)]
+            sizes = [128, 128, 128, chance.randrange(50)], [64, 64, chance.randrange(18)], [64, 64, chance.randrange(18)], [256, 256, chance.randrange(40)]
             host = fresh(*map(chance.choice, sizes))
             if chance.random() < 0.3:
                 text = generate.damaged(chance, text)
@@ -101,12 +102,13 @@ class Stores(Agree):
                 answer = self.offer(host, names, values)
                 self.count(answers, answer)
                 accepted.update(generate.sorts(held(host)[-1]) if answer == ("done",) else [])
+                accepted.update(judged(host, names, values, answer))
             self.written(host, chance, lines)
         for refusal in [None, 1, 2, 3, 4, 6, 7, 8, 9, 10, 11, 20, 21, 23]:
             self.assertGreater(answers.get(refusal, 0), 5, refusal)
         for refusal in [None, 13, 20, 21, 23]:
             self.assertGreater(lines.get(refusal, 0), 5, refusal)
-        for sort in generate.SORTS:
+        for sort in generate.SORTS + generate.JUDGED:
             self.assertGreater(accepted[sort], 50, sort)
 
     def count(self, answers, answer):
@@ -172,6 +174,7 @@ class Withdrawals(Agree):
                 lines = generate.offers(chance, n, [chance.choice(rows)])
                 lines = [generate.damaged(chance, line) if chance.random() < 0.1 else line for line in lines]
                 answer = self.offer(host, *lines)
+                seen.update(judged(host, *lines, answer))
                 if answer == ("done",):
                     left.append(lines)
                 elif answer[1] == 23 and chance.random() < 0.5:
@@ -202,7 +205,7 @@ class Withdrawals(Agree):
             self.assertEqual(reference.made_text(*other.parts()), reference.made_text(*host.parts()))
             seen["left", min(len(left), 2)] += 1
             seen.update(sort for row in held(host) for sort in generate.sorts(row))
-        for sort in ["done", 11, 23, 30, "lent", ("left", 0), ("left", 1), ("left", 2), *generate.SORTS]:
+        for sort in ["done", 11, 23, 30, "lent", ("left", 0), ("left", 1), ("left", 2), *generate.SORTS, *generate.JUDGED]:
             self.assertGreater(seen[sort], 20, sort)
 
     def test_damaged(self):
@@ -298,6 +301,120 @@ class Signs(Agree):
         self.assertEqual((self.clause(host, 63, bytes(9)), self.clause(host, 64, bytes(9))), (("done", 8), ("refused", 13, 0)))
 
 
+EXCHANGED, NEGATED = (b"1 2", b"2 1"), (b"2", b"-2")
+
+# Clauses over three variables, two lines, and the place of 11, or 0; but for those marked, it was another before CR 7.
+ALWAYS_TRUE = [
+    ("alone", b"1 -1 3 0", EXCHANGED, 0),
+    ("first", b"2 -2 3 0 1 0 2 0", EXCHANGED, 0),
+    ("in the middle", b"1 0 2 -2 3 0 2 0", EXCHANGED, 0),
+    ("last", b"1 0 2 0 2 -2 3 0", EXCHANGED, 0),
+    ("everywhere", b"1 -1 0 1 0 3 -3 2 0 2 0 1 -1 3 0", EXCHANGED, 0),
+    ("the pair alone, the negative literal first", b"-1 1 0", EXCHANGED, 0),
+    ("the pair at both ends", b"1 2 3 -1 0", EXCHANGED, 0),
+    ("the pair apart and not first", b"3 1 -2 -1 0", EXCHANGED, 0),
+    ("a pair and a repeat", b"1 -1 1 0", EXCHANGED, 0),
+    ("repeats and a pair", b"1 1 1 3 -1 -1 0", EXCHANGED, 0),
+    ("two pairs", b"1 3 -1 -3 0", EXCHANGED, 0),
+    ("a pair that stays beside a literal that moves", b"3 1 -3 0", EXCHANGED, 0),
+    ("a pair that is negated stays (as before)", b"2 -2 1 0", NEGATED, 0),
+    ("a pair beside a literal that is negated", b"1 -1 2 0", NEGATED, 0),
+    ("a symmetry that turns a sign", b"1 2 0 3 2 -3 0 -2 1 0", NEGATED, 0),
+    ("onto another (as before)", b"1 -1 3 0 3 2 -2 0", EXCHANGED, 0),
+    ("onto another, and another onto none", b"1 -1 0 2 -2 0 2 -2 3 0", EXCHANGED, 0),
+    ("beside the empty clause", b"0 1 -1 0", EXCHANGED, 0),
+    ("after two", b"1 -1 0 3 -3 2 0 1 3 0 2 0", EXCHANGED, 3),
+    ("between two", b"1 -1 0 1 3 0 3 -3 2 0", EXCHANGED, 2),
+    ("before one (as before)", b"1 3 0 1 -1 0", EXCHANGED, 1),
+    ("after one and equal sets", b"1 0 2 2 0 1 -1 0 -1 0 -1 0", EXCHANGED, 4),
+    ("after one and the empty clause", b"1 -1 0 0 1 0", EXCHANGED, 3),
+    ("after one, for its sign", b"3 2 -3 0 -2 1 0", NEGATED, 2),
+    ("a repeat is no pair", b"1 -1 0 3 1 3 0", EXCHANGED, 2),
+    ("a pair in two clauses is none (as before)", b"1 0 -1 0", EXCHANGED, 1),
+    ("an image with a pair more", b"2 1 -1 0 2 3 -3 0 1 0", EXCHANGED, 3),
+    ("an image with a negation more", b"1 2 -2 0 1 2 0 1 0", EXCHANGED, 3),
+]
+
+
+class AlwaysTrue(Agree):
+    """CR 7: offers are judged without the clauses that hold a pair."""
+
+    def test_cases(self):
+        for name, body, lines, place in ALWAYS_TRUE:
+            with self.subTest(name):
+                host = fresh(images=4)
+                self.assertEqual(self.open(host, b"p cnf 3 %d\n%b" % (body.split().count(b"0"), body))[0], "done")
+                self.assertEqual(self.offer(host, *lines), ("refused", 11, place) if place else ("done",))
+
+    def test_lines(self):
+        """Such clauses are written out as they were read and counted; the checking call counts them too."""
+        host = fresh()
+        self.open(host, b"p cnf 3 5\n3 -3 3 0 1 2 0 -1 -1 1 2 0 2 3 0 -2 1 2 0")
+        self.assertEqual(self.offer(host, b"1 3", b"3 1"), ("done",))
+        lines = [b"p cnf 4 11", b"3 -3 3 0", b"1 2 0", b"-1 -1 1 2 0", b"2 3 0", b"-2 1 2 0", b"-1 3 0", b"-4 -1 3 0", b"-4 1 -3 0", b"4 1 3 0"]
+        for q, line in enumerate(lines):
+            self.assertEqual(self.clause(host, q, bytes(20)) if q else self.header(host, bytes(20)), ("done", len(line) + 1))
+            self.assertEqual((host.clause(q, bytes(20)) if q else host.header(bytes(20)))[1].rstrip(b"\0"), line + b"\n")
+        for digits, clause in [("0000", 2), ("1000", 4), ("0100", 9), ("0101", 0), ("0110", 0), ("1100", 6), ("1111", 0), ("0111", 8)]:
+            self.assertEqual(self.check(host, [int(digits, 2) << 60]), ("done", clause), digits)
+
+    def test_wrong_keys(self):
+        """A wrong key of such a clause is 21 in an offer, though the clause is not judged, and in a withdrawal."""
+        for at, wrong in itertools.product([0, 2], [0, 1, 2 ** 63]):
+            host = fresh()
+            self.open(host, b"p cnf 3 3\n1 -1 2 0 1 2 0 -2 2 -2 0")
+            self.assertEqual(self.offer(host, *EXCHANGED), ("done",))
+            host.keys[at] = host.keys[at] ^ wrong if wrong else 0
+            self.assertEqual((self.offer(host, *EXCHANGED), self.withdraw(host)), (("refused", 21, 0),) * 2)
+
+    def test_only_such(self):
+        """Where all clauses hold a pair, every permutation of three variables is accepted, with every choice of signs."""
+        host = fresh(images=3 * 48)
+        self.open(host, b"p cnf 3 4\n1 -1 0 1 -1 2 0 -2 3 2 1 0 3 2 1 -3 0")
+        for sizes, turn in itertools.product(itertools.permutations([1, 2, 3]), itertools.product([1, -1], repeat=3)):
+            self.assertEqual(self.offer(host, b"1 2 3", b" ".join(b"%d" % (size * sign) for size, sign in zip(sizes, turn))), ("done",))
+        self.assertEqual((host.record.rows, len(set(map(tuple, held(host))))), (48, 48))
+
+    def test_limits(self):
+        """12,288 literals, in clauses as long as they can be or as many. An offer's time is linear: it is not fifty times the header's, for which the store is
+        tested too."""
+        everything = [sign * i for i in range(1, 513) for sign in (1, -1)] * 12
+        far = [1, *(2 + i % 511 for i in range(12286)), -1]
+        positive = [1 + i % 511 for i in range(12288)]
+        pairs = [[1 + i % 256, -(1 + i % 256), 1 + (5 * i + i // 256) % 512] for i in range(4096)]
+        halves = [*range(257, 513), *range(1, 257)]
+        self.assertTrue({frozenset(generate.image(clause, halves)) for clause in pairs}.isdisjoint(map(frozenset, pairs)))
+        for name, clauses, row, place in [("every literal", [everything], generate.swaps(512), 0), ("a pair at both ends", [far], [-512, *range(2, 512), 1], 0),
+                                          ("no pair", [positive], halves, 1), ("no pair, a literal to its negation", [positive], [-1, *range(2, 513)], 1),
+                                          ("a half with pairs, a half without", [everything[:6144], positive[:6144]], halves, 2),
+                                          ("many", pairs, halves, 0), ("many, then one without", pairs[:-1] + [[1, 2, 3]], halves, 4096)]:
+            with self.subTest(name):
+                host = fresh(literals=12288, ends=4096, keys=4096, images=512 * 6)
+                self.assertEqual(host.open(b"p cnf 512 %d\n" % len(clauses) + b"".join(map(reference.clause_line, clauses))), ("done", 512, len(clauses)))
+                lines = [b" ".join(b"%d" % i for i in line) for line in (range(1, 513), row)]
+                self.assertEqual(self.offer(host, *lines), ("refused", 11, place) if place else ("done",))
+                times = [min(timeit.repeat(act, number=1, repeat=5)) for act in (lambda: host.offer(*lines), lambda: host.header(bytes(20)))]
+                self.assertLess(times[0], 50 * times[1])
+
+    def test_random(self):
+        """Clauses that a permutation keeps, but for some with a pair, at times with one without a pair after these."""
+        chance = random.Random(14)
+        seen = Counter()
+        for _ in range(1000):
+            n = chance.choice([2, 3, 4, 5, 6, 9])
+            row, clauses, place = generate.over_pairs(chance, n)
+            host = fresh(literals=2000, ends=500, keys=500)
+            self.assertEqual(self.open(host, b"p cnf %d %d\n" % (n, len(clauses)) + b"".join(map(reference.clause_line, clauses))), ("done", n, len(clauses)))
+            lines = generate.offers(chance, n, [row])
+            answer = self.offer(host, *lines)
+            self.assertEqual(answer, ("refused", 11, place) if place else ("done",), (clauses, row))
+            seen.update(judged(host, *lines, answer))
+            seen.update(generate.sorts(row) if answer == ("done",) else [])
+        for sort, least in [(generate.JUDGED[0], 400), (generate.JUDGED[1], 100), (generate.JUDGED[2], 20), (generate.JUDGED[3], 300), (generate.JUDGED[4], 50),
+                            *((sort, 50) for sort in generate.SORTS)]:
+            self.assertGreater(seen[sort], least, sort)
+
+
 NUMBERS = {1: 8399848799940609, -1: 24472253299388417, 2: 27429481777696769, -2: 47979604178350081, 3: 56431291722078209,
            512: 18413816788118036481, -512: 18434917261454266369}  # some of docs/KEYS.md
 FIRST, SECOND = NUMBERS[1] + NUMBERS[2], NUMBERS[2] + NUMBERS[3]
@@ -381,7 +498,9 @@ class Keys(Agree):
                 seen["a key too few" if len(keys) < record.clauses else "a wrong key"] += 1
                 repeated = map(generate.summed, generate.clauses_of(literals, ends))
                 seen["repeats counted"] += any(key == wrong != true for key, wrong, true in zip(keys, repeated, right))
-        for sort, least in [("sound", 300), ("a wrong key", 100), ("a key too few", 10), ("repeats counted", 10)]:
+                without = [q for q, clause in enumerate(generate.clauses_of(literals, ends[:record.clauses])) if not any(code ^ 1 in clause for code in clause)]
+                seen["of clauses with a pair alone"] += all(keys[q:q + 1] == [right[q]] for q in without)
+        for sort, least in [("sound", 300), ("a wrong key", 100), ("a key too few", 10), ("repeats counted", 10), ("of clauses with a pair alone", 30)]:
             self.assertGreater(seen[sort], least, sort)
 
 

@@ -9,7 +9,7 @@ from collections import Counter
 import generate
 import library
 import reference
-from agree import LIBRARY, Agree, held
+from agree import LIBRARY, Agree, held, judged
 from library import TOP
 
 
@@ -216,14 +216,17 @@ def last_number(host):
     return int(host.header(bytes(32))[1].split()[2])
 
 
-def offer_all(chance, host, n, rows, last=TOP):
-    """A list of offers, damaged ones among them, until the made formula passes `last` variables; what was accepted, how many were refused."""
+def offer_all(chance, host, n, rows, seen, last=TOP):
+    """A list of offers, damaged ones among them, until the made formula passes `last` variables; what was accepted, how many were refused. Of each it is seen of
+    which sorts it is."""
     accepted, refused = [], 0
     for row in rows:
         names, values = generate.offers(chance, n, [row])
         if chance.random() < 0.15:
             values = generate.damaged(chance, values)
-        if refusal(host.offer(names, values)):
+        answer = host.offer(names, values)
+        seen.update(judged(host, names, values, answer))
+        if refusal(answer):
             refused += 1
             continue
         accepted.append(generate.stated(n, names, values))
@@ -284,7 +287,7 @@ class Random(Agree):
     def offered(self, chance, n, clauses, rows, seen):
         """A store after a list of offers, and the N of its made formula."""
         host = opened(generate.text(chance, n, clauses))
-        seen["refused offers"] += offer_all(chance, host, n, rows)[1]
+        seen["refused offers"] += offer_all(chance, host, n, rows, seen)[1]
         last = reference.made_counts(host.record, list(host.images))[0]
         seen["variables", n] += host.record.rows > 0
         seen["last word", last % 64] += last > n
@@ -297,7 +300,7 @@ class Random(Agree):
         seen = Counter()
         for n in SIZES * 10:
             clauses, rows = generate.family(chance, n)
-            host, last = self.offered(chance, n, clauses, rows + [generate.permutation(chance, n)] * (clauses != []), seen)
+            host, last = self.offered(chance, n, clauses, rows + [generate.permutation(chance, n)] * (not all(map(generate.holds_pair, clauses))), seen)
             for _ in range(2):
                 if chance.random() < 0.15:
                     host.put(*generate.damaged_store(chance, *host.parts()))
@@ -307,8 +310,8 @@ class Random(Agree):
                 self.checks(chance, host, n, last, filled, seen)
         for sort in WANTED:
             self.assertGreater(seen[sort], 5, sort)
-        for sort in generate.SORTS:
-            self.assertGreater(seen[sort], 50, sort)
+        for sort, least in [*((sort, 50) for sort in generate.SORTS), *((sort, 10) for sort in generate.JUDGED)]:
+            self.assertGreater(seen[sort], least, sort)
 
 
 def made_formula(host):
@@ -342,6 +345,21 @@ def path(rows, digits):
 def numbered(number, n):
     """The n digits of a number."""
     return format(number, "b").rjust(n, "0")[-n:] if n else ""
+
+
+def every_row(n):
+    """All permutations of 1..n, with every choice of signs."""
+    turns = list(itertools.product([1, -1], repeat=n))
+    return [list(map(operator.mul, sizes, turn)) for sizes in itertools.permutations(range(1, n + 1)) for turn in turns]
+
+
+def is_symmetry(clauses, row):
+    """The reference finds that a permutation is a symmetry."""
+    try:
+        reference.require_symmetry(clauses, dict(enumerate(row, 1)))
+        return True
+    except reference.Refusal:
+        return False
 
 
 class Demand3(unittest.TestCase):
@@ -401,20 +419,20 @@ class Demand3(unittest.TestCase):
     def test_lists(self):
         chance = random.Random(11)
         seen = Counter()
-        for _ in range(400):
+        for _ in range(450):
             n = chance.choice([0, 1, 2, 3, 3, 4, 4, 5, 5, 6, 7])
             clauses, rows = generate.family(chance, n, (generate.cycles, generate.powers, generate.columns))
             host = opened(b"p cnf %d %d\n" % (n, len(clauses)) + b"".join(map(reference.clause_line, clauses)), 400, 120, 80)
             offers = chance.choices(rows, k=chance.randint(1, 4)) + [generate.permutation(chance, n)]
             chance.shuffle(offers)
-            accepted, refused = offer_all(chance, host, n, offers, 10)
+            accepted, refused = offer_all(chance, host, n, offers, seen, 10)
             taken_back = chance.choice([0, 0, 1, 2, 3])
             for _ in range(taken_back):
                 self.assertEqual(host.withdraw(), ("done",) if accepted else ("refused", 30, 0))
                 seen["taken back", accepted != []] += 1
                 accepted = accepted[:-1]
             if taken_back and last_number(host) <= 10:
-                accepted += offer_all(chance, host, n, [chance.choice(rows)])[0]
+                accepted += offer_all(chance, host, n, [chance.choice(rows)], seen)[0]
             before = host.parts()
             self.whole(host, n, clauses, accepted, seen)
             self.assertEqual(host.parts(), before)
@@ -423,15 +441,39 @@ class Demand3(unittest.TestCase):
         for sort, least in [(("satisfiable", True), 200), (("satisfiable", False), 20), ("kept", 2000), ("dropped", 1000), ("spent", 2000),
                             ("false added", 2000), (("moves", 0), 1000), (("moves", 1), 1000), (("moves", 2), 300), (("moves", 3), 100),
                             (("rows", 1, True), 20), (("rows", 2, True), 80), (("taken back", True), 100), (("taken back", False), 20),
-                            *((sort, 50) for sort in generate.SORTS)]:
+                            *((sort, 50) for sort in generate.SORTS), *((sort, 20) for sort in generate.JUDGED)]:
+            self.assertGreater(seen[sort], least, sort)
+
+    def test_always_true(self):
+        """Formulas of which some clauses hold a pair, and lists of offers from all permutations of their variables: accepted are those that the reference finds to be
+        symmetries, and demand 3 holds, also after a withdrawal."""
+        chance, seen = random.Random(13), Counter()
+        for _ in range(120):
+            n = chance.choice([2, 3, 3, 4, 4])
+            _, clauses, _ = generate.over_pairs(chance, n)
+            rows = every_row(n)
+            kept = [row for row in rows if is_symmetry(clauses, row)]
+            offers = chance.choices(kept, k=chance.randint(1, 3)) + chance.choices(rows, k=2)
+            chance.shuffle(offers)
+            host = opened(b"p cnf %d %d\n" % (n, len(clauses)) + b"".join(map(reference.clause_line, clauses)))
+            accepted = []
+            for row in offers:
+                lines = [b" ".join(b"%d" % i for i in line) for line in (range(1, n + 1), row)]
+                answer = host.offer(*lines)
+                self.assertEqual(answer == ("done",), row in kept)
+                seen.update(judged(host, *lines, answer))
+                accepted += [row] if row in kept else []
+            self.whole(host, n, clauses, accepted, seen)
+            self.assertEqual(host.withdraw(), ("done",))
+            self.whole(host, n, clauses, accepted[:-1], seen)
+        for sort, least in [(("satisfiable", True), 100), ("kept", 500), ("dropped", 500), *((sort, 20) for sort in generate.JUDGED)]:
             self.assertGreater(seen[sort], least, sort)
 
     def test_every_row(self):
         """Every permutation of up to three variables, with every choice of signs, alone and before another. Where there are no clauses all are symmetries."""
         chance, seen = random.Random(12), Counter()
         for n in [1, 2, 3]:
-            turns = list(itertools.product([1, -1], repeat=n))
-            rows = [list(map(operator.mul, sizes, turn)) for sizes in itertools.permutations(range(1, n + 1)) for turn in turns]
+            rows = every_row(n)
             for pair in ([row, chance.choice(rows)] for row in rows):
                 host = opened(b"p cnf %d 0" % n)
                 for count, row in enumerate(pair, 1):

@@ -131,6 +131,9 @@ MISSING = [
     ("another after equal sets", b"p cnf 2 4\n1 0\n2 2 0\n-1 0\n-1 0\n", "refused 11 3"),
     ("less than a clause", b"p cnf 2 2\n1 2 0\n1 0\n", "refused 11 2"),
     ("more than a clause", b"p cnf 2 2\n0\n1 0\n", "refused 11 2"),
+    ("after a clause with a pair", b"p cnf 2 2\n1 -1 0\n1 0\n", "refused 11 2"),
+    ("between clauses with a pair", b"p cnf 2 4\n2 -2 1 0\n-2 1 2 0\n-1 0\n1 -1 0\n", "refused 11 3"),
+    ("a repeat after a pair and a repeat", b"p cnf 2 2\n1 -1 1 0\n1 1 0\n", "refused 11 2"),
 ]
 
 
@@ -238,6 +241,30 @@ class Program(unittest.TestCase):
                     b"-5 4 0\n-5 -2 -2 0\n-5 2 2 0\n5 -4 2 -2 0\n5 -4 -2 2 0\n-5 -3 1 0\n")
         self.prints(b"p cnf 2 1\n-1 2 0\n%\n1 2\n-2 -1\n", b"p cnf 3 7\n-1 2 0\n-1 -2 0\n-3 -1 -2 0\n-3 1 2 0\n3 1 -2 0\n3 -1 2 0\n-3 -2 -1 0\n")
 
+    def test_always_true(self):
+        """A clause with a pair is written out where it stands, and offers are judged without it: the listing with one more clause, and others."""
+        self.prints(b"p cnf 3 3\n1 2 0\n1 -1 2 0\n2 3 0\n%\n1 3\n3 1\n",
+                    b"p cnf 4 9\n1 2 0\n1 -1 2 0\n2 3 0\n-1 3 0\n-4 -1 3 0\n-4 1 -3 0\n4 1 3 0\n4 -1 -3 0\n-4 -3 1 0\n")
+        plain, added = b"1 2 0\n2 3 0\n", b"-1 3 0\n-4 -1 3 0\n-4 1 -3 0\n4 1 3 0\n4 -1 -3 0\n-4 -3 1 0\n"
+        for clauses in [b"1 -1 2 0\n" + plain, plain + b"2 1 -1 0\n", b"3 2 -3 3 0\n" + plain + b"-1 1 0\n", b"1 -1 0\n0\n3 1 -1 0\n", b"1 2 3 -1 0\n"]:
+            count = clauses.count(b"\n")
+            self.prints(b"p cnf 3 %d\n%b%%\n1 3\n3 1\n" % (count, clauses), b"p cnf 4 %d\n%b%b" % (count + 6, clauses, added))
+        self.prints(b"p cnf 8 3\n5 -5 8 0\n5 6 0\n7 -8 -7 0\n%\n5 6 8\n6 5 8\n5 6 -8\n",
+                    b"p cnf 9 10\n5 -5 8 0\n5 6 0\n7 -8 -7 0\n-5 6 0\n-9 -5 6 0\n-9 5 -6 0\n9 5 6 0\n9 -5 -6 0\n-9 -6 5 0\n-8 -8 0\n")
+
+    def test_over_pairs(self):
+        """Clauses that a permutation keeps, but for some with a pair: all are written out, or the first of the others whose image is missing is told."""
+        chance, seen = random.Random(9), Counter()
+        for _ in range(100):
+            n = chance.choice([2, 3, 4, 5, 6, 9])
+            row, clauses, place = generate.over_pairs(chance, n)
+            text = b"".join(map(reference.clause_line, clauses))
+            printed = self.agree(b"p cnf %d %d\n%b%%\n%b\n%b\n" % (n, len(clauses), text, *generate.offers(chance, n, [row])))
+            self.assertTrue(printed == b"refused 11 %d\n" % place if place else printed.split(b"\n", 1)[1].startswith(text), printed)
+            seen.update(generate.judged(clauses, row))
+        for sort in ["symmetry over a pair", "missing after a pair"]:
+            self.assertGreater(seen[sort], 30, sort)
+
     def test_refusals(self):
         found = self.table(OPENINGS, b"%b%%\n1 3\n3 1\n") | self.table(OFFERS, PLAIN + b"%%\n%b\n") | self.table(MISSING, b"%b%%\n1 2\n2 1\n")
         self.assertEqual(found, set(range(1, 12)))
@@ -263,6 +290,8 @@ class Program(unittest.TestCase):
                 data = generate.damaged_input(chance, data)
             with self.subTest(input=number):
                 printed = self.agree(data)
+                if not printed.startswith(b"refused") or printed.startswith(b"refused 11 "):
+                    sorts.update(generate.judged_input(data))
                 if printed.startswith(b"refused"):
                     refused[int(printed.split()[1])] += 1
                 else:
@@ -273,8 +302,8 @@ class Program(unittest.TestCase):
             self.assertGreater(refused[number], 5, number)
         self.assertGreater(sum(times for rows, times in accepted.items() if rows >= 1), 200)
         self.assertGreater(sum(times for rows, times in accepted.items() if rows >= 2), 100)
-        for sort in generate.SORTS:
-            self.assertGreater(sorts[sort], 50, sort)
+        for sort, least in [*((sort, 50) for sort in generate.SORTS), *((sort, 20) for sort in generate.JUDGED)]:
+            self.assertGreater(sorts[sort], least, sort)
 
     def test_many_rows(self):
         """64 rows that move all of 256 variables, many with signs: 97,920 clauses."""
@@ -301,6 +330,7 @@ class Program(unittest.TestCase):
         text = b"p cnf 512 4096\n" + b"".join(b"%d %d 0\n" % tuple(clause) for clause in clauses)
         self.assertTrue(self.agree(b"\n".join([text + b"%", names, values, values])).startswith(b"p cnf 1534 10228\n"))
         self.prints(b"p cnf 2 4096\n" + b"1 2 0\n" * 4095 + b"1 0\n%\n1 2\n2 1\n", b"refused 11 4096\n")
+        self.prints(b"p cnf 2 4096\n" + b"1 -1 0\n" * 4095 + b"1 0\n%\n1 2\n2 1\n", b"refused 11 4096\n")
         self.prints(FULL + b"0\n%\n", FULL + b"0\n")
 
 

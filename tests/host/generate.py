@@ -66,8 +66,9 @@ def missing(clauses, row):
 
 
 def judged(clauses, row):
-    """Of which sorts a permutation is for these clauses: it keeps those without a pair, but not one with a pair, or not one whose pairs are apart, or it takes one with
-    a pair to another; or the first clause without a pair whose image is missing comes after one with a pair whose image is missing, or it repeats a literal."""
+    """Of which sorts a permutation is for these clauses: it keeps those without a pair, but not one with a pair, or not one whose pairs are apart, or it takes
+    one with a pair to another; or the first clause without a pair whose image is missing comes after one with a pair whose image is missing, or it repeats a
+    literal."""
     lost = missing(clauses, row)
     over = list(itertools.takewhile(holds_pair, lost))
     onto = [clause for clause in filter(holds_pair, clauses) if frozenset(image(clause, row)) != frozenset(clause) and clause not in lost]
@@ -106,8 +107,8 @@ def with_pairs(chance, n, clauses, rows):
 
 
 def over_pairs(chance, n):
-    """A permutation of 1..n, n above 1, and clauses that it keeps, but for some with a pair, whose images are missing; half the time with a clause without a pair put
-    in after one of them, whose image is missing too. With it comes its number, or 0."""
+    """A permutation of 1..n, n above 1, and clauses that it keeps, but for some with a pair, whose images are missing; half the time with a clause without a
+    pair put in after one of them, whose image is missing too. Then the number of that clause, or 0."""
     row = cycle(chance, n, chance.randint(1, n))
     clauses = closed([clause for clause in drawn(chance, n, 3)[0] if clause or chance.random() < 0.2], [row], 1000)
     for _ in range(chance.choice([1, 1, 2, 3])):

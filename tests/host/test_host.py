@@ -376,8 +376,8 @@ class AlwaysTrue(Agree):
         self.assertEqual((host.record.rows, len(set(map(tuple, held(host))))), (48, 48))
 
     def test_limits(self):
-        """12,288 literals, in clauses as long as they can be or as many. An offer's time is linear: it is not fifty times the header's, for which the store is
-        tested too."""
+        """12,288 literals, in clauses as long as they can be or as many. An offer's time is linear: it is not ten times that of the same lines offered where
+        there are no clauses."""
         everything = [sign * i for i in range(1, 513) for sign in (1, -1)] * 12
         far = [1, *(2 + i % 511 for i in range(12286)), -1]
         positive = [1 + i % 511 for i in range(12288)]
@@ -389,12 +389,13 @@ class AlwaysTrue(Agree):
                                           ("a half with pairs, a half without", [everything[:6144], positive[:6144]], halves, 2),
                                           ("many", pairs, halves, 0), ("many, then one without", pairs[:-1] + [[1, 2, 3]], halves, 4096)]:
             with self.subTest(name):
-                host = fresh(literals=12288, ends=4096, keys=4096, images=512 * 6)
+                host, empty = (fresh(literals=12288, ends=4096, keys=4096, images=512 * 6) for _ in range(2))
                 self.assertEqual(host.open(b"p cnf 512 %d\n" % len(clauses) + b"".join(map(reference.clause_line, clauses))), ("done", 512, len(clauses)))
+                empty.open(b"p cnf 512 0")
                 lines = [b" ".join(b"%d" % i for i in line) for line in (range(1, 513), row)]
                 self.assertEqual(self.offer(host, *lines), ("refused", 11, place) if place else ("done",))
-                times = [min(timeit.repeat(act, number=1, repeat=5)) for act in (lambda: host.offer(*lines), lambda: host.header(bytes(20)))]
-                self.assertLess(times[0], 50 * times[1])
+                long, short = (min(timeit.repeat(lambda: each.offer(*lines), number=1, repeat=5)) for each in (host, empty))
+                self.assertLess(long, 10 * short)
 
     def test_random(self):
         """Clauses that a permutation keeps, but for some with a pair, at times with one without a pair after these."""

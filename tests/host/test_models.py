@@ -217,8 +217,8 @@ def last_number(host):
 
 
 def offer_all(chance, host, n, rows, seen, last=TOP):
-    """A list of offers, damaged ones among them, until the made formula passes `last` variables; what was accepted, how many were refused. Of each it is seen of
-    which sorts it is."""
+    """A list of offers, damaged ones among them, until the made formula passes `last` variables; what was accepted, how many were refused. Of each offer it is
+    seen of which sorts it is."""
     accepted, refused = [], 0
     for row in rows:
         names, values = generate.offers(chance, n, [row])
@@ -445,8 +445,8 @@ class Demand3(unittest.TestCase):
             self.assertGreater(seen[sort], least, sort)
 
     def test_always_true(self):
-        """Formulas of which some clauses hold a pair, and lists of offers from all permutations of their variables: accepted are those that the reference finds to be
-        symmetries, and demand 3 holds, also after a withdrawal."""
+        """Formulas of which some clauses hold a pair, and lists of offers from all permutations of their variables: accepted are those that the reference finds
+        to be symmetries, and demand 3 holds, also after a withdrawal."""
         chance, seen = random.Random(13), Counter()
         for _ in range(120):
             n = chance.choice([2, 3, 3, 4, 4])

@@ -523,7 +523,8 @@ class AlwaysTrue(unittest.TestCase):
         self.assertEqual((bin(judged).count("1"), former, now), (9, 76928, 104448))
 
     def test_every_small_formula_of_two_variables(self):
-        """The rule as the reference has it, on all formulas of up to three clauses in any order, repeats included, by all 8 rows: the place by the test's own rule."""
+        """The rule as the reference has it, on all formulas of up to three clauses in any order, repeats included, by all 8 rows: the place is by the test's
+        own rule."""
         seen = Counter()
         for clauses in itertools.chain.from_iterable(itertools.product(SIXTEEN, repeat=size) for size in range(4)):
             for p in signed_rows(2):

@@ -22,7 +22,7 @@ def judged(host, names, values, answer):
     """Of which sorts (generate.JUDGED) an offer was that came to be judged: that was accepted, or refused with 11, or with 23, which is tried after it."""
     if answer != ("done",) and answer[1] not in (11, 23):
         return []
-    return generate.judged(reference.plain_clauses(*host.parts()[:3]), generate.stated(host.record.variables, names, values))
+    return generate.judged(reference.plain_clauses(host.record, host.literals, host.ends), generate.stated(host.record.variables, names, values))
 
 
 class Agree(unittest.TestCase):

@@ -71,9 +71,9 @@ def judged(clauses, row):
     literal."""
     lost = missing(clauses, row)
     over = list(itertools.takewhile(holds_pair, lost))
-    onto = [clause for clause in filter(holds_pair, clauses) if frozenset(image(clause, row)) != frozenset(clause) and clause not in lost]
     kept, wrong = len(over) == len(lost), lost[len(over):][:1]
-    found = [kept and over, kept and any(map(stands_apart, over)), kept and onto, wrong and over, any(len(set(clause)) < len(clause) for clause in wrong)]
+    onto = kept and any(clause not in lost and set(image(clause, row)) != set(clause) for clause in filter(holds_pair, clauses))
+    found = [kept and over, kept and any(map(stands_apart, over)), onto, wrong and over, any(len(set(clause)) < len(clause) for clause in wrong)]
     return [sort for sort, holds in zip(JUDGED, found) if holds]
 
 
@@ -84,21 +84,25 @@ def some_literals(chance, n, sizes):
 
 def is_missing(clause, row, clauses):
     """The clause's image by a permutation is none of these clauses, were it one of them."""
-    return clause in missing([*clauses, clause], row)
+    return frozenset(image(clause, row)) not in {frozenset(each) for each in [*clauses, clause]}
 
 
 def with_pair(chance, n, row, clauses):
-    """A clause that holds a pair, adjacent or apart, and whose image is missing, if one is found."""
-    tried = [[-first, first, *others] for first, *others in (some_literals(chance, n, [1, 2, 2, 3, 4, 7]) for _ in range(8))]
-    found = next((clause for clause in tried if is_missing(clause, row, clauses)), tried[0])
-    orders = [chance.sample(found, len(found)) for _ in range(chance.choice([1, 8]))]
-    return next(filter(stands_apart, orders), orders[0])
+    """A clause that holds a pair, half the time apart, and whose image is missing, if one is found."""
+    for _ in range(8):
+        first, *others = some_literals(chance, n, [1, 2, 2, 3, 4, 7])
+        clause = [*others[:1], first, *others[1:], -first]
+        if is_missing(clause, row, clauses):
+            break
+    if chance.random() < 0.5:
+        chance.shuffle(clause)
+    return clause
 
 
 def with_pairs(chance, n, clauses, rows):
     """The same clauses, half the time with some put in that hold a pair and whose image by one of the rows is missing, or at times put in too."""
     clauses = list(clauses)
-    for _ in range(chance.choice([0, 0, 0, 1, 2, 3]) if n else 0):
+    for _ in range(chance.choice([0, 0, 0, 1, 1, 2]) if n else 0):
         row = chance.choice(rows or [list(range(1, n + 1))])
         new = with_pair(chance, n, row, clauses)
         for clause in [new, image(new, row)][:chance.choice([1, 1, 1, 2])]:
@@ -447,6 +451,6 @@ def misfit(chance, n, words):
     kind = chance.randrange(3)
     if kind == 0 and words:
         return words[:chance.randrange(len(words))]
-    if kind == 1 and n % 64:
+    if kind == 1 and words and n % 64:
         return words[:-1] + [words[-1] | 1 << chance.choice([0, 63 - n % 64, chance.randrange(64 - n % 64)])]
     return words + [chance.choice([0, 1, 2 ** 63])] * chance.randint(1, 2)

@@ -17,7 +17,7 @@ import test_models
 from agree import LIBRARY, Agree, held, judged
 from library import TOP
 
-STORES = library.rounds(1200)
+STORES = library.rounds(1000)
 END, START = library.Guarded(at_end=True), library.Guarded(at_end=False)
 
 

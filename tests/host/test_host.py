@@ -108,8 +108,8 @@ class Stores(Agree):
             self.assertGreater(answers.get(refusal, 0), 5, refusal)
         for refusal in [None, 13, 20, 21, 23]:
             self.assertGreater(lines.get(refusal, 0), 5, refusal)
-        for sort in generate.SORTS + generate.JUDGED:
-            self.assertGreater(accepted[sort], 50, sort)
+        for sort, least in [*((sort, 50) for sort in generate.SORTS), *((sort, 30) for sort in generate.JUDGED)]:
+            self.assertGreater(accepted[sort], least, sort)
 
     def count(self, answers, answer):
         number = answer[1] if answer[0] == "refused" else None
@@ -389,30 +389,29 @@ class AlwaysTrue(Agree):
                                           ("a half with pairs, a half without", [everything[:6144], positive[:6144]], halves, 2),
                                           ("many", pairs, halves, 0), ("many, then one without", pairs[:-1] + [[1, 2, 3]], halves, 4096)]:
             with self.subTest(name):
-                host, empty = (fresh(literals=12288, ends=4096, keys=4096, images=512 * 6) for _ in range(2))
+                host, empty = (fresh(literals=12288, ends=4096, keys=4096, images=512 * 4) for _ in range(2))
                 self.assertEqual(host.open(b"p cnf 512 %d\n" % len(clauses) + b"".join(map(reference.clause_line, clauses))), ("done", 512, len(clauses)))
                 empty.open(b"p cnf 512 0")
                 lines = [b" ".join(b"%d" % i for i in line) for line in (range(1, 513), row)]
                 self.assertEqual(self.offer(host, *lines), ("refused", 11, place) if place else ("done",))
-                long, short = (min(timeit.repeat(lambda: each.offer(*lines), number=1, repeat=5)) for each in (host, empty))
+                long, short = (min(timeit.repeat(lambda: each.offer(*lines), number=1, repeat=3)) for each in (host, empty))
                 self.assertLess(long, 10 * short)
 
     def test_random(self):
         """Clauses that a permutation keeps, but for some with a pair, at times with one without a pair after these."""
         chance = random.Random(14)
         seen = Counter()
-        for _ in range(1000):
+        for _ in range(300):
             n = chance.choice([2, 3, 4, 5, 6, 9])
             row, clauses, place = generate.over_pairs(chance, n)
-            host = fresh(literals=2000, ends=500, keys=500)
+            host = fresh(literals=256)
             self.assertEqual(self.open(host, b"p cnf %d %d\n" % (n, len(clauses)) + b"".join(map(reference.clause_line, clauses))), ("done", n, len(clauses)))
             lines = generate.offers(chance, n, [row])
             answer = self.offer(host, *lines)
             self.assertEqual(answer, ("refused", 11, place) if place else ("done",), (clauses, row))
             seen.update(judged(host, *lines, answer))
             seen.update(generate.sorts(row) if answer == ("done",) else [])
-        for sort, least in [(generate.JUDGED[0], 400), (generate.JUDGED[1], 100), (generate.JUDGED[2], 20), (generate.JUDGED[3], 300), (generate.JUDGED[4], 50),
-                            *((sort, 50) for sort in generate.SORTS)]:
+        for sort, least in [*zip(generate.JUDGED, [120, 30, 10, 100, 20]), *((sort, 10) for sort in generate.SORTS)]:
             self.assertGreater(seen[sort], least, sort)
 
 

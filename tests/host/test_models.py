@@ -441,14 +441,14 @@ class Demand3(unittest.TestCase):
         for sort, least in [(("satisfiable", True), 200), (("satisfiable", False), 20), ("kept", 2000), ("dropped", 1000), ("spent", 2000),
                             ("false added", 2000), (("moves", 0), 1000), (("moves", 1), 1000), (("moves", 2), 300), (("moves", 3), 100),
                             (("rows", 1, True), 20), (("rows", 2, True), 80), (("taken back", True), 100), (("taken back", False), 20),
-                            *((sort, 50) for sort in generate.SORTS), *((sort, 20) for sort in generate.JUDGED)]:
+                            *((sort, 50) for sort in generate.SORTS), *((sort, 10) for sort in generate.JUDGED)]:
             self.assertGreater(seen[sort], least, sort)
 
     def test_always_true(self):
         """Formulas of which some clauses hold a pair, and lists of offers from all permutations of their variables: accepted are those that the reference finds
         to be symmetries, and demand 3 holds, also after a withdrawal."""
         chance, seen = random.Random(13), Counter()
-        for _ in range(120):
+        for _ in range(80):
             n = chance.choice([2, 3, 3, 4, 4])
             _, clauses, _ = generate.over_pairs(chance, n)
             rows = every_row(n)
@@ -466,7 +466,7 @@ class Demand3(unittest.TestCase):
             self.whole(host, n, clauses, accepted, seen)
             self.assertEqual(host.withdraw(), ("done",))
             self.whole(host, n, clauses, accepted[:-1], seen)
-        for sort, least in [(("satisfiable", True), 100), ("kept", 500), ("dropped", 500), *((sort, 20) for sort in generate.JUDGED)]:
+        for sort, least in [(("satisfiable", True), 60), ("kept", 200), ("dropped", 200), *((sort, 5) for sort in generate.JUDGED)]:
             self.assertGreater(seen[sort], least, sort)
 
     def test_every_row(self):

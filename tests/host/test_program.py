@@ -302,7 +302,7 @@ class Program(unittest.TestCase):
             self.assertGreater(refused[number], 5, number)
         self.assertGreater(sum(times for rows, times in accepted.items() if rows >= 1), 200)
         self.assertGreater(sum(times for rows, times in accepted.items() if rows >= 2), 100)
-        for sort, least in [*((sort, 50) for sort in generate.SORTS), *((sort, 20) for sort in generate.JUDGED)]:
+        for sort, least in [*((sort, 50) for sort in generate.SORTS), *((sort, 10) for sort in generate.JUDGED)]:
             self.assertGreater(sorts[sort], least, sort)
 
     def test_many_rows(self):

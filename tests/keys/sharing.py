@@ -1,5 +1,6 @@
 """Finds two pairs of clauses of six literals that share a key, in half a minute or so: test_keys.py has what it prints. No variable comes twice, and as many literals are
-positive in each clause, so that a permutation can take one to another without signs too.
+positive in each clause, so that a permutation can take one to another without signs too. Then a third pair, of which one clause holds a literal and its negation and the
+other does not.
 
 It is Wagner's search ("A generalized birthday problem", 2002) with four lists, of the sums of three numbers each, from four parts of the literals. Wanted are sums
 with a + b = c + d modulo 2^64, that is a - c = d - b. The last eleven bits of every number are those of 1, so clauses of six literals agree in these; what is left
@@ -16,14 +17,24 @@ NUMBERS = dict(zip(LITERALS, literal_numbers.made()))
 PARTS = [LITERALS[at:at + 128] for at in range(0, 1024, 256)]
 
 
+def total(three):
+    """The sum of the numbers of three literals, but for their last eleven bits."""
+    return sum(NUMBERS[literal] // literal_numbers.COUNT_RANGE for literal in three)
+
+
 def sums(part):
-    """The sums of any three numbers of a part's literals, but for their last eleven bits."""
-    return list(map(sum, itertools.combinations([NUMBERS[literal] // literal_numbers.COUNT_RANGE for literal in part], 3)))
+    """The sums of any three numbers of a part's literals."""
+    return list(map(total, itertools.combinations(part, 3)))
 
 
-def summed(part, total):
+def summed(part, wanted):
     """Three literals of a part with this sum."""
-    return next([*three] for three in itertools.combinations(part, 3) if sum(NUMBERS[literal] // literal_numbers.COUNT_RANGE for literal in three) == total)
+    return next([*three] for three in itertools.combinations(part, 3) if total(three) == wanted)
+
+
+def holds_pair(literals):
+    """A literal is there together with its negation."""
+    return any(-literal in literals for literal in literals)
 
 
 def differences(minuends, subtrahends, rest):
@@ -31,15 +42,15 @@ def differences(minuends, subtrahends, rest):
     return {minuends[low] - x & TOP: (minuends[low], x) for x in subtrahends if (low := x + rest & LOW) in minuends}
 
 
-def found():
-    """Two clauses with the same key; then others, without end."""
-    a, b, c, d = map(sums, PARTS)
+def found(a=None):
+    """Two clauses with the same key, the first with three literals of the first part that have one of these sums, or any; then others, without end."""
+    a, b, c, d = a or sums(PARTS[0]), *map(sums, PARTS[1:])
     a, d = ({x & LOW: x for x in each} for each in (a, d))  # one for each rest will do
     for rest in itertools.count():
         first, second = differences(a, c, rest), differences(d, b, rest)
         for shared in sorted(first.keys() & second.keys()):
             totals = first[shared][0], second[shared][1], first[shared][1], second[shared][0]
-            threes = [summed(part, total) for part, total in zip(PARTS, totals)]
+            threes = [summed(part, wanted) for part, wanted in zip(PARTS, totals)]
             yield threes[0] + threes[1], threes[2] + threes[3]
 
 
@@ -53,5 +64,7 @@ if __name__ == "__main__":
     pairs = found()
     first = next(pair for pair in pairs if apart(*pair))
     second = next(pair for pair in pairs if apart(*first, *pair))
-    for pair in first, second:
+    over_a_pair = found([total(three) for three in itertools.combinations(PARTS[0], 3) if holds_pair(three)])
+    third = next(pair for pair in over_a_pair if not holds_pair(pair[1]))
+    for pair in first, second, third:
         print(*pair, *{sum(NUMBERS[literal] for literal in clause) % 2 ** 64 for clause in pair}, sep="\n")

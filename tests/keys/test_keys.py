@@ -79,10 +79,13 @@ class Numbers(unittest.TestCase):
             self.assertEqual(host.keys[0] % 2048, count)
 
 
-# What sharing.py finds: two pairs of clauses, each with their key. Then clauses that are like them, of other variables.
+# What sharing.py finds: pairs of clauses, each with their key; in the third one clause holds a literal and its negation. Then clauses that are like them, of other variables
+# but for one, which has G's.
 A, B, SHARED = [-18, -36, -63, -145, 159, 176], [-272, 279, -292, -421, 425, -441], 2237341672726149126
 E, F, SECOND = [-39, 44, -57, 150, -162, -173], [-288, -302, -318, -402, 427, 430], 3245079644745213958
+G, H, THIRD = [13, -13, -25, -137, -164, -183], [-257, 291, 315, -388, 401, -432], 188523479680112646
 C, D = [1, 2, -3, -4, -5, -6], [7, 8, -9, -10, -11, -12]
+I, OF_G = [1, 2, 3, -4, -5, -6], [13, 14, -25, -137, -164, -183]
 
 
 def exchange(chance, pairs):
@@ -96,16 +99,19 @@ def exchange(chance, pairs):
     return images
 
 
-# Clauses of which some share a key, and pairs of them to be exchanged. In the second family all do.
+# Clauses of which some share a key, and pairs of them to be exchanged. In the second family all do; in the third, one that is judged with one that is not (CR 7), whose image
+# is itself, or missing.
 FAMILIES = [
     ([A, B, C, D], [[(A, C)], [(B, D)], [(A, C), (B, D)], [(A, B)], [(A, B), (C, D)], [(A, D), (B, C)]]),
     ([A, B, E, F], [[(A, E)], [(A, E), (B, F)], [(A, F), (B, E)], [(A, B)], [(A, B), (E, F)]]),
+    ([G, H, I], [[(H, I)], [(H, I), (OF_G, D)], [(OF_G, H)], [(OF_G, I)]]),
 ]
 
 
 def first_missing(clauses, row, same):
-    """The number of the first clause whose image is the same as no clause, or 0."""
-    return next((q for q, clause in enumerate(clauses, 1) if not any(same(generate.image(clause, row)) == same(other) for other in clauses)), 0)
+    """The number of the first clause, of those that are judged, whose image is the same as no clause, or 0."""
+    judged = [(q, clause) for q, clause in enumerate(clauses, 1) if not generate.holds_pair(clause)]
+    return next((q for q, clause in judged if not any(same(generate.image(clause, row)) == same(other) for other in clauses)), 0)
 
 
 class Sharing(Agree):
@@ -122,13 +128,13 @@ class Sharing(Agree):
                     yield shuffled, generate.offers(chance, 512, [row]), first_missing(clauses, row, frozenset), first_missing(clauses, row, reference.key_of)
 
     def test_shared(self):
-        self.assertEqual(opened([A, B, E, F]).keys[:4], [SHARED, SHARED, SECOND, SECOND])
+        self.assertEqual(opened([A, B, E, F, G, H]).keys[:6], [SHARED, SHARED, SECOND, SECOND, THIRD, THIRD])
         self.assertEqual(len({abs(literal) for literal in A + B + C + D + E + F}), 36)
-        self.assertEqual(len({reference.key_of(clause) for clause in (A, C, D, E)}), 4)
+        self.assertEqual(len({reference.key_of(clause) for clause in (A, C, D, E, G, I, OF_G)}), 7)
 
     def test_offers(self):
         """Each is decided as the clauses say, and not their keys, with signs and without."""
-        for family, least in zip(FAMILIES, [300, 400]):
+        for family, least in zip(FAMILIES, [300, 400, 10]):
             otherwise = Counter()
             for clauses, lines, missing, by_keys in self.offers(family, 4):
                 self.assertEqual(self.offer(opened(clauses), *lines), ("refused", 11, missing) if missing else ("done",), clauses)

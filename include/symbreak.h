@@ -45,7 +45,7 @@ enum symbreak_refusal {
     SYMBREAK_BAD_NAME = 8,          /* names line: a name outside 1..n, as every negative one, or repeated, or no name (place: the line's length) */
     SYMBREAK_VALUE_NOT_NUMBER = 9,  /* value line: a word that is no number */
     SYMBREAK_BAD_VALUE = 10,        /* value line: a value that is no name, the `-` apart, or whose name is used already, or too few (place: the line's length) */
-    SYMBREAK_NO_SYMMETRY = 11,      /* no symmetry (place: the number, from 1, of the first clause whose image is missing, those that hold i and -i apart) */
+    SYMBREAK_NO_SYMMETRY = 11,      /* no symmetry (place: the number, from 1, of the first clause whose image is missing; clauses that hold i and -i are passed over) */
     SYMBREAK_BAD_ASSIGNMENT = 12,   /* an assignment of the wrong length or with a spare bit set; in a comparison, unequal lengths or more than 519 words */
     SYMBREAK_NO_SUCH_CLAUSE = 13,   /* clause number 0 or above M */
     SYMBREAK_NO_FIGURE = 14,        /* not unlabelled <= allowed <= labelled, labelled = unlabelled, or labelled over 10^12 */

@@ -29,6 +29,6 @@ pub record AlwaysTrue : Type 0 where
   pub models : (n : ℕ) (formula : List (List ℕ)) (a : List Bool) → Model n (judged formula) a ↔ Model n formula a
   -- the image of a judged clause is one that would be judged, so that it is missing among the judged clauses just where it is missing among all
   pub image : (n : ℕ) (row clause : List ℕ) → isRow n row ≡ true → allOf (isLiteral n) clause ≡ true → hasOpposites (clauseImage row clause) ≡ hasOpposites clause
-  -- "Every permutation accepted before is accepted still."
+  -- "Every permutation accepted before is accepted still.", the input rules and limits permitting, as in demand 2
   pub still : (s : Keyed) (names values : List ℕ) → Permitted s names values → IsFormerSymmetry (rowFor (s .store) names values) (plainOf (s .store))
       → offerSays s names values ≡ done accepted

@@ -94,16 +94,16 @@ module _ (n : ℕ) (row : List ℕ) (formula : List (List ℕ)) (r : Row n row) 
       go false q rest = rw (image-judged c (and-l (allOf (isLiteral n) c) (allOf (allOf (isLiteral n)) clauses) good) q, rest)
 
   module _ (good : allOf (allOf (isLiteral n)) formula ≡ true) where
+    maps : (allOf (hasImage row (judged formula)) (judged formula) ≡ true) ↔ IsSymmetry row formula
+    maps = maps-iff n row (judged formula) r (judged-all (allOf (isLiteral n)) formula good)
+
     pub none-missing-iff : (firstMissing row formula ≡ 0) ↔ IsSymmetry row formula
-    none-missing-iff =
-        let none = none-iff row (judged formula) 1 formula (omega arith) in
-        let maps = maps-iff n row (judged formula) r (judged-all (allOf (isLiteral n)) formula good) in
-        (λ e. maps .0 (none .0 e), λ s. none .1 (maps .1 s))
+    none-missing-iff = let none = none-iff row (judged formula) 1 formula (omega arith) in (λ e. maps .0 (none .0 e), λ s. none .1 (maps .1 s))
 
     -- what maps all clauses to themselves does so with the judged ones
     pub symmetry-still : IsFormerSymmetry row formula → IsSymmetry row formula
     symmetry-still s =
-        maps-iff n row (judged formula) r (judged-all (allOf (isLiteral n)) formula good) .0
+        maps .0
         (mem-all (hasImage row (judged formula)) (judged formula) (λ c m.
         let own = judged-iff formula c .0 m in
         rw (← image-judged c (all-mem (allOf (isLiteral n)) (own .0) good) (own .1)) (all-mem (hasImage row formula) (own .0) (maps-iff n row formula r good .1 s))))

@@ -18,6 +18,7 @@ use Rattle.lists.proofs.Cases.{never, or-l-false, or-r-false, not-so, lt-or-le}
 use Rattle.lists.proofs.Members.{placed, has-head}
 use Rattle.lists.proofs.Steps.{drop-step}
 use Rattle.lists.proofs.TableLaws.{length-table, getD-table, table-snoc}
+use Rattle.store.specs.Identity.{identity}
 use Rattle.permutation.specs.Lines.{namesOn, valuesOn}
 use Rattle.permutation.specs.Stated.{imageAmong, rowStated, rowOf}
 use Rattle.permutation.specs.Names.{Named}
@@ -88,7 +89,7 @@ pub record Placing (n : ℕ) (final names values row : List ℕ) : Type 0 where
   pub named : Named n names
   pub is : (j : ℕ) → getD final j 0 ≡ leftOrPlaced names values row j
 
-pub placing-none : (n : ℕ) (names values row : List ℕ) → Named n names → n ≤ length row → take n row ≡ table n (λ k. 2 * suc k)
+pub placing-none : (n : ℕ) (names values row : List ℕ) → Named n names → n ≤ length row → take n row ≡ identity n
     → Placing n (rowOf n names values ++ drop n row) names values row
 placing-none n names values row named fits e = record {
   room = sym (simp (length-append, size, length-drop) (omega arith));

@@ -2,7 +2,7 @@
 use mathlib.Core.Path.{_≡_, refl, sym, ap, _∙_}
 use mathlib.Core.Bool.{Bool, true, false}
 use mathlib.Core.List.{List}
-use mathlib.Core.Logic.{_⊎_, inl, inr, ⊎-elim}
+use mathlib.Core.Logic.{_⊎_, inl, inr, ⊎-elim, _↔_}
 use Prim.Native.Nat.{ℕ, suc, _-_, _*_, _≤_, _<_}
 use native.Mathlib.Omega.{arith}
 use lib.ListN.{length, getD, length-map}
@@ -12,8 +12,10 @@ use Rattle.lists.proofs.Members.{place, placed}
 use Rattle.lists.proofs.Distinct.{distinct-inj}
 use Rattle.store.specs.Literals.{variableOf, isLiteral}
 use Rattle.store.specs.Stores.{isRow}
+use Rattle.store.specs.Identity.{movesNothing}
 use Rattle.store.proofs.FormLaws.{variables, variable-at, literal-low, literal-high, literal-within}
 use Rattle.store.proofs.Formed.{is-row}
+use Rattle.store.proofs.Identity.{moves-nothing-each}
 use Rattle.permutation.specs.Lines.{namesOn, valuesOn}
 use Rattle.permutation.specs.Stated.{statedBy, imageAmong, rowStated}
 use Rattle.permutation.specs.declared.Stated.{Stated}
@@ -111,3 +113,19 @@ row-at-name n names values e k h =
     let o = in-order n names values e in
     let name : has (namesOn names) (getD (namesOn names) k 0) ≡ true = placed (namesOn names) _ k h refl in
     row-of n names values (getD (namesOn names) k 0) (o .named .low _ name) (o .named .high _ name) ∙ image-at n names values o k h
+
+-- "every value equals its name" (document 02, CR 8) exactly where the row moves nothing
+pub each-own-iff : (n : ℕ) (names values : List ℕ) → statedBy n names values ≡ Stated.Permutation
+    → (movesNothing (rowStated n names values) ≡ true) ↔ ((k : ℕ) → k < length (namesOn names) → getD (valuesOn values) k 0 ≡ 2 * getD (namesOn names) k 0)
+each-own-iff n names values e = (
+  λ stays k h.
+  let name : has (namesOn names) (getD (namesOn names) k 0) ≡ true = placed (namesOn names) _ k h refl in
+  sym (row-at-name n names values e k h)
+  ∙ moves-nothing-each (rowStated n names values) .0 stays _ (o .named .low _ name) (omega (arith, o .named .high _ name, row-length n names values)),
+  λ own. moves-nothing-each (rowStated n names values) .1 (λ i low high.
+      row-of n names values i low (omega (arith, row-length n names values))
+      ∙ ⊎-elim (λ a. a .value ∙ own (a .k) (omega (arith, a .within, o .as-many)) ∙ ap (λ (v : ℕ). 2 * v) (a .name)) (λ s. s .same) (image-of n names values o i)),
+)
+  where
+    o : InOrder n names values
+    o = in-order n names values e

@@ -9,13 +9,13 @@ use store::refusal::Refusal;
 ghost use mathlib.Core.Path.{_≡_};
 ghost use mathlib.Core.Bool.{false, cond};
 ghost use mathlib.Core.List.{[], _++_};
-ghost use Prim.Native.Nat.{suc, _*_, _≤_};
+ghost use Prim.Native.Nat.{_≤_};
 ghost use lib.ListN.{length, take, drop, replicate};
 ghost use Rattle.lists.specs.Tests.{has};
-ghost use Rattle.lists.specs.Tables.{table};
 ghost use Rattle.dimacs.specs.Words.{wordsAt};
 ghost use Rattle.store.specs.Literals.{codeOf, isLiteral};
 ghost use Rattle.store.specs.Stores.{maxVariables};
+ghost use Rattle.store.specs.Identity.{identity};
 ghost use Rattle.permutation.specs.Lines.{isName, notNumber, badValueAfter, valuesOn};
 ghost use Rattle.permutation.specs.Stated.{orElse, statedBy, rowStated, rowOf};
 ghost use Rattle.permutation.specs.Names.{Named, Marks, Walked};
@@ -151,7 +151,7 @@ fn not_number(line: &[u8]) -> Fault
 // Every variable stays.
 fn identity(n: usize, row: &mut [u16])
     requires { ⌜ (n ≤ maxVariables) × (n ≤ length (now row)) ⌝ }
-    ensures { λ _. ⌜ now (row .exit) ≡ table n (λ k. 2 * suc k) ++ drop n (now (row .entry)) ⌝ }
+    ensures { λ _. ⌜ now (row .exit) ≡ identity n ++ drop n (now (row .entry)) ⌝ }
 {
     let mut i = 0;
     while i < n {
@@ -174,7 +174,7 @@ fn place_values(
         × Named n (now order)
         × Marks (has (now order)) (now free)
         × (n ≤ length (now row))
-        × (take n (now row) ≡ table n (λ k. 2 * suc k)) ⌝ }
+        × (take n (now row) ≡ identity n) ⌝ }
     ensures answer { λ r. let line = now (values .entry) in
         ⌜ r ≡ badValueAfter (now (order .entry)) (length line) [] (wordsAt line 0) ⌝ }
     ensures row { λ r. ⌜ (r ≡ Fault.Nowhere

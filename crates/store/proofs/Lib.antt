@@ -6,4 +6,5 @@ pub mod Formed
 pub mod Cuts
 pub mod Within
 pub mod RowChanges
+pub mod Identity
 pub mod Examples

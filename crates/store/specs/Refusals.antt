@@ -1,4 +1,4 @@
--- Refusals by their numbers and places (document 01, "Turned back by what was lent", "Turned back by the store"; 30 by document 02, CR 3). Assumes nothing.
+-- Refusals by their numbers and places (document 01, "Turned back by what was lent", "Turned back by the store"; 30 and 31 by document 02, CR 3 and CR 8). Assumes nothing.
 use Prim.Native.Nat.{ℕ}
 use mathlib.Core.List.{List}
 use Rattle.lists.specs.Writing.{overwritten}
@@ -31,6 +31,7 @@ numberOf Refusal.BadlyFormed = 21
 numberOf Refusal.RowsFull = 22
 numberOf (Refusal.TooShort needed) = 23
 numberOf Refusal.NoRow = 30
+numberOf Refusal.MovesNothing = 31
 
 -- "Places are byte offsets from 0, unless stated"
 abbrev pub placeOf : Refusal → ℕ
@@ -54,6 +55,7 @@ placeOf Refusal.BadlyFormed = 0
 placeOf Refusal.RowsFull = 0
 placeOf (Refusal.TooShort needed) = needed
 placeOf Refusal.NoRow = 0
+placeOf Refusal.MovesNothing = 0
 
 -- what a refusal says
 abbrev pub saidRefused : {Values : Type 0} → Refusal → Said Values

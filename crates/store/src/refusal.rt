@@ -23,6 +23,7 @@ pub enum Refusal {
     RowsFull, // 22
     TooShort(usize), // 23
     NoRow, // 30
+    MovesNothing, // 31
 }
 
 impl Refusal {
@@ -50,6 +51,7 @@ impl Refusal {
             Refusal::RowsFull => 22,
             Refusal::TooShort(_) => 23,
             Refusal::NoRow => 30,
+            Refusal::MovesNothing => 31,
         }
     }
 
@@ -77,6 +79,7 @@ impl Refusal {
             Refusal::RowsFull => 0,
             Refusal::TooShort(needed) => needed,
             Refusal::NoRow => 0,
+            Refusal::MovesNothing => 0,
         }
     }
 }

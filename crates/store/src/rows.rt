@@ -2,7 +2,8 @@
 ghost use mathlib.Core.Path.{_≡_};
 ghost use Prim.Native.Nat.{_+_, _*_, _≤_};
 ghost use lib.ListN.{length};
-ghost use Rattle.store.specs.Stores.{rowAt, appended};
+ghost use Rattle.store.specs.Stores.{maxVariables, rowAt, appended};
+ghost use Rattle.store.specs.Identity.{movesNothing};
 
 // Row r, from 0.
 pub fn row(images: &[u16], n: usize, r: usize) -> &[u16]
@@ -25,4 +26,21 @@ pub fn append(images: &mut [u16], n: usize, k: usize, row: &[u16])
         images[at + j] = row[j];
         j += 1;
     }
+}
+
+// Whether every variable is its own image. `own` is the code of the variable at i.
+pub fn moves_nothing(row: &[u16]) -> bool
+    requires { ⌜ length (now row) ≤ maxVariables ⌝ }
+    ensures { λ r. ⌜ r ≡ movesNothing (now (row .entry)) ⌝ }
+{
+    let mut own: u16 = 2;
+    let mut i = 0;
+    while i < row.len() {
+        if row[i] != own {
+            return false;
+        }
+        own += 2;
+        i += 1;
+    }
+    true
 }

@@ -3,7 +3,7 @@ use mathlib.Core.Path.{_≡_, refl}
 use Prim.Native.Nat.{suc, _-_, _*_, _≤_}
 use mathlib.Core.List.{_++_}
 use lib.ListN.{length, drop, length-set}
-use Rattle.lists.specs.Tables.{table}
+use Rattle.store.specs.Identity.{identity}
 use Rattle.permutation.proofs.RowLaws.{table-none, table-more}
 use borrow.Author.Needs.{needs}
 use native.Mathlib.Omega.{arith}
@@ -11,7 +11,7 @@ use Rattle.permutation.proofs.identity.Statement.{statement}
 use Rattle.permutation.proofs.identity.Tie as tie
 
 abbrev Inv-loop : tie.InvT-loop
-Inv-loop n row₀ i₀ row i = (i ≤ n) × (length row ≡ length row₀) × (row ≡ table i (λ k. 2 * suc k) ++ drop i row₀)
+Inv-loop n row₀ i₀ row i = (i ≤ n) × (length row ≡ length row₀) × (row ≡ identity i ++ drop i row₀)
 
 abbrev μ-loop : tie.MeasureT-loop
 μ-loop n row₀ i₀ row i = n - i

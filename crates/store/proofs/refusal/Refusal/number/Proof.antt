@@ -10,7 +10,7 @@ number-spec =
     tie.close
     (tie.spec (search needs) (search needs) (search needs) (search needs) (search needs) (search needs) (search needs) (search needs)
     (search needs) (search needs) (search needs) (search needs) (search needs) (search needs) (search needs) (search needs) (search needs)
-    (search needs) (search needs) (search needs) (λ c. sym (ap numberOf (c .enum-told .given .1))) (λ c. sym (ap numberOf (c .enum-told2 .given .1)))
+    (search needs) (search needs) (search needs) (search needs) (λ c. sym (ap numberOf (c .enum-told .given .1))) (λ c. sym (ap numberOf (c .enum-told2 .given .1)))
     (λ c. sym (ap numberOf (c .enum-told3 .given .1))) (λ c. sym (ap numberOf (c .enum-told4 .given .1)))
     (λ c. sym (ap numberOf (c .enum-told5 .given .1))) (λ c. sym (ap numberOf (c .enum-told6 .given .1)))
     (λ c. sym (ap numberOf (c .enum-told7 .given .1))) (λ c. sym (ap numberOf (c .enum-told8 .given .1)))
@@ -19,4 +19,4 @@ number-spec =
     (λ c. sym (ap numberOf (c .enum-told13 .given .1))) (λ c. sym (ap numberOf (c .enum-told14 .given .1)))
     (λ c. sym (ap numberOf (c .enum-told15 .given .1))) (λ c. sym (ap numberOf (c .enum-told16 .given .1)))
     (λ c. sym (ap numberOf (c .enum-told17 .given .1))) (λ c. sym (ap numberOf (c .enum-told18 .given .1)))
-    (λ c. sym (ap numberOf (c .enum-told19 .given .1))) (λ c. sym (ap numberOf (c .enum-told20 .given .1))))
+    (λ c. sym (ap numberOf (c .enum-told19 .given .1))) (λ c. sym (ap numberOf (c .enum-told20 .given .1))) (λ c. sym (ap numberOf (c .enum-told21 .given .1))))

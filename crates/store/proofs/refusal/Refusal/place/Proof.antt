@@ -10,7 +10,7 @@ place-spec =
     tie.close
     (tie.spec (search needs) (search needs) (search needs) (search needs) (search needs) (search needs) (search needs) (search needs)
     (search needs) (search needs) (search needs) (search needs) (search needs) (search needs) (search needs) (search needs) (search needs)
-    (search needs) (search needs) (search needs) (λ c. sym (ap placeOf (c .before .self .given .1))) (λ c. sym (ap placeOf (c .before .self2 .given .1)))
+    (search needs) (search needs) (search needs) (search needs) (λ c. sym (ap placeOf (c .before .self .given .1))) (λ c. sym (ap placeOf (c .before .self2 .given .1)))
     (λ c. sym (ap placeOf (c .before .self3 .given .1))) (λ c. sym (ap placeOf (c .before .self4 .given .1)))
     (λ c. sym (ap placeOf (c .before .self5 .given .1))) (λ c. sym (ap placeOf (c .before .self6 .given .1)))
     (λ c. sym (ap placeOf (c .before .self7 .given .1))) (λ c. sym (ap placeOf (c .before .self8 .given .1)))
@@ -19,4 +19,4 @@ place-spec =
     (λ c. sym (ap placeOf (c .enum-told2 .given .1))) (λ c. sym (ap placeOf (c .enum-told3 .given .1)))
     (λ c. sym (ap placeOf (c .enum-told4 .given .1))) (λ c. sym (ap placeOf (c .enum-told5 .given .1)))
     (λ c. sym (ap placeOf (c .enum-told6 .given .1))) (λ c. sym (ap placeOf (c .enum-told7 .given .1)))
-    (λ c. sym (ap placeOf (c .before .self12 .given .1))) (λ c. sym (ap placeOf (c .enum-told8 .given .1))))
+    (λ c. sym (ap placeOf (c .before .self12 .given .1))) (λ c. sym (ap placeOf (c .enum-told8 .given .1))) (λ c. sym (ap placeOf (c .enum-told9 .given .1))))

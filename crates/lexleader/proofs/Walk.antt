@@ -11,8 +11,9 @@ use mir.Val.{boolByte}
 use lib.Dec.{eqb}
 use lib.ListN.{length, getD, drop, drop-of-length-le, length-drop}
 use lib.Seq.{drop-drop}
-use Rattle.lists.proofs.Cases.{lt-or-le}
+use Rattle.lists.proofs.Cases.{lt-or-le, and-l, and-r}
 use Rattle.lists.proofs.Steps.{drop-step}
+use Rattle.store.specs.Identity.{staysFrom}
 use Rattle.lexleader.specs.Rows.{Pair, pairsFrom, pairsOf}
 use Rattle.lexleader.specs.Clause.{pairAt, pairsAt, NextMoved}
 
@@ -42,6 +43,13 @@ module _ (row : List ℕ) (i : ℕ) where
   pub walk-end : length row ≤ i → pairsAt i row ≡ []
   unfolding pairsAt pairsFrom
   walk-end h = rw (drop-of-length-le row {i = i} h)
+
+-- a row that moves nothing has no pair
+pub stays-none : (i : ℕ) (row : List ℕ) → staysFrom i row ≡ true → pairsFrom i row ≡ []
+unfolding staysFrom pairsFrom
+stays-none i [] e = refl
+stays-none i (y ∷ row) e =
+    rw (and-l (eqb y (2 * i)) (staysFrom (i + 1) row) e) (stays-none (i + 1) row (and-r (eqb y (2 * i)) (staysFrom (i + 1) row) e))
 
 -- there are as many pairs less after some variables as these are moved, so no more than these are
 module _ (row : List ℕ) where

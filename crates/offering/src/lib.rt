@@ -1,5 +1,5 @@
-// An offer: two lines are read as a permutation, which is checked to be a symmetry of the plain formula and then held as a row (document
-// 01, "Permutations"). The row is made in scratch memory, so that a refused offer writes nothing.
+// An offer: two lines are read as a permutation, which is checked to move something and to be a symmetry of the plain formula, and then
+// held as a row (document 01, "Permutations"; document 02, CR 8). The row is made in scratch memory, so that a refused offer writes nothing.
 use permutation::Stated;
 use store::record::Record;
 use store::refusal::Refusal;
@@ -40,6 +40,9 @@ pub fn offer(
     let stated = permutation::state(names, values, n, &mut row);
     if let Stated::Refused(refusal) = stated {
         return Offered::Refused(refusal);
+    }
+    if store::rows::moves_nothing(&row[..n]) {
+        return Offered::Refused(Refusal::MovesNothing);
     }
     let missing = symmetry::first_missing(literals, ends, keys, counts.clauses, &row[..n], table);
     if missing != 0 {

@@ -119,9 +119,9 @@ pub each-own-iff : (n : ℕ) (names values : List ℕ) → statedBy n names valu
     → (movesNothing (rowStated n names values) ≡ true) ↔ ((k : ℕ) → k < length (namesOn names) → getD (valuesOn values) k 0 ≡ 2 * getD (namesOn names) k 0)
 each-own-iff n names values e = (
   λ stays k h.
-  let name : has (namesOn names) (getD (namesOn names) k 0) ≡ true = placed (namesOn names) _ k h refl in
-  sym (row-at-name n names values e k h)
-  ∙ moves-nothing-each (rowStated n names values) .0 stays _ (o .named .low _ name) (omega (arith, o .named .high _ name, row-length n names values)),
+      let name : has (namesOn names) (getD (namesOn names) k 0) ≡ true = placed (namesOn names) _ k h refl in
+      sym (row-at-name n names values e k h)
+      ∙ moves-nothing-each (rowStated n names values) .0 stays _ (o .named .low _ name) (omega (arith, o .named .high _ name, row-length n names values)),
   λ own. moves-nothing-each (rowStated n names values) .1 (λ i low high.
       row-of n names values i low (omega (arith, row-length n names values))
       ∙ ⊎-elim (λ a. a .value ∙ own (a .k) (omega (arith, a .within, o .as-many)) ∙ ap (λ (v : ℕ). 2 * v) (a .name)) (λ s. s .same) (image-of n names values o i)),

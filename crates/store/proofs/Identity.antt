@@ -77,14 +77,14 @@ moves-nothing-each row = (
 pub moves-something-iff : (row : List ℕ) → (movesNothing row ≡ false) ↔ MovesSomething row
 moves-something-iff row = (
   λ e.
-  let m = moves-at 1 row e in
-  let at : m .k + 1 - 1 ≡ m .k = omega arith in
-  record {
-    variable = m .k + 1;
-    low = omega arith;
-    high = omega (arith, m .within);
-    moved = λ own. let same : getD row (m .k) 0 ≡ 2 * (m .k + 1) = rw at at own in m .other (omega (arith, same));
-  },
+      let m = moves-at 1 row e in
+      let at : m .k + 1 - 1 ≡ m .k = omega arith in
+      record {
+        variable = m .k + 1;
+        low = omega arith;
+        high = omega (arith, m .within);
+        moved = λ own. let same : getD row (m .k) 0 ≡ 2 * (m .k + 1) = rw at at own in m .other (omega (arith, same));
+      },
   λ m. not-so (movesNothing row) (λ e. m .moved (moves-nothing-each row .0 e (m .variable) (m .low) (m .high))),
 )
 

@@ -1,12 +1,14 @@
--- `offering::offer` meets its contract: the lines state a permutation, its row is filled in scratch memory and checked, and then appended. Assumes
--- nothing.
+-- `offering::offer` meets its contract: the lines state a permutation, its row is filled in scratch memory and checked, to move something and to be a
+-- symmetry, and then appended. Assumes nothing.
 use mathlib.Core.Path.{_≡_, refl, sym, ap, _∙_}
+use mathlib.Core.Bool.{false}
 use mathlib.Core.List.{List, _++_}
 use Prim.Native.Nat.{ℕ, _+_, _*_, _≤_}
 use native.Mathlib.Nat.{mul-le-mul}
 use lib.ListN.{length, take, drop, replicate}
 use lib.Seq.{length-take-le}
 use Rattle.store.specs.Stores.{Store, lent, plainOf, appended}
+use Rattle.store.specs.Identity.{movesNothing}
 use Rattle.store.proofs.Formed.{Formed, formed}
 use Rattle.permutation.specs.Stated.{statedBy}
 use Rattle.permutation.specs.declared.Stated.{Stated}
@@ -14,7 +16,7 @@ use Rattle.permutation.proofs.Theorem.{stated-row}
 use Rattle.symmetry.specs.Symmetry.{firstMissing}
 use Rattle.symmetry.proofs.Facts.{row-fits}
 use Rattle.offering.specs.Offering.{rowFor}
-use Rattle.offering.proofs.OfferLaws.{filled-row, filled-length, not-stated, not-symmetric, no-room, held}
+use Rattle.offering.proofs.OfferLaws.{filled-row, filled-length, not-stated, not-moving, not-symmetric, no-room, held}
 use borrow.Author.Needs.{needs}
 use native.Mathlib.Omega.{arith}
 use Rattle.offering.proofs.offer.Statement.{statement}
@@ -57,13 +59,22 @@ filled-size c =
 filled-prefix : (c : tie.After-enum-told) → length (take (begun c .args .counts .variables) (filled c)) ≡ begun c .args .counts .variables
 filled-prefix c = length-take-le _ _ (filled-size c)
 
--- what was found missing
-missing-is : (c : tie.After-first-missing) → let s = begun (c .before .before) in
-    c .first-missing .result ≡ firstMissing (R s) (plainOf (S s))
+-- whether it moves nothing
+moves-is : (c : tie.After-moves-nothing) → c .moves-nothing .result ≡ movesNothing (R (begun (c .before .before)))
+moves-is c = c .moves-nothing .ensures ∙ ap movesNothing (filled-is (c .before .before))
+
+-- the row that moves something, and what was found missing
+abbrev row-of : tie.After-first-missing → tie.After-enum-told
+row-of c = c .before .before .before .before .before
+
+moving : (c : tie.After-first-missing) → movesNothing (R (begun (row-of c))) ≡ false
+moving c = let asked = c .before .before in sym (moves-is (asked .before)) ∙ asked .if1 .left
+
+missing-is : (c : tie.After-first-missing) → let s = begun (row-of c) in c .first-missing .result ≡ firstMissing (R s) (plainOf (S s))
 unfolding plainOf
 missing-is c =
-    let s = begun (c .before .before) in
-    c .first-missing .ensures ∙ ap (λ (row : List ℕ). firstMissing row (plainOf (S s))) (filled-is (c .before .before))
+    let s = begun (row-of c) in
+    c .first-missing .ensures ∙ ap (λ (row : List ℕ). firstMissing row (plainOf (S s))) (filled-is (row-of c))
 
 state-requires : tie.Need-state-requires
 state-requires c κs = let small = facts (c .before .before .before .before .before .before .before) .variables-fit in (small, small)
@@ -77,50 +88,64 @@ returns c =
 array-share-prefix-row : tie.Need-array-share-prefix-row
 array-share-prefix-row c = filled-size c
 
-slice-aggregate-first-missing : tie.Need-slice-aggregate-first-missing
-slice-aggregate-first-missing c = sym (filled-prefix (c .before))
+slice-aggregate-moves-nothing : tie.Need-slice-aggregate-moves-nothing
+slice-aggregate-moves-nothing c = sym (filled-prefix (c .before))
 
-first-missing-requires : tie.Need-first-missing-requires
-first-missing-requires c κs =
-    let row = c .before in
-    let s = begun row in
-    (row-fits (S s) (s .args .keys .now) _ (s .pre .0) (s .pre .1) (filled-prefix row) (rw (filled-is row) (stated-row _ _ _ (stated row))), s .pre .3)
+moves-nothing-requires : tie.Need-moves-nothing-requires
+moves-nothing-requires c κs = omega (arith, filled-prefix (c .before), facts (begun (c .before)) .variables-fit)
 
 returns-2 : tie.Need-returns-2
 returns-2 c =
+    let row = c .before .before .before in
+    (sym (not-moving (S (begun row)) _ _ (stated row) (sym (moves-is (c .before)) ∙ c .if1 .taken)), refl)
+
+array-share-prefix-row-2 : tie.Need-array-share-prefix-row-2
+array-share-prefix-row-2 c = filled-size (c .before .before .before)
+
+slice-aggregate-first-missing : tie.Need-slice-aggregate-first-missing
+slice-aggregate-first-missing c = sym (filled-prefix (c .before .before .before .before))
+
+first-missing-requires : tie.Need-first-missing-requires
+first-missing-requires c κs =
+    let row = c .before .before .before .before in
+    let s = begun row in
+    (row-fits (S s) (s .args .keys .now) _ (s .pre .0) (s .pre .1) (filled-prefix row) (rw (filled-is row) (stated-row _ _ _ (stated row))), s .pre .3)
+
+returns-3 : tie.Need-returns-3
+returns-3 c =
     let m = c .before in
-    let row = m .before .before in
-    (sym (not-symmetric (S (begun row)) _ _ (stated row) _ (missing-is m) (c .if1 .taken)), refl)
+    let row = row-of m in
+    (sym (not-symmetric (S (begun row)) _ _ (stated row) (moving m) _ (missing-is m) (c .if2 .taken)), refl)
 
 mul-needed : tie.Need-mul-needed
 mul-needed c =
-    let s = begun (c .before .before .before) in
+    let s = begun (row-of (c .before)) in
     let few : s .args .counts .rows + 1 ≤ 64 = omega (arith, s .pre .2) in
     let most : (s .args .counts .rows + 1) * s .args .counts .variables ≤ 64 * 512 = mul-le-mul few (facts s .variables-fit) in
     omega arith
 
-returns-3 : tie.Need-returns-3
-returns-3 c =
-    let m = c .before .before in
-    let row = m .before .before in
-    (sym (no-room (S (begun row)) _ _ (stated row) _ (missing-is m) (c .before .if1 .left) (c .if2 .taken)), refl)
-
-array-share-prefix-row-2 : tie.Need-array-share-prefix-row-2
-array-share-prefix-row-2 c = filled-size (c .before .before .before .before .before)
-
-slice-aggregate-append : tie.Need-slice-aggregate-append
-slice-aggregate-append c = sym (filled-prefix (c .before .before .before .before .before .before))
-
-append-requires : tie.Need-append-requires
-append-requires c κs = (filled-prefix (c .before .before .before .before .before .before), omega (arith, c .before .before .if2 .left))
-
 returns-4 : tie.Need-returns-4
 returns-4 c =
+    let m = c .before .before in
+    let row = row-of m in
+    (sym (no-room (S (begun row)) _ _ (stated row) (moving m) _ (missing-is m) (c .before .if2 .left) (c .if3 .taken)), refl)
+
+array-share-prefix-row-3 : tie.Need-array-share-prefix-row-3
+array-share-prefix-row-3 c = filled-size (row-of (c .before .before .before))
+
+slice-aggregate-append : tie.Need-slice-aggregate-append
+slice-aggregate-append c = sym (filled-prefix (row-of (c .before .before .before .before)))
+
+append-requires : tie.Need-append-requires
+append-requires c κs = (filled-prefix (row-of (c .before .before .before .before)), omega (arith, c .before .before .if3 .left))
+
+returns-5 : tie.Need-returns-5
+returns-5 c =
     let e = c .before .before .before .before .before in
     let m = e .before .before in
-    let row = m .before .before in
+    let row = row-of m in
     let s = begun row in (
-      sym (held (S s) _ _ (stated row) _ (missing-is m) (e .before .if1 .left) (e .if2 .left)),
+      sym (held (S s) _ _ (stated row) (moving m) _ (missing-is m) (e .before .if2 .left) (e .if3 .left)),
       c .before .before .append .ensures
           ∙ ap (λ (row : List ℕ). appended (s .args .counts .variables) (s .args .counts .rows) row (s .args .images .now)) (filled-is row),
     )
@@ -128,6 +153,6 @@ returns-4 c =
 pub offer-spec : {M : Type 1} → statement M
 offer-spec =
     tie.close
-    (tie.spec (search needs) state-requires (search needs) returns (search needs) array-share-prefix-row slice-aggregate-first-missing
-    first-missing-requires returns-2 (search needs) mul-needed returns-3 array-share-prefix-row-2 slice-aggregate-append append-requires
-    (search needs) returns-4)
+    (tie.spec (search needs) state-requires (search needs) returns (search needs) array-share-prefix-row slice-aggregate-moves-nothing
+    moves-nothing-requires returns-2 array-share-prefix-row-2 slice-aggregate-first-missing first-missing-requires returns-3 (search needs)
+    mul-needed returns-4 array-share-prefix-row-3 slice-aggregate-append append-requires (search needs) returns-5)

@@ -1,6 +1,6 @@
 -- Lists of calls: after any list from a fresh opening, refused calls included, the rows are exactly the permutations that the accepted offers not taken back
--- state, in order, repeats included, each a symmetry, and the plain formula is the text's. What carries it: `Sound`, which every call keeps. Assumes nothing.
-use mathlib.Core.Path.{_≡_, refl, ap, _∙_, subst₂}
+-- state, in order, repeats included, each a symmetry that moves something, and the plain formula is the text's. What carries it: `Sound`, which every call keeps. Assumes nothing.
+use mathlib.Core.Path.{_≡_, refl, ap, _∙_, subst, subst₂}
 use mathlib.Core.Bool.{true}
 use mathlib.Core.List.{List, [], _∷_, _++_, List·Memᴰ, List·Memᴰ·not-nil, List·Memᴰ·append-cases, List·Memᴰ·eq-of-singleton}
 use mathlib.Core.Logic.{⊎-elim}
@@ -10,6 +10,7 @@ use lib.ListN.{length, take, length-append}
 use lib.Seq.{length-take-le}
 use Rattle.store.specs.Refusals.{Said, done, refused}
 use Rattle.store.specs.Stores.{withRows, withoutRow, plainOf, rowsOf, heldRows}
+use Rattle.store.specs.Identity.{MovesSomething}
 use Rattle.keys.proofs.RightLaws.{written-right}
 use Rattle.standing.specs.Keyed.{Keyed, withKeys, wellFormed}
 use Rattle.standing.proofs.StandingLaws.{well-formed, its-form, same-clauses}
@@ -26,7 +27,7 @@ use Rattle.offering.specs.Offering.{rowFor}
 use Rattle.calls.specs.Calls.{accepted as yes, Dimensions, saidOpened, openedIn, openSays, openStore, offerSays, offerStore, takenBack, withdrawSays, withdrawStore}
 use Rattle.demands.specs.Lists.{Call, offer, withdraw, lend, lentAnew, afterCall, after, butLast, heldAfter, heldFrom, accepted, offersLeft}
 use Rattle.demands.proofs.ButLast.{but-last-more}
-use Rattle.demands.proofs.Acceptance.{accepts-of, store-refused, store-accepted, accepted-symmetry, accepted-held, accepted-formed}
+use Rattle.demands.proofs.Acceptance.{accepted-iff, store-refused, store-accepted, accepted-held, accepted-formed}
 use Rattle.demands.proofs.Withdrawal.{withdrawn-refused, withdrawn-row, withdrawn-held}
 
 -- ---- what every call keeps: all of the store but its rows
@@ -60,12 +61,14 @@ accepted-keeps s names values e = rw (store-accepted s names values e) (record {
 pub record Acceptable (s : Keyed) (names values : List ℕ) : Type 0 where
   pub stated : statedBy (s .store .counts .variables) names values ≡ Stated.Permutation
   pub symmetry : IsSymmetry (rowFor (s .store) names values) (plainOf (s .store))
+  pub moves : MovesSomething (rowFor (s .store) names values)
 
 pub acceptable-alike : (s t : Keyed) (names values : List ℕ) → s .store .counts .variables ≡ t .store .counts .variables → plainOf (s .store) ≡ plainOf (t .store)
     → Acceptable s names values → Acceptable t names values
 acceptable-alike s t names values e f a = record {
   stated = rw e at (a .stated);
   symmetry = subst₂ (λ (n : ℕ) (formula : List (List ℕ)). IsSymmetry (rowStated n names values) formula) e f (a .symmetry);
+  moves = subst (λ (n : ℕ). MovesSomething (rowStated n names values)) e (a .moves);
 }
 
 -- of a store just opened: each offer held is acceptable, and these state the rows held
@@ -79,12 +82,13 @@ held-but-last o _ _ none = none
 held-but-last o _ _ (newest rows offers h names values a more e longer f) =
     rw (e, f, but-last-more rows (rowFor (o .store) names values), but-last-more offers (offer names values)) h
 
-held-symmetries : (o : Keyed) (rows : List (List ℕ)) (offers : List Call) → Held o rows offers → (row : List ℕ) → List·Memᴰ row rows → IsSymmetry row (plainOf (o .store))
-held-symmetries o _ _ none row m = absurd (List·Memᴰ·not-nil m)
-held-symmetries o _ _ (newest rows offers h names values a more e longer f) row m =
+held-rows : (o : Keyed) (rows : List (List ℕ)) (offers : List Call) → Held o rows offers → (row : List ℕ) → List·Memᴰ row rows
+    → IsSymmetry row (plainOf (o .store)) × MovesSomething row
+held-rows o _ _ none row m = absurd (List·Memᴰ·not-nil m)
+held-rows o _ _ (newest rows offers h names values a more e longer f) row m =
     ⊎-elim
-    (λ (q : List·Memᴰ row rows). held-symmetries o rows offers h row q)
-    (λ (q : List·Memᴰ row (rowFor (o .store) names values ∷ [])). rw (List·Memᴰ·eq-of-singleton q) (a .symmetry))
+    (λ (q : List·Memᴰ row rows). held-rows o rows offers h row q)
+    (λ (q : List·Memᴰ row (rowFor (o .store) names values ∷ [])). rw (List·Memᴰ·eq-of-singleton q) (a .symmetry, a .moves))
     (List·Memᴰ·append-cases rows (rw e at m))
 
 -- ---- another images slice
@@ -165,7 +169,8 @@ sound-call o s rows offers (offer names values) sound = by (ending (offerSays s 
     by (turned number place e) = rw (store-refused s names values number place e, e) sound
     by (answered yes e) =
         let k = sound .keeps in
-        let here : Acceptable s names values = record { stated = accepts-of s names values e .stated; symmetry = accepted-symmetry s names values e } in
+        let all = accepted-iff s names values .0 e in
+        let here : Acceptable s names values = record { stated = all .0 .stated; symmetry = all .1; moves = all .2 } in
         rw e
         (record {
           keeps = keeps-trans (accepted-keeps s names values e) k;
@@ -208,12 +213,13 @@ fresh s text sizes said = by (openedIn s text) refl said
     by (Opened.Refused r) e q = let z : _≡_ {A = ℕ} 0 1 = cc in absurd (omega arith)
 
 -- For every text and lent store for which opening answers, and every list of calls from there, refused ones included: the store is open and well formed,
--- its plain formula is the text's, its rows are exactly the accepted permutations of the list, and each of these is a symmetry of the formula.
+-- its plain formula is the text's, its rows are exactly the accepted permutations of the list, and each of these is a symmetry of the formula and moves something.
 pub record AfterOpening (s : Keyed) (text : List ℕ) (calls : List Call) : Type 0 where
   pub sound : Sound (openStore s text) (after (openStore s text) calls) (accepted (openStore s text) calls) (offersLeft (openStore s text) calls)
   pub opened : after (openStore s text) calls .store .counts .is_open ≡ true
   pub plain : plainOf (after (openStore s text) calls .store) ≡ formulaOf text
   pub symmetries : (row : List ℕ) → List·Memᴰ row (accepted (openStore s text) calls) → IsSymmetry row (formulaOf text)
+  pub moving : (row : List ℕ) → List·Memᴰ row (accepted (openStore s text) calls) → MovesSomething row
 
 pub after-opening : (s : Keyed) (text : List ℕ) (sizes : Dimensions) (calls : List Call) → openSays s text ≡ done sizes → AfterOpening s text calls
 after-opening s text sizes calls said =
@@ -223,5 +229,6 @@ after-opening s text sizes calls said =
       sound = sound;
       opened = same-open (sound .keeps) ∙ f .opened;
       plain = same-plain (sound .keeps) ∙ f .plain;
-      symmetries = λ row m. rw (f .plain) at (held-symmetries (openStore s text) _ _ (sound .held) row m);
+      symmetries = λ row m. rw (f .plain) at (held-rows (openStore s text) _ _ (sound .held) row m .0);
+      moving = λ row m. held-rows (openStore s text) _ _ (sound .held) row m .1;
     }

@@ -10,6 +10,7 @@ use Rattle.packed.specs.Order.{valueOf}
 use Rattle.store.specs.Literals.{isNegative, oppositeOf}
 use Rattle.store.specs.Refusals.{done}
 use Rattle.store.specs.Stores.{plainOf}
+use Rattle.store.specs.Identity.{MovesSomething}
 use Rattle.store.proofs.FormLaws.{opposite-is}
 use Rattle.store.proofs.Formed.{formed, row-of}
 use Rattle.store.proofs.Within.{literals-within}
@@ -25,7 +26,7 @@ use Rattle.lexleader.proofs.AlwaysTrue.{always-iff, holds-judged}
 use Rattle.calls.specs.Calls.{accepted, offerSays}
 use Rattle.demands.specs.Demand2.{Permitted}
 use Rattle.demands.specs.AlwaysTrue.{AlwaysTrue}
-use Rattle.demands.proofs.Acceptance.{accepted-iff-symmetry}
+use Rattle.demands.proofs.Acceptance.{accepted-iff}
 
 -- a variable and its negation, from a literal and its opposite
 opposites-are : (clause : List ℕ) → (hasOpposites clause ≡ true) ↔ ((i : ℕ) × List·Memᴰ (2 * i) clause × List·Memᴰ (2 * i + 1) clause)
@@ -49,12 +50,12 @@ opposites-are clause = (
         (code / 2, Memᴰ·cast (omega arith) one, Memᴰ·cast turned other)
 
 accepted-still : (s : Keyed) (names values : List ℕ) → Permitted s names values → IsFormerSymmetry (rowFor (s .store) names values) (plainOf (s .store))
-    → offerSays s names values ≡ done accepted
-accepted-still s names values p former =
+    → MovesSomething (rowFor (s .store) names values) → offerSays s names values ≡ done accepted
+accepted-still s names values p former moves =
     let n = s .store .counts .variables in
-    accepted-iff-symmetry s names values (p .opened) (p .formed) (p .not-full) (p .room) (p .stated) .1
-    (symmetry-still n (rowFor (s .store) names values) (plainOf (s .store)) (row-of n (rowFor (s .store) names values) (stated-row n names values (p .stated)))
-    (literals-within (s .store) (formed (s .store) (its-form s (p .formed)))) former)
+    let symmetric = symmetry-still n (rowFor (s .store) names values) (plainOf (s .store))
+    (row-of n (rowFor (s .store) names values) (stated-row n names values (p .stated))) (literals-within (s .store) (formed (s .store) (its-form s (p .formed)))) former in
+    accepted-iff s names values .1 (p, symmetric, moves)
 
 pub always-true : AlwaysTrue
 always-true = record {

@@ -12,7 +12,8 @@ use Rattle.dimacs.specs.Numbers.{isDigit, decimalFrom, digitsOf, sizeOf, numera
 use Rattle.store.specs.Literals.{isLiteral}
 use Rattle.store.specs.Numerals.{codeIn}
 use Rattle.store.specs.Refusals.{Said, done, refused}
-use Rattle.store.specs.Stores.{lent, closedRecord, rising, literalCount, rowsOf, cut, plainOf, heldRows, isRow, demands, isFormed}
+use Rattle.store.specs.Stores.{withRow, lent, closedRecord, rising, literalCount, rowsOf, cut, plainOf, heldRows, isRow, demands, isFormed}
+use Rattle.store.specs.Identity.{identity, staysFrom}
 use Rattle.numbers.specs.Numbers.{numbers}
 use Rattle.keys.specs.Keys.{different, total, keyBy, rightKeys}
 use Rattle.standing.specs.Keyed.{Keyed, withKeys, wellFormed, standingOf}
@@ -25,7 +26,7 @@ use Rattle.permutation.specs.Stated.{statedBy, imageAmong, rowStated}
 use Rattle.symmetry.specs.Sets.{within, sameSet}
 use Rattle.symmetry.specs.Judged.{hasOpposites, judged}
 use Rattle.symmetry.specs.Symmetry.{imageOf, clauseImage, hasImage, missingFrom}
-use Rattle.offering.specs.Offering.{ifRoom, ifSymmetry, offeredBy}
+use Rattle.offering.specs.Offering.{ifRoom, ifSymmetry, ifMoving, offeredBy}
 use Rattle.lexleader.specs.Rows.{pairsFrom, pairsOf}
 use Rattle.lexleader.specs.Made.{firstSix, laterClauses, pairClauses, rowClauses, rowsClauses, made, auxiliaries, allAuxiliaries, madeVariables}
 use Rattle.lexleader.specs.Store.{madeOf, variablesOf}
@@ -67,10 +68,20 @@ saying s = withdrawing (withdrawSays s)
 abbrev held : Keyed → Case
 held s = holding (heldRows (s .store)) (s .store .images) (variablesOf (s .store))
 
+-- what is said of `1 3` with these values, offered to that store
+abbrev valued : List ℕ → Case
+valued values = offering (offerSays opened (49 ∷ 32 ∷ 51 ∷ []) values)
+
+-- that store lent with a row that moves nothing
+abbrev idle : Keyed
+idle = withKeys (withRow (opened .store) (identity 3)) (opened .keys)
+
 -- With no row a withdrawal is 30. The turning row is held, and N is 5; taken back, its entries stay and N is 3; a second withdrawal is refused and changes
 -- nothing. The exchange, offered then, has the auxiliary 4 of the row taken back: its clauses are the table's first six, for 4 and the pairs 1, 3 and 3, 1.
 -- Over `1 -1 2` the same exchange is accepted, which sends that clause to none of the formula's and was refused for it before CR 7; the exchange of 1 and 2 is refused at
 -- clause 3 of all three, as the image of `2 3` is missing; and all three are in the made formula.
+-- `1 3`/`1 3` moves nothing and is 31; `1 3`/`1 1` is 10 before it, `1 3`/`1 -3` moves 3 and is 11, `1 3`/`3 1` has no value that equals its name. A lent row that moves nothing is held and
+-- adds nothing, neither a variable nor a clause, and can be taken back.
 computed :
     saying opened
     ∷ held (after opened (turning ∷ []))
@@ -82,6 +93,13 @@ computed :
     ∷ offering (offerSays contradictory (49 ∷ 32 ∷ 51 ∷ []) (51 ∷ 32 ∷ 49 ∷ []))
     ∷ offering (offerSays contradictory (49 ∷ 32 ∷ 50 ∷ []) (50 ∷ 32 ∷ 49 ∷ []))
     ∷ making (madeOf (contradictory .store))
+    ∷ valued (49 ∷ 32 ∷ 51 ∷ [])
+    ∷ valued (49 ∷ 32 ∷ 49 ∷ [])
+    ∷ valued (49 ∷ 32 ∷ 45 ∷ 51 ∷ [])
+    ∷ valued (51 ∷ 32 ∷ 49 ∷ [])
+    ∷ held idle
+    ∷ making (madeOf (idle .store))
+    ∷ saying idle
     ∷ []
     ≡ withdrawing (refused 30 0)
     ∷ holding ((4 ∷ 6 ∷ 2 ∷ []) ∷ []) (4 ∷ 6 ∷ 2 ∷ 0 ∷ []) 5
@@ -93,11 +111,18 @@ computed :
     ∷ offering (done accepted)
     ∷ offering (refused 11 3)
     ∷ making ((2 ∷ 3 ∷ 4 ∷ []) ∷ (2 ∷ 4 ∷ []) ∷ (4 ∷ 6 ∷ []) ∷ [])
+    ∷ offering (refused 31 0)
+    ∷ offering (refused 10 2)
+    ∷ offering (refused 11 1)
+    ∷ offering (done accepted)
+    ∷ holding ((2 ∷ 4 ∷ 6 ∷ []) ∷ []) (2 ∷ 4 ∷ 6 ∷ 0 ∷ []) 3
+    ∷ making ((2 ∷ 4 ∷ 6 ∷ []) ∷ [])
+    ∷ withdrawing (done takenBack)
     ∷ []
 unfolding
     openStore offerSays offerStore withdrawSays withdrawStore after anyOf allOf distinct table isBlank run wordsFrom linesFrom isDigit decimalFrom digitsOf sizeOf numeralOf
     isLiteral codeIn rising literalCount rowsOf cut plainOf heldRows isName isRow demands isFormed different total keyBy numbers rightKeys wellFormed standingOf afterComments wordsIn sameBytes fourWords sizesOf problemIn
     problemOf scanFrom literalsIn endsFrom clausesFrom bodyOf formulaOf openedBy notNumber badNameAfter badName badValueAfter namesOn valuesOn statedBy imageAmong rowStated within sameSet
-    imageOf clauseImage hasOpposites judged hasImage missingFrom ifRoom ifSymmetry offeredBy pairsFrom pairsOf laterClauses pairClauses rowClauses rowsClauses made auxiliaries allAuxiliaries
+    imageOf clauseImage hasOpposites judged hasImage missingFrom ifRoom ifSymmetry ifMoving staysFrom offeredBy pairsFrom pairsOf laterClauses pairClauses rowClauses rowsClauses made auxiliaries allAuxiliaries
     madeVariables madeOf variablesOf
 computed = refl

@@ -1,4 +1,5 @@
 pub mod ButLast
+pub mod Decided
 pub mod Acceptance
 pub mod Withdrawal
 pub mod AfterCalls
@@ -18,3 +19,4 @@ pub mod Examples
 pub mod Keys
 pub mod Signs
 pub mod AlwaysTrue
+pub mod NoIdleLines

@@ -1,12 +1,13 @@
--- The walks of an offer find the first failing word, or clause: 7 to 11. Assumes nothing.
-use mathlib.Core.Path.{_≡_, refl, sym, ap, _∙_}
+-- The walks of an offer find the first failing word, or clause: 7 to 11; and 31 is by the row that the lines state. Assumes nothing.
+use mathlib.Core.Path.{_≡_, refl, sym, ap, ap₂, _∙_}
 use mathlib.Core.Bool.{Bool, true, false, cond, not, _&&_, _||_, or-false}
 use mathlib.Core.List.{List, [], _∷_, _++_, map, List·Memᴰ, List·Memᴰ·head, List·Memᴰ·tail, Memᴰ·cast, Memᴰ·map, Memᴰ·of-map}
 use mathlib.Core.Logic.{_↔_}
-use Prim.Native.Nat.{ℕ, _+_, _%_, _≤_}
+use Prim.Native.Nat.{ℕ, zero, suc, _+_, _*_, _%_, _≤_, _<_}
+use native.Mathlib.Nat.{not-suc-le-zero, le-of-suc-le-suc}
 use native.Mathlib.Omega.{arith}
 use borrow.Author.Tests.{eq-eqb, ne-eqb, not-true}
-use lib.ListN.{length, length-append, length-map}
+use lib.ListN.{length, getD, length-append, length-map}
 use lib.Dec.{eqb, ltb}
 use Rattle.lists.specs.Tests.{anyOf, has}
 use Rattle.lists.proofs.Cases.{never, and-l, and-r, and-both, not-so}
@@ -15,17 +16,21 @@ use Rattle.dimacs.specs.Numbers.{Numeral, numeralOf}
 use Rattle.dimacs.specs.declared.Number.{Number}
 use Rattle.store.specs.Literals.{codeOf, variableOf, isNegative}
 use Rattle.store.specs.Numerals.{codeIn}
+use Rattle.store.specs.Identity.{movesNothing}
 use Rattle.store.proofs.FormLaws.{literal-low, literal-high, literal-within}
 use Rattle.opening.proofs.CodeLaws.{coded}
-use Rattle.permutation.specs.Lines.{isName, notNumber, badNameAfter, badValueAfter, namesOn}
+use Rattle.permutation.specs.Lines.{isName, notNumber, badNameAfter, badValueAfter, namesOn, valuesOn}
+use Rattle.permutation.specs.Stated.{statedBy, rowStated}
 use Rattle.permutation.specs.declared.Fault.{Fault}
-use Rattle.permutation.proofs.InOrder.{isValue}
+use Rattle.permutation.specs.declared.Stated.{Stated}
+use Rattle.permutation.proofs.InOrder.{isValue, in-order}
 use Rattle.permutation.proofs.NameLaws.{name-literal, name-sign, is-name, no-name}
+use Rattle.permutation.proofs.Theorem.{each-own-iff}
 use Rattle.symmetry.specs.Judged.{hasOpposites, judged}
 use Rattle.symmetry.specs.Symmetry.{hasImage, missingFrom}
 use Rattle.symmetry.proofs.SetLaws.{has-iff}
 use Rattle.symmetry.proofs.Theorem.{hasImage-iff}
-use Rattle.demands.specs.Reasons.{AllPass, Reads, IsNumber, Numeric, HasSize, Name, Value, HasImage}
+use Rattle.demands.specs.Reasons.{AllPass, Reads, IsNumber, Numeric, HasSize, Name, Value, SameNumbers, HasImage}
 use Rattle.demands.proofs.Firsts.{Turn, on, stop, Walked, walked}
 
 -- a fault at the place of the word at which the walk stops
@@ -222,6 +227,65 @@ module _ (n end : ℕ) (line : List ℕ) (all : AllPass (Name n) (wordsAt line 0
   pub value-end : (words : List Piece) → valueWalk words [] ≡ cond (ltb (length words) (length nameWords)) (Fault.At end) Fault.Nowhere
   unfolding badValueAfter namesOn
   value-end words = let size : length (seen words) ≡ length words = omega (arith, seen-length [] words) in rw (size, length-map nameWords variable)
+
+-- ---- 31
+
+-- names are numbers without a sign
+abbrev AllNames : List Piece → Type 0
+AllNames words = (y : Piece) → List·Memᴰ y words → (x : Number) × Reads y x × (x .negative ≡ false)
+
+-- a name and a value are the same number, and by their codes
+module _ (name value : Piece) (x : Number) (named : Reads name x) (plus : x .negative ≡ false) where
+  one-number : Reads value x → codeIn value ≡ 2 * variable name
+  one-number same = let code = rw plus at (coded value x same .code) in omega (arith, size-of name x named, code)
+
+  one-code : (y : Number) → Reads value y → codeIn value ≡ 2 * variable name → Reads value x
+  one-code y reads e =
+      let even : isNegative (codeIn value) ≡ false = ne-eqb (codeIn value % 2) 1 (λ odd. omega arith) in
+      let sign : y .negative ≡ false = sym (sign-of value y reads) ∙ even in
+      let size : y .size ≡ x .size = omega (arith, size-of value y reads, size-of name x named) in
+      reads ∙ ap₂ (λ (s : ℕ) (b : Bool). Numeral.Is (record { size = s; negative = b })) size (sign ∙ sym plus)
+
+-- place by place
+abbrev EachOwn : List Piece → List Piece → Type 0
+EachOwn names values = (k : ℕ) → k < length (map variable names) → getD (map codeIn values) k 0 ≡ 2 * getD (map variable names) k 0
+
+same-numbers : (names values : List Piece) → AllNames names → AllNumbers values → length values ≡ length names → SameNumbers names values ↔ EachOwn names values
+unfolding SameNumbers
+same-numbers [] [] named numbers e = (λ same k h. absurd (not-suc-le-zero h), λ own. tt)
+same-numbers [] (value ∷ values) named numbers e = absurd (omega arith)
+same-numbers (name ∷ names) [] named numbers e = absurd (omega arith)
+same-numbers (name ∷ names) (value ∷ values) named numbers e =
+    let rest = same-numbers names values (λ y m. named y (List·Memᴰ·tail m)) (λ y m. numbers y (List·Memᴰ·tail m)) (omega (arith, e)) in
+    (to (rest .0), from (rest .1))
+  where
+    first : (x : Number) × Reads name x × (x .negative ≡ false)
+    first = named name (List·Memᴰ·head refl)
+
+    to : (SameNumbers names values → EachOwn names values) → SameNumbers (name ∷ names) (value ∷ values) → EachOwn (name ∷ names) (value ∷ values)
+    to rest same zero h =
+        let z = same .0 in
+        one-number name value (z .0) (z .1) (sym (sign-of name (z .0) (z .1)) ∙ sign-of name (first .0) (first .1) ∙ first .2) (z .2)
+    to rest same (suc k) h = rest (same .1) k (le-of-suc-le-suc h)
+
+    from : (EachOwn names values → SameNumbers names values) → EachOwn (name ∷ names) (value ∷ values) → SameNumbers (name ∷ names) (value ∷ values)
+    from rest own =
+        let y = numbers value (List·Memᴰ·head refl) in
+        ((first .0, first .1, one-code name value (first .0) (first .1) (first .2) (y .0) (y .1) (own 0 (omega arith))), rest (λ k h. own (suc k) (omega arith)))
+
+-- "every value equals its name" exactly where the row that the lines state moves nothing
+pub idle-iff : (n : ℕ) (names values : List ℕ) → AllPass (Name n) (wordsAt names 0) → AllPass (Value (wordsAt names 0)) (wordsAt values 0)
+    → statedBy n names values ≡ Stated.Permutation → SameNumbers (wordsAt names 0) (wordsAt values 0) ↔ (movesNothing (rowStated n names values) ≡ true)
+unfolding namesOn valuesOn
+idle-iff n names values named valued stated =
+    let own = each-own-iff n names values stated in
+    let many : length (wordsAt values 0) ≡ length (wordsAt names 0) =
+    omega (arith, in-order n names values stated .as-many, length-map (wordsAt values 0) codeIn, length-map (wordsAt names 0) variable) in
+    let same = same-numbers (wordsAt names 0) (wordsAt values 0) names-plain (value-numbers n (length values) names named (wordsAt values 0) valued) many in
+    (λ s. own .1 (same .0 s), λ e. same .1 (own .0 e))
+  where
+    names-plain : AllNames (wordsAt names 0)
+    names-plain y m = let r = split-at m in let h = named (r .0) (r .1) y (r .2) in (h .0, h .1, h .2)
 
 -- ---- 11
 

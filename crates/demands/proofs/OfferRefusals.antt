@@ -1,4 +1,4 @@
--- An offer refuses by its list of reasons: each of 7 to 11 by the walk that looks for it (OfferFirsts.antt). Assumes nothing.
+-- An offer refuses by its list of reasons: each of 7 to 11 by the walk that looks for it, and 31 by the row (OfferFirsts.antt). Assumes nothing.
 use mathlib.Core.Path.{_≡_, refl, sym, ap, _∙_}
 use mathlib.Core.Bool.{Bool, true, false}
 use mathlib.Core.List.{List, [], _∷_}
@@ -8,10 +8,12 @@ use native.Mathlib.Omega.{arith}
 use borrow.Author.Tests.{eqb-true, eqb-false, ltb-true, ltb-false}
 use lib.ListN.{length}
 use lib.Dec.{eqb, ltb}
+use Rattle.lists.proofs.Cases.{never}
 use Rattle.dimacs.specs.Words.{Piece, wordsAt}
 use Rattle.store.specs.Refusals.{Said, refused, saidRefused}
 use Rattle.store.specs.Stores.{plainOf, maxRows}
 use Rattle.standing.specs.Keyed.{Keyed}
+use Rattle.store.specs.Identity.{movesNothing as movesNone}
 use Rattle.store.specs.declared.refusal.Refusal.{Refusal}
 use Rattle.permutation.specs.Lines.{notNumber, badName as nameFault, badValueAfter, namesOn}
 use Rattle.permutation.specs.Stated.{statedBy}
@@ -20,11 +22,11 @@ use Rattle.permutation.specs.declared.Stated.{Stated}
 use Rattle.permutation.proofs.Faults.{number-end, name-missing, name-first, name-end}
 use Rattle.symmetry.specs.Symmetry.{missingFrom, firstMissing}
 use Rattle.offering.specs.Offering.{rowFor, imagesNeeded, offeredBy}
-use Rattle.offering.proofs.OfferLaws.{not-stated, not-symmetric, no-room, held as taken}
+use Rattle.offering.proofs.OfferLaws.{not-stated, not-moving, not-symmetric, no-room, held as taken}
 use Rattle.calls.specs.Calls.{Accepted, accepted, saidOffered, offerSays}
 use Rattle.demands.specs.Reasons.{Reason, AllPass, Numeric, wordNotNumber, Name, badName, Value, badValue, HasImage, noSymmetry, offerReasons}
 use Rattle.demands.proofs.Firsts.{none-yet, never-both, one-first, Walked, found, none}
-use Rattle.demands.proofs.OfferFirsts.{seen-from, seen, faultAt, numberWalk, number-walked, nameWalk, name-walked, valueWalk, value-walked, value-end, clauseWalk, numberAt, clause-walked}
+use Rattle.demands.proofs.OfferFirsts.{seen-from, seen, faultAt, numberWalk, number-walked, nameWalk, name-walked, valueWalk, value-walked, value-end, idle-iff, clauseWalk, numberAt, clause-walked}
 use Rattle.demands.proofs.Refusing.{Exact, same-said, refuses, goes-on, where-true, too-short, on-store}
 
 abbrev placeIn : Piece → ℕ
@@ -84,8 +86,8 @@ module _ (n : ℕ) (names line : List ℕ) (named : AllPass (Name n) (wordsAt na
   abbrev valueFault : Fault
   valueFault = badValueAfter (namesOn names) (length line) [] (wordsAt line 0)
 
-  value-exact : {said : Said Accepted} {reasons : List Reason} → ((p : ℕ) → valueFault ≡ Fault.At p → said ≡ refused 10 p) → (valueFault ≡ Fault.Nowhere → Exact reasons said)
-      → Exact (badValue (wordsAt names 0) line ∷ reasons) said
+  value-exact : {said : Said Accepted} {reasons : List Reason} → ((p : ℕ) → valueFault ≡ Fault.At p → said ≡ refused 10 p)
+      → (valueFault ≡ Fault.Nowhere → AllPass Passes (wordsAt line 0) → Exact reasons said) → Exact (badValue (wordsAt names 0) line ∷ reasons) said
   unfolding seen-from
   value-exact {said} {reasons} to rest = by too-few refl (value-walked n (length line) names named (wordsAt line 0))
     where
@@ -101,7 +103,7 @@ module _ (n : ℕ) (names line : List ℕ) (named : AllPass (Name n) (wordsAt na
       by false q (none all e) =
           goes-on (badValue (wordsAt names 0) line)
           (λ p. ⊎-elim (λ h. never-both Passes all (h .0)) (λ h. omega (arith, h .1, ltb-false (length (wordsAt line 0)) (length (wordsAt names 0)) q)))
-          (rest (e ∙ value-end n (length line) names named (wordsAt line 0) ∙ rw q))
+          (rest (e ∙ value-end n (length line) names named (wordsAt line 0) ∙ rw q) all)
 
 module _ (s : Keyed) (names values : List ℕ) where
   abbrev n : ℕ
@@ -125,11 +127,17 @@ module _ (s : Keyed) (names values : List ℕ) where
             (number-exact 7 names (λ p e. turned (Refusal.NameNotNumber p) (rw e)) (λ a.
             name-exact n names (λ p e. turned (Refusal.BadName p) (rw (a, e))) (λ b named.
             number-exact 9 values (λ p e. turned (Refusal.ValueNotNumber p) (rw (a, b, e))) (λ c.
-            value-exact n names values named (λ p e. turned (Refusal.BadValue p) (rw (a, b, c, e))) (λ d.
+            value-exact n names values named (λ p e. turned (Refusal.BadValue p) (rw (a, b, c, e))) (λ d valued.
             let stated : statedBy n names values ≡ Stated.Permutation = rw (a, b, c, d) in
-            symmetry-exact (rowFor (s .store) names values) (plainOf (s .store))
-            (λ k e. ap saidOffered (not-symmetric (s .store) names values stated (k + 1) (sym e) (λ z. omega arith))) (λ e.
-            too-short accepted (imagesNeeded (s .store)) (length (s .store .images))
-            (λ h. ap saidOffered (taken (s .store) names values stated 0 (sym e) refl h))
-            (λ h. ap saidOffered (no-room (s .store) names values stated 0 (sym e) refl h)))))))),
+            let idle = idle-iff n names values named valued stated in
+            where-true (movesNone (rowFor (s .store) names values))
+            (λ e. (idle .1 e, ap saidOffered (not-moving (s .store) names values stated e)))
+            (λ moving. (
+              λ same. never (sym moving ∙ idle .0 same),
+              symmetry-exact (rowFor (s .store) names values) (plainOf (s .store))
+                  (λ k e. ap saidOffered (not-symmetric (s .store) names values stated moving (k + 1) (sym e) (λ z. omega arith))) (λ e.
+                  too-short accepted (imagesNeeded (s .store)) (length (s .store .images))
+                  (λ h. ap saidOffered (taken (s .store) names values stated moving 0 (sym e) refl h))
+                  (λ h. ap saidOffered (no-room (s .store) names values stated moving 0 (sym e) refl h))),
+            ))))))),
       )))

@@ -17,6 +17,7 @@ use Rattle.store.specs.Literals.{isLiteral}
 use Rattle.store.specs.Numerals.{codeIn}
 use Rattle.store.specs.Refusals.{Said, done, refused}
 use Rattle.store.specs.Stores.{lent, closedRecord, rising, literalCount, rowsOf, cut, plainOf, heldRows, isRow, demands, isFormed}
+use Rattle.store.specs.Identity.{staysFrom}
 use Rattle.numbers.specs.Numbers.{numbers}
 use Rattle.keys.specs.Keys.{different, total, keyBy, rightKeys}
 use Rattle.standing.specs.Keyed.{Keyed, withKeys, wellFormed, standingOf}
@@ -29,7 +30,7 @@ use Rattle.permutation.specs.Stated.{statedBy, imageAmong, rowStated}
 use Rattle.symmetry.specs.Sets.{within, sameSet}
 use Rattle.symmetry.specs.Judged.{hasOpposites, judged}
 use Rattle.symmetry.specs.Symmetry.{imageOf, clauseImage, hasImage, missingFrom}
-use Rattle.offering.specs.Offering.{ifRoom, ifSymmetry, offeredBy}
+use Rattle.offering.specs.Offering.{ifRoom, ifSymmetry, ifMoving, offeredBy}
 use Rattle.lexleader.specs.Models.{literalValue}
 use Rattle.lexleader.specs.Rows.{moved, lowers, pairsFrom, pairsOf}
 use Rattle.lexleader.specs.Made.{auxiliaries, allAuxiliaries, madeVariables, agrees, settingsAfter, rowSettings, settings, filledIn}
@@ -113,7 +114,7 @@ starred :
 unfolding
     openStore offerSays offerStore anyOf allOf distinct table isBlank run wordsFrom linesFrom isDigit decimalFrom digitsOf sizeOf numeralOf isLiteral codeIn rising literalCount
     rowsOf cut plainOf isName isRow demands isFormed different total keyBy numbers rightKeys wellFormed standingOf afterComments wordsIn sameBytes fourWords sizesOf problemIn problemOf scanFrom literalsIn endsFrom clausesFrom bodyOf formulaOf openedBy notNumber
-    badNameAfter badName badValueAfter namesOn valuesOn statedBy imageAmong rowStated within sameSet imageOf clauseImage hasOpposites judged hasImage missingFrom ifRoom ifSymmetry offeredBy
+    badNameAfter badName badValueAfter namesOn valuesOn statedBy imageAmong rowStated within sameSet imageOf clauseImage hasOpposites judged hasImage missingFrom ifRoom ifSymmetry ifMoving staysFrom offeredBy
     efficiencySays hasEfficiency efficiencyOf nearestOf descendSays descendLeaves descended descendFrom stepBy lowers moved less literalValue heldRows bitsOf wordsOf binary
     wordCount bitAt bitIn spareBits isAssignment fillSays fillLeaves filledWords variablesOf madeVariables allAuxiliaries auxiliaries pairsOf pairsFrom filledIn settings
     rowSettings settingsAfter agrees

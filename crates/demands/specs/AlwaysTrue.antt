@@ -10,6 +10,7 @@ use Rattle.lists.specs.Tests.{allOf}
 use Rattle.store.specs.Literals.{isLiteral}
 use Rattle.store.specs.Refusals.{done}
 use Rattle.store.specs.Stores.{plainOf, isRow}
+use Rattle.store.specs.Identity.{MovesSomething}
 use Rattle.standing.specs.Keyed.{Keyed}
 use Rattle.symmetry.specs.Judged.{hasOpposites, judged}
 use Rattle.symmetry.specs.Symmetry.{clauseImage}
@@ -29,6 +30,6 @@ pub record AlwaysTrue : Type 0 where
   pub models : (n : ℕ) (formula : List (List ℕ)) (a : List Bool) → Model n (judged formula) a ↔ Model n formula a
   -- the image of a judged clause is one that would be judged, so that it is missing among the judged clauses just where it is missing among all
   pub image : (n : ℕ) (row clause : List ℕ) → isRow n row ≡ true → allOf (isLiteral n) clause ≡ true → hasOpposites (clauseImage row clause) ≡ hasOpposites clause
-  -- "Every permutation accepted before is accepted still.", the input rules and limits permitting, as in demand 2
+  -- "Every permutation accepted before is accepted still.", the input rules and limits permitting, as in demand 2, and but for the identity, which CR 8 turns back
   pub still : (s : Keyed) (names values : List ℕ) → Permitted s names values → IsFormerSymmetry (rowFor (s .store) names values) (plainOf (s .store))
-      → offerSays s names values ≡ done accepted
+      → MovesSomething (rowFor (s .store) names values) → offerSays s names values ≡ done accepted

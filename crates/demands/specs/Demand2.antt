@@ -9,6 +9,7 @@ use lib.ListN.{length, getD, take}
 use Rattle.lists.specs.Tests.{has}
 use Rattle.store.specs.Refusals.{Said, done, refused}
 use Rattle.store.specs.Stores.{plainOf, heldRows, maxRows}
+use Rattle.store.specs.Identity.{MovesSomething}
 use Rattle.standing.specs.Keyed.{Keyed, wellFormed}
 use Rattle.permutation.specs.Lines.{namesOn, valuesOn}
 use Rattle.permutation.specs.Stated.{statedBy}
@@ -47,9 +48,10 @@ module _ (s : Keyed) where
 
   pub record Demand2 : Type 0 where
     -- "A permutation is accepted exactly when it turns the formula's set of clauses into itself, the input rules and limits permitting,": from CR 7 on, the set of those
-    -- without a contradictory pair
+    -- without a contradictory pair, and from CR 8 on, if it moves something
     pub accepts : (names values : List ℕ)
-        → (offerSays s names values ≡ done accepted) ↔ (Permitted names values × IsSymmetry (rowFor (s .store) names values) (plainOf (s .store)))
+        → (offerSays s names values ≡ done accepted)
+        ↔ (Permitted names values × IsSymmetry (rowFor (s .store) names values) (plainOf (s .store)) × MovesSomething (rowFor (s .store) names values))
     -- the row held from then on is that permutation: "Name i goes to its value p(i); variables not named stay" (document 01)
     pub holds : (names values : List ℕ) → offerSays s names values ≡ done accepted
         → heldRows (offerStore s names values .store) ≡ heldRows (s .store) ++ (rowFor (s .store) names values ∷ [])

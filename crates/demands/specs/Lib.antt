@@ -8,3 +8,4 @@ pub mod Efficiency
 pub mod Keys
 pub mod Signs
 pub mod AlwaysTrue
+pub mod NoIdleLines

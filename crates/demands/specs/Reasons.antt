@@ -121,7 +121,7 @@ clauseOver m before w = reason 6 (closedBy before ≡ m) (w .place)
 abbrev pub clauseMissing : ℕ → List Piece → ℕ → Reason
 clauseMissing m words end = reason 6 (closedBy words < m) end
 
--- ---- what the lines of an offer are: 7 to 11
+-- ---- what the lines of an offer are: 7 to 11, and 31
 
 abbrev pub Numeric : List Piece → Piece → Type 0
 Numeric before w = IsNumber w
@@ -156,6 +156,17 @@ badValue names line = record {
   at = λ p. ((f : FirstFailing (Value names) (wordsAt line 0)) × (p ≡ f .it .place))
       ⊎ (AllPass (Value names) (wordsAt line 0) × (length (wordsAt line 0) < length names) × (p ≡ length line));
 }
+
+-- the two lines have the same numbers, place by place
+unfoldable pub SameNumbers : List Piece → List Piece → Type 0
+SameNumbers [] [] = Unit {0}
+SameNumbers [] (value ∷ values) = ⊥
+SameNumbers (name ∷ names) [] = ⊥
+SameNumbers (name ∷ names) (value ∷ values) = ((x : Number) × Reads name x × Reads value x) × SameNumbers names values
+
+-- "Refusal 31, place 0, is given where every value equals its name" (document 02, CR 8)
+abbrev pub movesNothing : List Piece → List Piece → Reason
+movesNothing names values = reason 31 (SameNumbers names values) 0
 
 -- of a clause without a contradictory pair the image is, as a set, one of the clauses without
 abbrev pub HasImage : List ℕ → List (List ℕ) → List (List ℕ) → List ℕ → Type 0
@@ -235,7 +246,7 @@ openReasons s text =
 abbrev pub onStoreReasons : Keyed → List Reason → List Reason
 onStoreReasons s reasons = notOpen (s .store) ∷ badlyFormed s ∷ reasons
 
--- "An offer tries 7, 8, 9, 10, 11 in that order, each over its whole line."
+-- "An offer tries 7, 8, 9, 10, 11 in that order, each over its whole line", and 31 "after 10 and before 11"
 abbrev pub offerReasons : Keyed → List ℕ → List ℕ → List Reason
 offerReasons s names values =
     onStoreReasons s
@@ -244,6 +255,7 @@ offerReasons s names values =
     ∷ badName (s .store .counts .variables) names
     ∷ wordNotNumber 9 values
     ∷ badValue (wordsAt names 0) values
+    ∷ movesNothing (wordsAt names 0) (wordsAt values 0)
     ∷ noSymmetry (rowFor (s .store) names values) (plainOf (s .store))
     ∷ tooShort (imagesNeeded (s .store)) (length (s .store .images))
     ∷ [])

@@ -2,13 +2,14 @@
 use mathlib.Core.Path.{_≡_, sym, _∙_}
 use mathlib.Core.Bool.{Bool}
 use mathlib.Core.List.{List, [], _++_}
-use Prim.Native.Nat.{ℕ}
+use Prim.Native.Nat.{ℕ, _≤_}
 use native.Mathlib.Omega.{arith}
 use lib.ListN.{length, take, drop}
 use Rattle.lists.specs.Tables.{table}
 use Rattle.dimacs.specs.Words.{wordsAt}
+use Rattle.store.specs.Refusals.{numberOf}
 use Rattle.store.specs.declared.refusal.Refusal.{Refusal}
-use Rattle.permutation.specs.Lines.{notNumber, badName, badValueAfter, valuesOn}
+use Rattle.permutation.specs.Lines.{notNumber, badName, badValueAfter, namesOn, valuesOn}
 use Rattle.permutation.specs.Stated.{orElse, statedBy, rowStated, rowOf}
 use Rattle.permutation.specs.Names.{Listed}
 use Rattle.permutation.specs.declared.Fault.{Fault}
@@ -52,3 +53,23 @@ module _ (n : ℕ) (names values : List ℕ) where
         → final ≡ rowOf n (take count order) (valuesOn values) ++ drop n row → final ≡ rowStated n names values ++ drop n old
     unfolding rowStated
     row-stated f old row written e = e ∙ rw (l .names, table-back n f old row written)
+
+-- a line that states no permutation is refused with one of 7 to 10
+abbrev numberIn : Stated → ℕ
+numberIn Stated.Permutation = 0
+numberIn (Stated.Refused r) = numberOf r
+
+pub stated-number : (n : ℕ) (names values : List ℕ) (r : Refusal) → statedBy n names values ≡ Stated.Refused r → numberOf r ≤ 10
+unfolding statedBy
+stated-number n names values r e =
+    rw e at
+    (by (notNumber (wordsAt names 0)) (badName n (length names) (wordsAt names 0)) (notNumber (wordsAt values 0))
+    (badValueAfter (namesOn names) (length values) [] (wordsAt values 0)))
+  where
+    by : (a b c d : Fault)
+        → numberIn (orElse a Refusal.NameNotNumber (orElse b Refusal.BadName (orElse c Refusal.ValueNotNumber (orElse d Refusal.BadValue Stated.Permutation)))) ≤ 10
+    by (Fault.At p) b c d = omega arith
+    by Fault.Nowhere (Fault.At p) c d = omega arith
+    by Fault.Nowhere Fault.Nowhere (Fault.At p) d = omega arith
+    by Fault.Nowhere Fault.Nowhere Fault.Nowhere (Fault.At p) = omega arith
+    by Fault.Nowhere Fault.Nowhere Fault.Nowhere Fault.Nowhere = omega arith

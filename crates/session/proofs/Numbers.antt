@@ -46,6 +46,7 @@ use Rattle.offering.specs.Offering.{rowFor, imagesNeeded, ifRoom, ifSymmetry, i
 use Rattle.offering.specs.declared.Offered.{Offered}
 use Rattle.calls.specs.Calls.{Accepted, accepted, Dimensions, onStore, saidOpened, openSays, openStore, saidOffered, offerSays, offerStore}
 use Rattle.demands.specs.Lists.{after}
+use Rattle.demands.proofs.Decided.{Decided, shut, bad, full, unstated, idle, asymmetric, short, taken, decided}
 use Rattle.demands.proofs.Acceptance.{accepts-of, store-accepted, accepted-formed}
 use Rattle.demands.proofs.AfterCalls.{after-opening}
 use Rattle.session.specs.Input.{maxInput, fromDivider}
@@ -63,10 +64,6 @@ problemNumber (Problem.Refused r) = numberOf r
 abbrev scannedNumber : Scanned → ℕ
 scannedNumber (Scanned.Done count) = 0
 scannedNumber (Scanned.Refused r) = numberOf r
-
-abbrev statedNumber : Stated → ℕ
-statedNumber Stated.Permutation = 0
-statedNumber (Stated.Refused r) = numberOf r
 
 abbrev saidNumber : {Values : Type 0} → Said Values → ℕ
 saidNumber (done v) = 0
@@ -159,71 +156,42 @@ open-low s ample text = problem (problemOf text) refl (problem-number text)
         scan n m (line-limits text n m end e .clauses) (scanFrom (length text) n m 0 0 (bodyOf text)) refl (scan-number (length text) n m 0 0 (bodyOf text))
     problem (Problem.Refused r) e h = h
 
--- ---- an offer: 20 and 21 by the store, 22, 7 to 11, and 23 only where the images slice is too short
-
-stated-number : (n : ℕ) (names values : List ℕ) → statedNumber (statedBy n names values) ≤ 11
-unfolding statedBy
-stated-number n names values =
-    by (notNumber (wordsAt names 0)) (badName n (length names) (wordsAt names 0)) (notNumber (wordsAt values 0))
-    (badValueAfter (namesOn names) (length values) [] (wordsAt values 0))
-  where
-    by : (a b c d : Fault)
-        → statedNumber (orElse a Refusal.NameNotNumber (orElse b Refusal.BadName (orElse c Refusal.ValueNotNumber (orElse d Refusal.BadValue Stated.Permutation)))) ≤ 11
-    by (Fault.At p) b c d = omega arith
-    by Fault.Nowhere (Fault.At p) c d = omega arith
-    by Fault.Nowhere Fault.Nowhere (Fault.At p) d = omega arith
-    by Fault.Nowhere Fault.Nowhere Fault.Nowhere (Fault.At p) = omega arith
-    by Fault.Nowhere Fault.Nowhere Fault.Nowhere Fault.Nowhere = omega arith
+-- ---- an offer: 20 and 21 by the store, 22, 7 to 11, 31, and 23 only where the images slice is too short
 
 module _ (s : Keyed) (names values : List ℕ) where
-  abbrev missing : ℕ
-  missing = firstMissing (rowFor (s .store) names values) (plainOf (s .store))
-
-  -- the tests of an offer in turn, by what each finds
-  tests : (P : ℕ → Type 0) → ((number : ℕ) → number ≤ 11 → P number) → (eqb (s .store .counts .rows) maxRows ≡ true → P 22)
-      → (eqb (s .store .counts .rows) maxRows ≡ false → leb (imagesNeeded (s .store)) (length (s .store .images)) ≡ false → P 23)
-      → P (saidNumber {Values = Accepted} (cond (eqb (s .store .counts .rows) maxRows) (refused 22 0) (saidOffered (offeredBy (s .store) names values))))
-  unfolding offeredBy ifSymmetry ifRoom
-  tests P low full short =
-      by (eqb (s .store .counts .rows) maxRows) refl (statedBy (s .store .counts .variables) names values) (stated-number (s .store .counts .variables) names values)
-    where
-      found : eqb (s .store .counts .rows) maxRows ≡ false → (e f : Bool) → leb (imagesNeeded (s .store)) (length (s .store .images)) ≡ f
-          → P (saidNumber (saidOffered (cond e (cond f Offered.Accepted (Offered.Refused (Refusal.TooShort (imagesNeeded (s .store))))) (Offered.Refused (Refusal.NoSymmetry missing)))))
-      found qa false f qf = low 11 (omega arith)
-      found qa true true qf = low 0 (omega arith)
-      found qa true false qf = short qa qf
-
-      by : (a : Bool) → eqb (s .store .counts .rows) maxRows ≡ a → (d : Stated) → statedNumber d ≤ 11
-          → P (saidNumber {Values = Accepted} (cond a (refused 22 0) (saidOffered (ifStated d missing (s .store)))))
-      by true qa d h = full qa
-      by false qa (Stated.Refused r) h = low (numberOf r) h
-      by false qa Stated.Permutation h = found qa (eqb missing 0) (leb (imagesNeeded (s .store)) (length (s .store .images))) refl
-
   -- whatever the store
   offer-number : Inner (saidNumber (offerSays s names values))
-  unfolding offerSays standingOf
-  offer-number =
-      by (s .store .counts .is_open) (wellFormed s) _ (tests Inner (λ number h. inl h) (λ _. inr (omega arith)) (λ _ _. inr (omega arith)))
+  offer-number = by (decided s names values)
     where
-      by : (a b : Bool) (said : Said Accepted) → Inner (saidNumber said)
-          → Inner (saidNumber (onStore (cond (not a) (Standing.Refused Refusal.NotOpen) (cond (not b) (Standing.Refused Refusal.BadlyFormed) Standing.Ready)) said))
-      by false b said h = inr (omega arith)
-      by true false said h = inr (omega arith)
-      by true true said h = h
+      by : Decided s names values → Inner (saidNumber (offerSays s names values))
+      by (shut q e) = rw e (inr (omega arith))
+      by (bad q e) = rw e (inr (omega arith))
+      by (full e) = rw e (inr (omega arith))
+      by (unstated r h e) = rw e (inl (omega (arith, h)))
+      by (idle a h e) = rw e (inr (omega arith))
+      by (asymmetric e) = rw e (inl (omega arith))
+      by (short a h e) = rw e (inr (omega arith))
+      by (taken a moving none room e) = rw e (inl (omega arith))
 
   -- of an open, well-formed store with an images slice as long as the limits
   offer-from-input : s .store .counts .is_open ≡ true → wellFormed s ≡ true → maxRows * maxVariables ≤ length (s .store .images) → FromInput (saidNumber (offerSays s names values))
-  unfolding offerSays
-  offer-from-input opened formed long =
-      rw (ready-of s opened formed)
-      (tests FromInput (λ number h. record { opened = λ e. omega arith; formed = λ e. omega arith; roomy = λ e. omega arith })
-      (λ _. record { opened = λ e. omega arith; formed = λ e. omega arith; roomy = λ e. omega arith })
-      (λ few short.
-      let r = rest-of (s .store) (its-form s formed) in
-      let less = lt-of-le-ne (r .rows-fit) (eqb-false (s .store .counts .rows) maxRows few) in
-      let rows : s .store .counts .rows + 1 ≤ maxRows = omega (arith, less) in
-      let most = mul-le-mul-right (s .store .counts .variables) rows in
-      absurd (omega (arith, leb-false (imagesNeeded (s .store)) (length (s .store .images)) short, r .variables-fit, most))))
+  offer-from-input opened formed long = by (decided s names values)
+    where
+      from : (number : ℕ) → (number ≤ 19) ⊎ ((number ≡ 22) ⊎ (24 ≤ number)) → FromInput number
+      from number h = record { opened = λ e. omega (arith, h); formed = λ e. omega (arith, h); roomy = λ e. omega (arith, h) }
+
+      by : Decided s names values → FromInput (saidNumber (offerSays s names values))
+      by (shut q e) = never (sym q ∙ opened)
+      by (bad q e) = never (sym q ∙ formed)
+      by (full e) = rw e (from 22 (inr (inl refl)))
+      by (unstated r h e) = rw e (from (numberOf r) (inl (omega (arith, h))))
+      by (idle a h e) = rw e (from 31 (inr (inr (omega arith))))
+      by (asymmetric e) = rw e (from 11 (inl (omega arith)))
+      by (short a h e) =
+          let rows : s .store .counts .rows + 1 ≤ maxRows = omega (arith, a .not-full) in
+          let most = mul-le-mul-right (s .store .counts .variables) rows in
+          absurd (omega (arith, h, rest-of (s .store) (its-form s formed) .variables-fit, most))
+      by (taken a moving none room e) = rw e (from 0 (inl (omega arith)))
 
 -- ---- the value lines
 
@@ -282,7 +250,7 @@ offer-stands s names values h said =
     record {
       opened = ap (λ (t : Keyed). t .store .counts .is_open) is ∙ h .opened;
       formed = accepted-formed s names values said;
-      long = rw (is, with-row-images (s .store) row (row-length (s .store .counts .variables) names values) (accepts-of s names values said .room)) (h .long);
+      long = rw (is, with-row-images (s .store) row (row-length (s .store .counts .variables) names values) (accepts-of s names values said .permitted .room)) (h .long);
     }
 
 open-stands : (s : Keyed) → Ample s → (text : List ℕ) (sizes : Dimensions) → openSays s text ≡ done sizes → StoreStands (openStore s text)

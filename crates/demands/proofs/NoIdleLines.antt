@@ -1,0 +1,69 @@
+-- Document 02, CR 8: `NoIdleLines` holds. Assumes nothing.
+use mathlib.Core.Path.{_≡_, refl, sym, _∙_}
+use mathlib.Core.Bool.{true}
+use mathlib.Core.List.{List, [], List·Memᴰ}
+use Prim.Native.Nat.{ℕ}
+use native.Mathlib.Omega.{arith}
+use Rattle.store.specs.Refusals.{done, refused}
+use Rattle.store.specs.Identity.{identity}
+use Rattle.store.proofs.Identity.{identity-length, moves-nothing-iff, identity-row}
+use Rattle.store.proofs.RowChanges.{held-count}
+use Rattle.standing.specs.Keyed.{Keyed}
+use Rattle.standing.proofs.StandingLaws.{ready-of}
+use Rattle.permutation.proofs.RowLaws.{row-length}
+use Rattle.offering.specs.Offering.{rowFor}
+use Rattle.offering.proofs.OfferLaws.{not-moving}
+use Rattle.lexleader.specs.Rows.{pairsOf}
+use Rattle.lexleader.specs.Made.{pairClauses, rowClauses, auxiliaries}
+use Rattle.lexleader.proofs.Walk.{stays-none}
+use Rattle.calls.specs.Calls.{offerSays}
+use Rattle.calls.proofs.CallLaws.{full as is-full}
+use Rattle.demands.specs.NoIdleLines.{NoIdleLines}
+use Rattle.demands.proofs.Decided.{States, Decided, shut, bad, full, unstated, idle, asymmetric, short, taken, says, decided}
+use Rattle.demands.proofs.AfterCalls.{after-opening}
+
+module _ (s : Keyed) (names values : List ℕ) where
+  abbrev n : ℕ
+  n = s .store .counts .variables
+
+  record Idle (place : ℕ) : Type 0 where
+    states : States s names values
+    is : rowFor (s .store) names values ≡ identity n
+    first : place ≡ 0
+
+  idle-of : (place : ℕ) → offerSays s names values ≡ refused 31 place → Idle place
+  idle-of place said = by (decided s names values)
+    where
+      other : {number at : ℕ} → offerSays s names values ≡ refused number at → number ≡ 31
+      other e = cc
+
+      by : Decided s names values → Idle place
+      by (shut q e) = absurd (omega (arith, other e))
+      by (bad q e) = absurd (omega (arith, other e))
+      by (full e) = absurd (omega (arith, other e))
+      by (unstated r h e) = absurd (omega (arith, other e))
+      by (idle a h e) = record { states = a; is = moves-nothing-iff n (rowFor (s .store) names values) (row-length n names values) .0 h; first = cc }
+      by (asymmetric e) = absurd (omega (arith, other e))
+      by (short a h e) = absurd (omega (arith, other e))
+      by (taken a moving none room e) = let z : _≡_ {A = ℕ} 0 1 = cc in absurd (omega arith)
+
+  says-idle : States s names values → rowFor (s .store) names values ≡ identity n → offerSays s names values ≡ refused 31 0
+  says-idle a e = says s names values a (not-moving (s .store) names values (a .stated) (moves-nothing-iff n (rowFor (s .store) names values) (row-length n names values) .1 e))
+
+no-pairs : (n : ℕ) → pairsOf (identity n) ≡ []
+unfolding pairsOf
+no-pairs n = stays-none 1 (identity n) (moves-nothing-iff n (identity n) (identity-length n) .1 refl)
+
+pub no-idle-lines : NoIdleLines
+unfolding rowClauses pairClauses auxiliaries
+no-idle-lines = record {
+  turns-back = λ s names values place. (
+    λ said. let i = idle-of s names values place said in
+        (i .states .opened, i .states .formed, i .states .not-full, i .states .stated, i .is, i .first),
+    λ h. rw (h .5) (says-idle s names values (record { opened = h .0; formed = h .1; not-full = h .2; stated = h .3 }) (h .4)),
+  );
+  none-held = λ s text sizes calls said row m. let a = after-opening s text sizes calls said in a .moving row (rw (a .sound .are-rows) at m);
+  formed = identity-row;
+  adds-none = λ e n. rw (no-pairs n) (refl, refl);
+  counts = λ s names values opened formed many. is-full s names values (ready-of s opened formed) (sym (held-count (s .store)) ∙ many);
+}

@@ -23,7 +23,7 @@ use Rattle.offering.specs.Offering.{rowFor}
 use Rattle.offering.proofs.OfferLaws.{held}
 use Rattle.calls.specs.Calls.{accepted, offerSays, offerStore}
 use Rattle.demands.specs.Demand2.{Permitted}
-use Rattle.demands.proofs.Decided.{States, Decided, shut, bad, full, unstated, idle, asymmetric, short, taken, says, decided}
+use Rattle.demands.proofs.Decided.{States, Decided, shut, misformed, full, unstated, idle, asymmetric, short, taken, says, decided}
 
 module _ (s : Keyed) (names values : List ℕ) where
   abbrev row : List ℕ
@@ -43,7 +43,7 @@ module _ (s : Keyed) (names values : List ℕ) where
     where
       by : Decided s names values → Accepts
       by (shut q e) = never e said
-      by (bad q e) = never e said
+      by (misformed q e) = never e said
       by (full e) = never e said
       by (unstated r h e) = never e said
       by (idle a h e) = never e said

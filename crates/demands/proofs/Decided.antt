@@ -43,7 +43,7 @@ module _ (s : Keyed) (names values : List ℕ) where
   -- what decides an offer, and what it then says
   pub data Decided : Type 0 where
     shut : s .store .counts .is_open ≡ false → offerSays s names values ≡ refused 20 0 → Decided
-    bad : wellFormed s ≡ false → offerSays s names values ≡ refused 21 0 → Decided
+    misformed : wellFormed s ≡ false → offerSays s names values ≡ refused 21 0 → Decided
     full : offerSays s names values ≡ refused 22 0 → Decided
     unstated : (r : Refusal) → numberOf r ≤ 10 → offerSays s names values ≡ saidRefused r → Decided
     idle : States → movesNothing row ≡ true → offerSays s names values ≡ refused 31 0 → Decided
@@ -81,5 +81,5 @@ module _ (s : Keyed) (names values : List ℕ) where
 
       standing : (a : Bool) → s .store .counts .is_open ≡ a → (b : Bool) → wellFormed s ≡ b → Decided
       standing false qa b qb = shut qa (unready s names values Refusal.NotOpen (not-open s qa))
-      standing true qa false qb = bad qb (unready s names values Refusal.BadlyFormed (badly-formed s qa qb))
+      standing true qa false qb = misformed qb (unready s names values Refusal.BadlyFormed (badly-formed s qa qb))
       standing true qa true qb = rows qa qb (eqb (s .store .counts .rows) maxRows) refl (statedBy (s .store .counts .variables) names values) refl

@@ -1,10 +1,9 @@
 -- Document 02, CR 8: `NoIdleLines` holds. Assumes nothing.
 use mathlib.Core.Path.{_≡_, refl, sym, _∙_}
-use mathlib.Core.Bool.{true}
-use mathlib.Core.List.{List, [], List·Memᴰ}
+use mathlib.Core.List.{List, []}
 use Prim.Native.Nat.{ℕ}
 use native.Mathlib.Omega.{arith}
-use Rattle.store.specs.Refusals.{done, refused}
+use Rattle.store.specs.Refusals.{refused}
 use Rattle.store.specs.Identity.{identity}
 use Rattle.store.proofs.Identity.{identity-length, moves-nothing-iff, identity-row}
 use Rattle.store.proofs.RowChanges.{held-count}
@@ -19,7 +18,7 @@ use Rattle.lexleader.proofs.Walk.{stays-none}
 use Rattle.calls.specs.Calls.{offerSays}
 use Rattle.calls.proofs.CallLaws.{full as is-full}
 use Rattle.demands.specs.NoIdleLines.{NoIdleLines}
-use Rattle.demands.proofs.Decided.{States, Decided, shut, bad, full, unstated, idle, asymmetric, short, taken, says, decided}
+use Rattle.demands.proofs.Decided.{States, Decided, shut, misformed, full, unstated, idle, asymmetric, short, taken, says, decided}
 use Rattle.demands.proofs.AfterCalls.{after-opening}
 
 module _ (s : Keyed) (names values : List ℕ) where
@@ -39,7 +38,7 @@ module _ (s : Keyed) (names values : List ℕ) where
 
       by : Decided s names values → Idle place
       by (shut q e) = absurd (omega (arith, other e))
-      by (bad q e) = absurd (omega (arith, other e))
+      by (misformed q e) = absurd (omega (arith, other e))
       by (full e) = absurd (omega (arith, other e))
       by (unstated r h e) = absurd (omega (arith, other e))
       by (idle a h e) = record { states = a; is = moves-nothing-iff n (rowFor (s .store) names values) (row-length n names values) .0 h; first = cc }

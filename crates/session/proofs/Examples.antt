@@ -48,12 +48,14 @@ turned-back : map (λ (input : List ℕ). sessionOf closed input) (problem ∷ (
 unfolding problem run linesFrom afterComments sameBytes problemIn problemOf openedBy openSays openStore fromDivider sessionOf
 turned-back = refl
 
--- `p cnf 1 0`, `%`, and then: `x`, a names line that is not read; two empty lines, of which the second is offered; `1` and `1`, an accepted row
+-- `p cnf 1 0`, `%`, and then: `x`, a names line that is not read; two empty lines, of which the second is offered; `1` and
+-- `-1`, an accepted row; `1` and `1`, which move nothing
 offered :
-    map (λ (lines : List ℕ). sessionOf closed (problem ++ (37 ∷ 10 ∷ lines))) ((120 ∷ []) ∷ (10 ∷ 10 ∷ []) ∷ (49 ∷ 10 ∷ 49 ∷ []) ∷ [])
+    map (λ (lines : List ℕ). sessionOf closed (problem ++ (37 ∷ 10 ∷ lines))) ((120 ∷ []) ∷ (10 ∷ 10 ∷ []) ∷ (49 ∷ 10 ∷ 45 ∷ 49 ∷ []) ∷ (49 ∷ 10 ∷ 49 ∷ []) ∷ [])
     ≡ ended (done accepted) (opened 0 (0 ∷ []))
     ∷ ended (refused 8 0) (opened 0 (0 ∷ []))
-    ∷ ended (done accepted) (opened 1 (2 ∷ []))
+    ∷ ended (done accepted) (opened 1 (3 ∷ []))
+    ∷ ended (refused 31 0) (opened 0 (0 ∷ []))
     ∷ []
 unfolding
     closed opened problem anyOf allOf table isBlank run wordsFrom linesFrom isDigit decimalFrom digitsOf sizeOf numeralOf isLiteral codeIn rising

@@ -7,24 +7,21 @@ use mathlib.Core.Logic.{_⊎_, inl, inr, ⊎-elim, _↔_}
 use Prim.Native.Nat.{ℕ, _+_, _*_, _≤_}
 use native.Mathlib.Nat.{mul-le-mul-right}
 use native.Mathlib.Omega.{arith}
-use borrow.Author.Tests.{eqb-false, leb-false}
-use lib.Arith.{lt-of-le-ne}
 use lib.ListN.{length, take}
 use lib.Dec.{eqb, leb, ltb}
-use Rattle.lists.proofs.Cases.{lt-or-le}
-use Rattle.dimacs.specs.Words.{Piece, wordsAt}
+use Rattle.lists.proofs.Cases.{never, lt-or-le}
+use Rattle.dimacs.specs.Words.{Piece}
 use Rattle.dimacs.specs.Lines.{linesAt}
 use Rattle.dimacs.specs.Numbers.{numeralOf}
 use Rattle.store.specs.Literals.{variableOf}
 use Rattle.store.specs.Numerals.{isNumeral, codeIn}
 use Rattle.store.specs.Refusals.{Said, done, refused, numberOf}
-use Rattle.store.specs.Stores.{plainOf, maxVariables, maxClauses, maxLiterals, maxRows}
-use Rattle.standing.specs.Keyed.{Keyed, wellFormed, standingOf}
-use Rattle.standing.specs.declared.Standing.{Standing}
+use Rattle.store.specs.Stores.{maxVariables, maxClauses, maxLiterals, maxRows}
+use Rattle.standing.specs.Keyed.{Keyed, wellFormed}
 use Rattle.store.specs.declared.refusal.Refusal.{Refusal}
 use Rattle.store.proofs.Demands.{rest-of}
 use Rattle.store.proofs.RowChanges.{with-row-images}
-use Rattle.standing.proofs.StandingLaws.{ready-of, its-form}
+use Rattle.standing.proofs.StandingLaws.{its-form}
 use Rattle.comments.specs.Comments.{afterComments}
 use Rattle.opening.specs.Problem.{withinLimits, problemIn, problemOf, sizesOf}
 use Rattle.opening.specs.Clauses.{scanFrom}
@@ -36,17 +33,11 @@ use Rattle.opening.specs.declared.Sizes.{Sizes}
 use Rattle.opening.proofs.ProblemLaws.{line-limits}
 use Rattle.opening.proofs.DoneLaws.{counted}
 use Rattle.opening.proofs.OpeningLaws.{long-enough}
-use Rattle.permutation.specs.Lines.{notNumber, badName, badValueAfter, namesOn}
-use Rattle.permutation.specs.Stated.{statedBy, orElse}
-use Rattle.permutation.specs.declared.Fault.{Fault}
-use Rattle.permutation.specs.declared.Stated.{Stated}
 use Rattle.permutation.proofs.RowLaws.{row-length}
-use Rattle.symmetry.specs.Symmetry.{firstMissing}
-use Rattle.offering.specs.Offering.{rowFor, imagesNeeded, ifRoom, ifSymmetry, ifStated, offeredBy}
-use Rattle.offering.specs.declared.Offered.{Offered}
-use Rattle.calls.specs.Calls.{Accepted, accepted, Dimensions, onStore, saidOpened, openSays, openStore, saidOffered, offerSays, offerStore}
+use Rattle.offering.specs.Offering.{rowFor}
+use Rattle.calls.specs.Calls.{Accepted, accepted, Dimensions, saidOpened, openSays, openStore, offerSays, offerStore}
 use Rattle.demands.specs.Lists.{after}
-use Rattle.demands.proofs.Decided.{Decided, shut, bad, full, unstated, idle, asymmetric, short, taken, decided}
+use Rattle.demands.proofs.Decided.{Decided, shut, misformed, full, unstated, idle, asymmetric, short, taken, decided}
 use Rattle.demands.proofs.Acceptance.{accepts-of, store-accepted, accepted-formed}
 use Rattle.demands.proofs.AfterCalls.{after-opening}
 use Rattle.session.specs.Input.{maxInput, fromDivider}
@@ -158,6 +149,9 @@ open-low s ample text = problem (problemOf text) refl (problem-number text)
 
 -- ---- an offer: 20 and 21 by the store, 22, 7 to 11, 31, and 23 only where the images slice is too short
 
+from-input : (number : ℕ) → number ≤ 15 → FromInput number
+from-input number h = record { opened = λ e. omega arith; formed = λ e. omega arith; roomy = λ e. omega arith }
+
 module _ (s : Keyed) (names values : List ℕ) where
   -- whatever the store
   offer-number : Inner (saidNumber (offerSays s names values))
@@ -165,7 +159,7 @@ module _ (s : Keyed) (names values : List ℕ) where
     where
       by : Decided s names values → Inner (saidNumber (offerSays s names values))
       by (shut q e) = rw e (inr (omega arith))
-      by (bad q e) = rw e (inr (omega arith))
+      by (misformed q e) = rw e (inr (omega arith))
       by (full e) = rw e (inr (omega arith))
       by (unstated r h e) = rw e (inl (omega (arith, h)))
       by (idle a h e) = rw e (inr (omega arith))
@@ -177,21 +171,18 @@ module _ (s : Keyed) (names values : List ℕ) where
   offer-from-input : s .store .counts .is_open ≡ true → wellFormed s ≡ true → maxRows * maxVariables ≤ length (s .store .images) → FromInput (saidNumber (offerSays s names values))
   offer-from-input opened formed long = by (decided s names values)
     where
-      from : (number : ℕ) → (number ≤ 19) ⊎ ((number ≡ 22) ⊎ (24 ≤ number)) → FromInput number
-      from number h = record { opened = λ e. omega (arith, h); formed = λ e. omega (arith, h); roomy = λ e. omega (arith, h) }
-
       by : Decided s names values → FromInput (saidNumber (offerSays s names values))
       by (shut q e) = never (sym q ∙ opened)
-      by (bad q e) = never (sym q ∙ formed)
-      by (full e) = rw e (from 22 (inr (inl refl)))
-      by (unstated r h e) = rw e (from (numberOf r) (inl (omega (arith, h))))
-      by (idle a h e) = rw e (from 31 (inr (inr (omega arith))))
-      by (asymmetric e) = rw e (from 11 (inl (omega arith)))
+      by (misformed q e) = never (sym q ∙ formed)
+      by (full e) = rw e (record { opened = λ q. omega arith; formed = λ q. omega arith; roomy = λ q. omega arith })
+      by (unstated r h e) = rw e (from-input (numberOf r) (omega (arith, h)))
+      by (idle a h e) = rw e (record { opened = λ q. omega arith; formed = λ q. omega arith; roomy = λ q. omega arith })
+      by (asymmetric e) = rw e (from-input 11 (omega arith))
       by (short a h e) =
           let rows : s .store .counts .rows + 1 ≤ maxRows = omega (arith, a .not-full) in
           let most = mul-le-mul-right (s .store .counts .variables) rows in
           absurd (omega (arith, h, rest-of (s .store) (its-form s formed) .variables-fit, most))
-      by (taken a moving none room e) = rw e (from 0 (inl (omega arith)))
+      by (taken a moving none room e) = rw e (from-input 0 (omega arith))
 
 -- ---- the value lines
 
@@ -258,9 +249,6 @@ unfolding openStore after
 open-stands s ample text sizes said =
     let fresh = after-opening s text sizes [] said in
     record { opened = fresh .opened; formed = fresh .sound .formed; long = ample .images }
-
-from-input : (number : ℕ) → number ≤ 15 → FromInput number
-from-input number h = record { opened = λ e. omega arith; formed = λ e. omega arith; roomy = λ e. omega arith }
 
 -- the session of an input, by its two reasons to be 15
 by-input : (P : ℕ → Type 0) (s : Keyed) (input : List ℕ) → (BadInput input → P 15)

@@ -246,7 +246,7 @@ symbreak_stored plain_offer_indexed(RECORD, FORMULA, uint16_t *images, size_t im
     uint8_t state[MAX_N + 1] = {0};
     reader in = {names, 0, names_len, 0};
     int v, kind;
-    size_t count = 0, taken = 0, bad = SIZE_MAX; /* bad: the first word that offends, where none is no number */
+    size_t count = 0, taken = 0, moved = 0, bad = SIZE_MAX; /* bad: the first word that offends, where none is no number */
     uint64_t missing, needed = (rows + 1) * n;
     (void)literals_len, (void)ends_len, (void)keys_len;
     if (rows == MAX_ROWS) REFUSE(SYMBREAK_ROWS_FULL, 0);
@@ -270,11 +270,13 @@ symbreak_stored plain_offer_indexed(RECORD, FORMULA, uint16_t *images, size_t im
             bad = in.start;
         } else {
             state[variable] = TAKEN;
+            moved += v != name[taken];
             row[name[taken++] - 1] = (uint16_t)(2 * variable + (v < 0));
         }
     }
     if (kind == OTHER) REFUSE(SYMBREAK_VALUE_NOT_NUMBER, in.start);
     if (bad != SIZE_MAX || taken < count) REFUSE(SYMBREAK_BAD_VALUE, bad != SIZE_MAX ? bad : values_len);
+    if (moved == 0) REFUSE(SYMBREAK_MOVES_NOTHING, 0);
     missing = first_missing(n, m, literals, ends, keys, index, row);
     if (missing) REFUSE(SYMBREAK_NO_SYMMETRY, missing);
     if (images_len < needed) REFUSE(SYMBREAK_TOO_SHORT, needed);

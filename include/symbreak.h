@@ -32,7 +32,7 @@ extern "C" {
 #define SYMBREAK_MAX_STACK 36864
 
 /* Refusals, each with its place. Those of a text or a line have the offset in bytes, from 0, of the word that offends, unless the comment says which
- * other place; 11 and 23 have a number, as said there; the place of 12, 13, 14, 20, 21, 22 and 30 is always 0. */
+ * other place; 11 and 23 have a number, as said there; the place of 12, 13, 14, 20, 21, 22, 30 and 31 is always 0. */
 enum symbreak_refusal {
     SYMBREAK_NO_REFUSAL = 0,
     SYMBREAK_NO_PROBLEM_LINE = 1,   /* text: no problem line `p cnf n m` (place: the first line that is no comment, or the text's length) */
@@ -53,7 +53,8 @@ enum symbreak_refusal {
     SYMBREAK_BADLY_FORMED = 21,     /* the store is badly formed */
     SYMBREAK_ROWS_FULL = 22,        /* an offer with 64 rows held */
     SYMBREAK_TOO_SHORT = 23,        /* a slice that is to be written is too short (place: the length needed, in elements) */
-    SYMBREAK_NO_ROW = 30            /* a withdrawal where no row is held */
+    SYMBREAK_NO_ROW = 30,           /* a withdrawal where no row is held */
+    SYMBREAK_MOVES_NOTHING = 31     /* an offer in which every value equals its name */
 };
 
 /* The record of a store: is_open is 0 for closed, and anything else for open. */
@@ -113,9 +114,9 @@ symbreak_stored symbreak_open(uint64_t variables, uint64_t clauses, uint64_t row
 
 /* Offers a permutation p: a line of names and a line of values in that order, without line feeds. p takes each name to its value, one of the names or, with a
  * `-`, the negation of one, each once; variables that are not named stay, and -i goes to the opposite of what i goes to. It is held, as one row more, exactly when
- * it takes the formula's set of clauses to itself, without those that hold a literal and its negation: they are always true. images must have room for
- * (rows + 1) * n entries.
- * Refusals 20, 21, 22, 7, 8, 9, 10, 11, 23, in this order. */
+ * it moves something and takes the formula's set of clauses to itself, without those that hold a literal and its negation: they are always true. images must have
+ * room for (rows + 1) * n entries.
+ * Refusals 20, 21, 22, 7, 8, 9, 10, 31, 11, 23, in this order. */
 symbreak_stored symbreak_offer(uint64_t variables, uint64_t clauses, uint64_t rows, uint64_t is_open, const uint16_t *literals, size_t literals_len,
                                const uint16_t *ends, size_t ends_len, const uint64_t *keys, size_t keys_len, uint16_t *images, size_t images_len,
                                const uint8_t *names, size_t names_len, const uint8_t *values, size_t values_len);

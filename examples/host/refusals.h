@@ -29,6 +29,7 @@ static const struct {
     [SYMBREAK_ROWS_FULL] = {"the store holds as many permutations as it can", NULL},
     [SYMBREAK_TOO_SHORT] = {"a lent slice is too short", "length needed"},
     [SYMBREAK_NO_ROW] = {"the store holds no permutation to take back", NULL},
+    [SYMBREAK_MOVES_NOTHING] = {"it moves nothing, every value equals its name", NULL},
 };
 
 /* Whether a call was refused, and if so says why in words. */

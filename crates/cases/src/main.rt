@@ -1,4 +1,4 @@
-// Document 01's unstarred cases ("Tried on both edges") and CR 1's comments, run: each line is a case, its refusal (0 for none) and its place. Then CR 4's outside
+// Document 01's unstarred cases ("Tried on both edges"), CR 8's idle line and CR 1's comments, run: each line is a case, its refusal (0 for none) and its place. Then CR 4's outside
 // vectors, tables 2 and 3 of source document 000: each line is a row, the efficiency printed there, and ours.
 use offering::Offered;
 use opening::Opened;
@@ -35,7 +35,7 @@ fn opened(name: &[u8], text: &[u8]) {
     }
 }
 
-// Row 64 is held, the next is 22.
+// An idle line is turned back, and 64 rows are held.
 fn rows() {
     let mut literals = [0u16; 8];
     let mut ends = [0u16; 8];
@@ -48,9 +48,28 @@ fn rows() {
         &mut ends,
         &mut keys,
     );
-    let counts = offers(r.counts, 63, &literals, &ends, &keys, &mut images);
-    let full = offered(b"row 64: ", counts, &literals, &ends, &keys, &mut images);
-    held(offered(b"row 65: ", full, &literals, &ends, &keys, &mut images));
+    let none = offered(
+        b"an idle line: ",
+        r.counts,
+        &literals,
+        &ends,
+        &keys,
+        &mut images,
+        b"1 2",
+    );
+    last_rows(
+        offers(none, 63, &literals, &ends, &keys, &mut images),
+        &literals,
+        &ends,
+        &keys,
+        &mut images,
+    );
+}
+
+// Row 64 is held, the next is 22.
+fn last_rows(counts: Record, literals: &[u16], ends: &[u16], keys: &[u64], images: &mut [u16]) {
+    let full = offered(b"row 64: ", counts, literals, ends, keys, images, b"2 1");
+    held(offered(b"row 65: ", full, literals, ends, keys, images, b"2 1"));
 }
 
 // The record after some offers of the same exchange.
@@ -79,8 +98,9 @@ fn offered(
     ends: &[u16],
     keys: &[u64],
     images: &mut [u16],
+    values: &[u8],
 ) -> Record {
-    let r = calls::offer(counts, literals, ends, keys, images, b"1 2", b"2 1");
+    let r = calls::offer(counts, literals, ends, keys, images, b"1 2", values);
     let answer = r.answer;
     match answer {
         Offered::Accepted => show(name, 0, 0),

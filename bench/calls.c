@@ -263,6 +263,7 @@ static void to_offer(unsigned n, unsigned m, unsigned rows) { closed_formula(n, 
 static void to_offer_turning(unsigned n, unsigned m, unsigned rows) { turning = 1, to_offer(n, m, rows), turning = 0; }
 static void to_refuse_last(unsigned n, unsigned m, unsigned rows) { to_offer(n, m, rows), spoil(m - 1); }
 static void to_refuse_first(unsigned n, unsigned m, unsigned rows) { to_offer(n, m, rows), spoil(0); }
+static void to_refuse_idle(unsigned n, unsigned m, unsigned rows) { to_offer(n, m, rows), memcpy(values[0], names, names_len), values_len[0] = names_len; }
 static void to_start_up(unsigned n, unsigned m, unsigned rows) { closed_formula(n, m), write_offers(rows); }
 static void to_check(unsigned n, unsigned m, unsigned rows) { closed_formula(n, m), full_rows(rows), fill_in(&plain), w.said = 0; }
 static void to_check_turning(unsigned n, unsigned m, unsigned rows) { closed_formula(n, m), full_turning_rows(rows), fill_in(&plain), w.said = 0; }
@@ -392,6 +393,7 @@ static const job jobs[] = {
     {"offer accepted that turns every sign, row 64", to_offer_turning, offer, 512, 4096, 64, 0, 64},
     {"offer refused at clause 4,096", to_refuse_last, offer, 512, 4096, 64, SYMBREAK_NO_SYMMETRY, 4096},
     {"offer refused at clause 1", to_refuse_first, offer, 512, 4096, 64, SYMBREAK_NO_SYMMETRY, 1},
+    {"offer refused, every value equals its name", to_refuse_idle, offer, 512, 4096, 64, SYMBREAK_MOVES_NOTHING, 0},
     {"offer accepted, 4,096 clauses with a contradictory pair whose images are missing, row 64", to_offer_pairs, offer, 512, 4096, 64, 0, 64},
     {"offer accepted, one such clause of 12,288 literals, row 64", to_offer_long_pair, offer, 512, 1, 64, 0, 64},
     {"start-up: forty offers accepted, the same formula, rows 1 to 40", to_start_up, start_up, 512, 4096, OFFERS, 0, OFFERS},

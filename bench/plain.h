@@ -34,7 +34,7 @@ static inline size_t plain_slot(uint64_t key) { return key >> 50; }
 uint32_t plain_make_index(uint64_t n, uint64_t m, uint64_t rows, uint64_t is_open, const uint16_t *literals, size_t literals_len, const uint16_t *ends,
                           size_t ends_len, const uint64_t *keys, size_t keys_len, const uint16_t *images, size_t images_len, plain_index *index);
 
-/* An offer to an open store known to be well formed, with its index: refusals 22, 7 to 11, 23. */
+/* An offer to an open store known to be well formed, with its index: refusals 22, 7 to 10, 31, 11, 23. */
 symbreak_stored plain_offer_indexed(uint64_t n, uint64_t m, uint64_t rows, uint64_t is_open, const uint16_t *literals, size_t literals_len,
                                     const uint16_t *ends, size_t ends_len, const uint64_t *keys, size_t keys_len, uint16_t *images, size_t images_len,
                                     const uint8_t *names, size_t names_len, const uint8_t *values, size_t values_len, const plain_index *index);

@@ -63,7 +63,7 @@ openStore s text =
     let ends = written answer (endsFrom 0 (bodyOf text)) (s .store .ends) in
     withKeys (lent (countsOpened answer (s .store .counts)) literals ends (s .store .images)) (written answer (keysOf (formulaOf text)) (s .keys))
 
--- ---- offer: 20, 21, 22, then 7, 8, 9, 10, 11, 23
+-- ---- offer: 20, 21, 22, then 7, 8, 9, 10, 31, 11, 23
 
 -- what an offer that isn't refused says
 pub data Accepted : Type 0 where

@@ -23,7 +23,7 @@ use Rattle.offering.specs.Offering.{rowFor}
 use Rattle.offering.proofs.OfferLaws.{held}
 use Rattle.calls.specs.Calls.{accepted, offerSays, offerStore}
 use Rattle.demands.specs.Demand2.{Permitted}
-use Rattle.demands.proofs.Decided.{States, Decided, shut, misformed, full, unstated, idle, asymmetric, short, taken, says, decided}
+use Rattle.demands.proofs.Decided.{Decided, shut, misformed, full, unstated, idle, asymmetric, short, taken, says, decided}
 
 module _ (s : Keyed) (names values : List ℕ) where
   abbrev row : List ℕ
@@ -50,27 +50,24 @@ module _ (s : Keyed) (names values : List ℕ) where
       by (asymmetric e) = never e said
       by (short a h e) = never e said
       by (taken a moving none room e) = record {
-        permitted = record { opened = a .opened; formed = a .formed; not-full = a .not-full; stated = a .stated; room = room };
+        permitted = record { states = a; room = room };
         moving = moving;
         none-missing = none;
       }
 
-  states : Permitted s names values → States s names values
-  states p = record { opened = p .opened; formed = p .formed; not-full = p .not-full; stated = p .stated }
-
   is-row : Permitted s names values → isRow (s .store .counts .variables) row ≡ true
-  is-row p = stated-row (s .store .counts .variables) names values (p .stated)
+  is-row p = stated-row (s .store .counts .variables) names values (p .states .stated)
 
   symmetry-iff : Permitted s names values → (firstMissing row (plainOf (s .store)) ≡ 0) ↔ IsSymmetry row (plainOf (s .store))
   symmetry-iff p =
       none-missing-iff (s .store .counts .variables) row (plainOf (s .store)) (row-of (s .store .counts .variables) row (is-row p))
-      (literals-within (s .store) (formed (s .store) (its-form s (p .formed))))
+      (literals-within (s .store) (formed (s .store) (its-form s (p .states .formed))))
 
   -- Demand 2: two lines are accepted exactly when they state, by the input rules and limits, a permutation that is a symmetry and moves something.
   pub accepted-iff : (offerSays s names values ≡ done accepted) ↔ (Permitted s names values × IsSymmetry row (plainOf (s .store)) × MovesSomething row)
   accepted-iff = (
     λ said. let a = accepts-of said in (a .permitted, symmetry-iff (a .permitted) .0 (a .none-missing), moves-something-iff row .0 (a .moving)),
-    λ all. let p = all .0 in says s names values (states p) (held (s .store) names values (p .stated) (moves-something-iff row .1 (all .2)) _ refl (symmetry-iff p .1 (all .1)) (p .room)),
+    λ all. let p = all .0 in says s names values (p .states) (held (s .store) names values (p .states .stated) (moves-something-iff row .1 (all .2)) _ refl (symmetry-iff p .1 (all .1)) (p .room)),
   )
 
   -- ---- what an offer leaves
@@ -94,5 +91,5 @@ module _ (s : Keyed) (names values : List ℕ) where
     pub accepted-formed : wellFormed (offerStore s names values) ≡ true
     unfolding plainOf
     accepted-formed =
-        let form = with-row-formed (s .store) row (row-length (s .store .counts .variables) names values) (permitted .room) (its-form s (permitted .formed)) (is-row permitted) (permitted .not-full) in
-        ap wellFormed store-accepted ∙ same-clauses s (withRow (s .store) row) refl (permitted .formed) form
+        let form = with-row-formed (s .store) row (row-length (s .store .counts .variables) names values) (permitted .room) (its-form s (permitted .states .formed)) (is-row permitted) (permitted .states .not-full) in
+        ap wellFormed store-accepted ∙ same-clauses s (withRow (s .store) row) refl (permitted .states .formed) form

@@ -170,7 +170,7 @@ sound-call o s rows offers (offer names values) sound = by (ending (offerSays s 
     by (answered yes e) =
         let k = sound .keeps in
         let all = accepted-iff s names values .0 e in
-        let here : Acceptable s names values = record { stated = all .0 .stated; symmetry = all .1; moves = all .2 } in
+        let here : Acceptable s names values = record { stated = all .0 .states .stated; symmetry = all .1; moves = all .2 } in
         rw e
         (record {
           keeps = keeps-trans (accepted-keeps s names values e) k;

@@ -54,7 +54,7 @@ accepted-still : (s : Keyed) (names values : List ℕ) → Permitted s names val
 accepted-still s names values p former moves =
     let n = s .store .counts .variables in
     let symmetric = symmetry-still n (rowFor (s .store) names values) (plainOf (s .store))
-    (row-of n (rowFor (s .store) names values) (stated-row n names values (p .stated))) (literals-within (s .store) (formed (s .store) (its-form s (p .formed)))) former in
+    (row-of n (rowFor (s .store) names values) (stated-row n names values (p .states .stated))) (literals-within (s .store) (formed (s .store) (its-form s (p .states .formed)))) former in
     accepted-iff s names values .1 (p, symmetric, moves)
 
 pub always-true : AlwaysTrue

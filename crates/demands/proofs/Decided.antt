@@ -24,6 +24,7 @@ use Rattle.offering.specs.declared.Offered.{Offered}
 use Rattle.offering.proofs.OfferLaws.{not-stated, not-moving, not-symmetric, no-room, held}
 use Rattle.calls.specs.Calls.{accepted, saidOffered, offerSays}
 use Rattle.calls.proofs.CallLaws.{unready, full as is-full, tried}
+use Rattle.demands.specs.Demand2.{States}
 
 module _ (s : Keyed) (names values : List ℕ) where
   abbrev row : List ℕ
@@ -33,32 +34,25 @@ module _ (s : Keyed) (names values : List ℕ) where
   abbrev missing : ℕ
   missing = firstMissing row (plainOf (s .store))
 
-  -- the store is open, well formed and not full, and the two lines state a permutation: no reason before 31 holds
-  pub record States : Type 0 where
-    pub opened : s .store .counts .is_open ≡ true
-    pub formed : wellFormed s ≡ true
-    pub not-full : s .store .counts .rows < maxRows
-    pub stated : statedBy (s .store .counts .variables) names values ≡ Stated.Permutation
-
   -- what decides an offer, and what it then says
   pub data Decided : Type 0 where
     shut : s .store .counts .is_open ≡ false → offerSays s names values ≡ refused 20 0 → Decided
     misformed : wellFormed s ≡ false → offerSays s names values ≡ refused 21 0 → Decided
     full : offerSays s names values ≡ refused 22 0 → Decided
     unstated : (r : Refusal) → numberOf r ≤ 10 → offerSays s names values ≡ saidRefused r → Decided
-    idle : States → movesNothing row ≡ true → offerSays s names values ≡ refused 31 0 → Decided
+    idle : States s names values → movesNothing row ≡ true → offerSays s names values ≡ refused 31 0 → Decided
     asymmetric : offerSays s names values ≡ refused 11 missing → Decided
-    short : States → length (s .store .images) < imagesNeeded (s .store) → offerSays s names values ≡ refused 23 (imagesNeeded (s .store)) → Decided
-    taken : States → movesNothing row ≡ false → missing ≡ 0 → imagesNeeded (s .store) ≤ length (s .store .images) → offerSays s names values ≡ done accepted → Decided
+    short : States s names values → length (s .store .images) < imagesNeeded (s .store) → offerSays s names values ≡ refused 23 (imagesNeeded (s .store)) → Decided
+    taken : States s names values → movesNothing row ≡ false → missing ≡ 0 → imagesNeeded (s .store) ≤ length (s .store .images) → offerSays s names values ≡ done accepted → Decided
 
   -- an offer to such a store, by what `offering` says of it
-  pub says : States → {o : Offered} → offeredBy (s .store) names values ≡ o → offerSays s names values ≡ saidOffered o
+  pub says : States s names values → {o : Offered} → offeredBy (s .store) names values ≡ o → offerSays s names values ≡ saidOffered o
   says a e = tried s names values (ready-of s (a .opened) (a .formed)) (λ full. omega (arith, a .not-full)) ∙ ap saidOffered e
 
   pub decided : Decided
   decided = standing (s .store .counts .is_open) refl (wellFormed s) refl
     where
-      stating : (a : States) → (b : Bool) → movesNothing row ≡ b → (c : Bool) → eqb missing 0 ≡ c → (d : Bool) → leb (imagesNeeded (s .store)) (length (s .store .images)) ≡ d → Decided
+      stating : (a : States s names values) → (b : Bool) → movesNothing row ≡ b → (c : Bool) → eqb missing 0 ≡ c → (d : Bool) → leb (imagesNeeded (s .store)) (length (s .store .images)) ≡ d → Decided
       stating a true qb c qc d qd = idle a qb (says a (not-moving (s .store) names values (a .stated) qb))
       stating a false qb false qc d qd = asymmetric (says a (not-symmetric (s .store) names values (a .stated) qb missing refl (eqb-false missing 0 qc)))
       stating a false qb true qc false qd =

@@ -73,7 +73,7 @@ pub demand-2 : (s : Keyed) → Demand2 s
 demand-2 s = record {
   accepts = accepted-iff s;
   holds = λ names values said. accepted-held s names values said;
-  named = λ names values said k h. row-at-name (s .store .counts .variables) names values (accepts-of s names values said .permitted .stated) k h;
+  named = λ names values said k h. row-at-name (s .store .counts .variables) names values (accepts-of s names values said .permitted .states .stated) k h;
   others = λ names values said i low high e. row-elsewhere (s .store .counts .variables) names values i low high e;
   text = λ opened formed buffer room buffers rooms. text-written s (ready-of s opened formed) formed buffer room buffers rooms ∙ text-is s;
 }

@@ -17,18 +17,17 @@ use Rattle.lexleader.specs.Made.{pairClauses, rowClauses, auxiliaries}
 use Rattle.lexleader.proofs.Walk.{stays-none}
 use Rattle.calls.specs.Calls.{offerSays}
 use Rattle.calls.proofs.CallLaws.{full as is-full}
+use Rattle.demands.specs.Demand2.{States}
 use Rattle.demands.specs.NoIdleLines.{NoIdleLines}
-use Rattle.demands.proofs.Decided.{States, Decided, shut, misformed, full, unstated, idle, asymmetric, short, taken, says, decided}
+use Rattle.demands.proofs.Decided.{Decided, shut, misformed, full, unstated, idle, asymmetric, short, taken, says, decided}
 use Rattle.demands.proofs.AfterCalls.{after-opening}
 
 module _ (s : Keyed) (names values : List ℕ) where
   abbrev n : ℕ
   n = s .store .counts .variables
 
-  record Idle (place : ℕ) : Type 0 where
-    states : States s names values
-    is : rowFor (s .store) names values ≡ identity n
-    first : place ≡ 0
+  abbrev Idle : ℕ → Type 0
+  Idle place = States s names values × (rowFor (s .store) names values ≡ identity n) × (place ≡ 0)
 
   idle-of : (place : ℕ) → offerSays s names values ≡ refused 31 place → Idle place
   idle-of place said = by (decided s names values)
@@ -41,7 +40,7 @@ module _ (s : Keyed) (names values : List ℕ) where
       by (misformed q e) = absurd (omega (arith, other e))
       by (full e) = absurd (omega (arith, other e))
       by (unstated r h e) = absurd (omega (arith, other e))
-      by (idle a h e) = record { states = a; is = moves-nothing-iff n (rowFor (s .store) names values) (row-length n names values) .0 h; first = cc }
+      by (idle a h e) = (a, moves-nothing-iff n (rowFor (s .store) names values) (row-length n names values) .0 h, cc)
       by (asymmetric e) = absurd (omega (arith, other e))
       by (short a h e) = absurd (omega (arith, other e))
       by (taken a moving none room e) = let z : _≡_ {A = ℕ} 0 1 = cc in absurd (omega arith)
@@ -57,9 +56,8 @@ pub no-idle-lines : NoIdleLines
 unfolding rowClauses pairClauses auxiliaries
 no-idle-lines = record {
   turns-back = λ s names values place. (
-    λ said. let i = idle-of s names values place said in
-        (i .states .opened, i .states .formed, i .states .not-full, i .states .stated, i .is, i .first),
-    λ h. rw (h .5) (says-idle s names values (record { opened = h .0; formed = h .1; not-full = h .2; stated = h .3 }) (h .4)),
+    idle-of s names values place,
+    λ h. rw (h .2) (says-idle s names values (h .0) (h .1)),
   );
   none-held = λ s text sizes calls said row m. let a = after-opening s text sizes calls said in a .moving row (rw (a .sound .are-rows) at m);
   formed = identity-row;

@@ -87,10 +87,7 @@ module _ (o t : Keyed) (k : Keeps o t) (opened : t .store .counts .is_open ≡ t
         let here = acceptable-alike o u names values (sym (same-variables all)) (sym (same-plain all)) a in
         let needed = ap₂ (λ (c n : ℕ). (c + 1) * n) (sym count) (sym (same-variables (r .keeps))) in
         let permitted : Permitted u names values = record {
-          opened = same-open (r .keeps) ∙ opened;
-          formed = r .formed;
-          not-full = omega (arith, count);
-          stated = here .stated;
+          states = record { opened = same-open (r .keeps) ∙ opened; formed = r .formed; not-full = omega (arith, count); stated = here .stated };
           room = subst₂ (λ (needed given : ℕ). needed ≤ given) needed (sym (r .images)) room;
         } in
         accepted-iff u names values .1 (permitted, here .symmetry, here .moves)

@@ -28,12 +28,16 @@ writtenBy (done bytes) buffer = take bytes buffer
 writtenBy (refused number place) buffer = []
 
 module _ (s : Keyed) where
-  -- "the input rules and limits permitting": the store is open, well formed and not full, the two lines state a permutation (7 to 10), and there is room
-  pub record Permitted (names values : List ℕ) : Type 0 where
+  -- the store is open, well formed and not full, and the two lines state a permutation: none of 20, 21, 22 and 7 to 10
+  pub record States (names values : List ℕ) : Type 0 where
     pub opened : s .store .counts .is_open ≡ true
     pub formed : wellFormed s ≡ true
     pub not-full : s .store .counts .rows < maxRows
     pub stated : statedBy (s .store .counts .variables) names values ≡ Stated.Permutation
+
+  -- "the input rules and limits permitting": these, and there is room
+  pub record Permitted (names values : List ℕ) : Type 0 where
+    pub states : States names values
     pub room : imagesNeeded (s .store) ≤ length (s .store .images)
 
   -- what the clause call writes for `count` clauses, from number q on, one after another; clause q goes into a buffer of its own

@@ -4,30 +4,23 @@ use mathlib.Core.Path.{_≡_}
 use mathlib.Core.Bool.{true}
 use mathlib.Core.List.{List, [], List·Memᴰ}
 use mathlib.Core.Logic.{_↔_}
-use Prim.Native.Nat.{ℕ, _<_}
+use Prim.Native.Nat.{ℕ}
 use lib.ListN.{length}
 use Rattle.store.specs.Refusals.{done, refused}
 use Rattle.store.specs.Stores.{heldRows, isRow, maxRows}
 use Rattle.store.specs.Identity.{identity, MovesSomething}
 use Rattle.standing.specs.Keyed.{Keyed, wellFormed}
-use Rattle.permutation.specs.Stated.{statedBy}
-use Rattle.permutation.specs.declared.Stated.{Stated}
 use Rattle.offering.specs.Offering.{rowFor}
 use Rattle.lexleader.specs.Made.{rowClauses, auxiliaries}
 use Rattle.calls.specs.Calls.{Dimensions, openSays, offerSays}
+use Rattle.demands.specs.Demand2.{States}
 use Rattle.demands.specs.Lists.{Call}
 use Rattle.demands.specs.Demand3.{left}
 
 pub record NoIdleLines : Type 0 where
   -- "It is turned back from here on": with 31, place 0, exactly where the two lines state the identity, the rules before 31 permitting
   pub turns-back : (s : Keyed) (names values : List ℕ) (place : ℕ)
-      → (offerSays s names values ≡ refused 31 place)
-      ↔ ((s .store .counts .is_open ≡ true)
-      × (wellFormed s ≡ true)
-      × (s .store .counts .rows < maxRows)
-      × (statedBy (s .store .counts .variables) names values ≡ Stated.Permutation)
-      × (rowFor (s .store) names values ≡ identity (s .store .counts .variables))
-      × (place ≡ 0))
+      → (offerSays s names values ≡ refused 31 place) ↔ (States s names values × (rowFor (s .store) names values ≡ identity (s .store .counts .variables)) × (place ≡ 0))
   -- so no list of calls from a fresh opening leaves a row "of that sort": each moves something
   pub none-held : (s : Keyed) (text : List ℕ) (sizes : Dimensions) (calls : List Call) → openSays s text ≡ done sizes
       → (row : List ℕ) → List·Memᴰ row (heldRows (left s text calls .store)) → MovesSomething row

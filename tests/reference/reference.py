@@ -1,4 +1,4 @@
-"""Reference symmetry breaker: document 01 with CR 1 to CR 7 of document 02, written from the papers, naive on purpose.
+"""Reference symmetry breaker: document 01 with CR 1 to CR 8 of document 02, written from the papers, naive on purpose.
 
 A call answers ('refused', number, place) or ('done', value...).  A call that may write lent memory returns that
 answer followed by the new contents of each thing it may write; nothing lent is ever changed in place.
@@ -252,6 +252,12 @@ def read_values(line: bytes, names: List[int]) -> List[int]:
     return values
 
 
+def require_moving(names: List[int], values: List[int]) -> None:
+    """CR 8: "Refusal 31, place 0, is given where every value equals its name"."""
+    if values == names:
+        raise Refusal(31, 0)
+
+
 def stated_row(n: int, names: List[int], values: List[int]) -> Row:
     """"Name i goes to its value p(i); variables not named stay"."""
     row = {i: i for i in range(1, n + 1)}
@@ -286,13 +292,15 @@ def require_symmetry(formula: List[Clause], row: Row) -> None:
 
 @call("record", "images")
 def offer(record, literals, ends, keys, images, names: bytes, values: bytes):
-    """"An offer tries 7, 8, 9, 10, 11 in that order, each over its whole line"; 20, 21, 22 before, 23 last."""
+    """"An offer tries 7, 8, 9, 10, 11 in that order, each over its whole line"; 20, 21, 22 before, 23 last; CR 8: 31 "after 10 and before 11"."""
     require_store(record, literals, ends, keys, images)
     n, held = record.variables, record.rows
     if held == MAX_ROWS:
         raise Refusal(22, 0)
     named = read_names(names, n)
-    row = stated_row(n, named, read_values(values, named))
+    valued = read_values(values, named)
+    require_moving(named, valued)
+    row = stated_row(n, named, valued)
     require_symmetry(plain_clauses(record, literals, ends), row)
     if len(images) < (held + 1) * n:
         raise Refusal(23, (held + 1) * n)
@@ -315,7 +323,8 @@ def moved_variables(row: Row) -> List[int]:
 
 
 def auxiliaries(row: Row) -> int:
-    """"It adds k-1 auxiliaries"; "The identity adds nothing"."""
+    """"It adds k-1 auxiliaries"; "The identity adds nothing"; CR 8: "Rows of that sort in an existing store remain well formed, add no clauses and count
+    towards 64"."""
     return max(len(moved_variables(row)) - 1, 0)
 
 

@@ -283,7 +283,6 @@ class OfferReadings(unittest.TestCase):
         for names, values, number, place in cases:
             self.assertEqual(Host().offer(names, values), ("refused", number, place), (names, values))
         self.assertEqual(Host().offer(b"1\n3", b"\t3\n1 "), ("done",))
-        self.assertEqual(Host().offer(b"2", b"2"), ("done",))
         for names in b"x", b"1", b"":
             self.assertEqual(Host(b"p cnf 0 0").offer(names, b"")[1], 7 if names == b"x" else 8)
 
@@ -292,7 +291,6 @@ class OfferReadings(unittest.TestCase):
         for _ in range(2):
             self.assertEqual(host.offer(b"1 3", b"3 1"), ("done",))
         self.assertEqual(host.offer(b"1 2", b"2 1"), ("refused", 11, 1))
-        self.assertEqual(host.offer(b"1", b"1"), ("done",))
         self.assertEqual([c for c in ref.made_formula(*host.store)][5::6], [[-1, 3], [-1, 3]])
         self.assertEqual(ref.made_counts(host.record, host.images), (5, 17))
         self.assertEqual(Host(b"p cnf 2 3\n2 1 0 1 0 1 1 0").offer(b"1 2", b"2 1"), ("refused", 11, 2))
@@ -466,14 +464,16 @@ class AlwaysTrue(unittest.TestCase):
             self.assertEqual(Host(text).offer(names, values), ("refused", 11, place))
 
     def test_only_such(self):
-        """A formula of clauses with a pair alone has every row as a symmetry."""
+        """A formula of clauses with a pair alone has every row as a symmetry; only the identity is turned back."""
         for n in 1, 2, 3:
             clauses = [c for c in [(1, -1), (1, -1, 1), (-2, 1, 2), (3, 1, 2, -3)] if max(map(abs, c)) <= n]
             host = Host(b"p cnf %d %d\n" % (n, len(clauses)) + b"".join(map(ref.clause_line, clauses)))
             for row in signed_rows(n):
                 host.record = host.record._replace(rows=0)
-                self.assertEqual(host.offer(*(b" ".join(b"%d" % i for i in line) for line in (range(1, n + 1), row))), ("done",), row)
-                self.assertEqual(ref.rows_of(host.record, host.images), [dict(enumerate(row, 1))])
+                idle = row == tuple(range(1, n + 1))
+                answer = host.offer(*(b" ".join(b"%d" % i for i in line) for line in (range(1, n + 1), row)))
+                self.assertEqual(answer, ("refused", 31, 0) if idle else ("done",), row)
+                self.assertEqual(ref.rows_of(host.record, host.images), [] if idle else [dict(enumerate(row, 1))])
 
     def test_written(self):
         """Such clauses are written out as they were read, and counted."""
@@ -505,7 +505,7 @@ class AlwaysTrue(unittest.TestCase):
         self.assertEqual(host.offer(b"1 2", b"2 1"), ("done",))
 
     def test_every_formula_of_two_variables(self):
-        """All 65,536 formulas, as numbers with a bit for each clause, by all 8 rows: what is accepted, before too, and that models are moved to models."""
+        """All 65,536 formulas, as numbers with a bit for each clause, by all 8 rows: which are symmetries, before too, and that models are moved to models."""
         numbers = {frozenset(c): at for at, c in enumerate(SIXTEEN)}
         assignments = [{1: one, 2: two} for one in (False, True) for two in (False, True)]
         false = united([sum(bit(not ref.true_clause(c, a), at) for at, a in enumerate(assignments)) for c in SIXTEEN])
@@ -516,10 +516,10 @@ class AlwaysTrue(unittest.TestCase):
             images = united([1 << numbers[ref.image(frozenset(c), row)] for c in SIXTEEN])
             moved = united([1 << assignments.index(ref.moved(row, a)) for a in assignments])
             before = {f for f in range(1 << 16) if images[f] == f}
-            accepted = [f for f in range(1 << 16) if images[f & judged] == f & judged]
-            former, now = former + len(before), now + len(accepted)
-            self.assertLessEqual(before, set(accepted))
-            self.assertTrue(all(moved[15 & ~false[f]] == 15 & ~false[f] for f in accepted))
+            kept = [f for f in range(1 << 16) if images[f & judged] == f & judged]
+            former, now = former + len(before), now + len(kept)
+            self.assertLessEqual(before, set(kept))
+            self.assertTrue(all(moved[15 & ~false[f]] == 15 & ~false[f] for f in kept))
         self.assertEqual((bin(judged).count("1"), former, now), (9, 76928, 104448))
 
     def test_every_small_formula_of_two_variables(self):
@@ -537,6 +537,114 @@ class AlwaysTrue(unittest.TestCase):
                     self.assertEqual(refusal.answer, ("refused", 11, place), (clauses, p))
                 seen[former_rule(clauses, row), place] += 1
         self.assertEqual({(former, place) for former, place in seen if place == 0 or place != former}, {(0, 0), (1, 0), (2, 0), (3, 0), (1, 2), (1, 3), (2, 3)})
+
+
+# Two lines offered to the listing's formula, and the number and place of the refusal, if there is one.
+IDLE = [
+    ("one name", b"2", b"2", 31, 0),
+    ("two names", b"1 3", b"1 3", 31, 0),
+    ("in falling order", b"3 1", b"3 1", 31, 0),
+    ("no symmetry if exchanged", b"1 2", b"1 2", 31, 0),
+    ("all names", b"1 2 3", b"1 2 3", 31, 0),
+    ("all names in another order", b"2 3 1", b"2 3 1", 31, 0),
+    ("blanks", b" 1\t3", b"\t1   3 \t", 31, 0),
+    ("line feeds, which are blanks", b"1\n3", b"\n1 3\n", 31, 0),
+    ("the same values in another order", b"1 3", b"3 1"),
+    ("one of three equal", b"1 2 3", b"3 2 1"),
+    ("the same, equal first", b"2 3 1", b"2 1 3"),
+    ("one of three equal, no symmetry", b"1 2 3", b"1 3 2", 11, 1),
+    ("a negated value", b"1", b"-1", 11, 1),
+    ("all negated", b"1 2 3", b"-1 -2 -3", 11, 1),
+    ("the last of three negated", b"1 2 3", b"1 2 -3", 11, 2),
+    ("a letter for a name", b"1 x", b"1 x", 7, 2),
+    ("a leading zero", b"01", b"01", 7, 0),
+    ("beyond n", b"1 4", b"1 4", 8, 2),
+    ("zero", b"0", b"0", 8, 0),
+    ("a negative name", b"-1", b"-1", 8, 0),
+    ("a name twice", b"1 1", b"1 1", 8, 2),
+    ("no name", b"", b"", 8, 0),
+    ("a letter after an equal value", b"1 2", b"1 x", 9, 2),
+    ("a letter after all values", b"1 2", b"1 2 x", 9, 4),
+    ("a plus", b"1 2", b"1 +2", 9, 2),
+    ("a leading zero as a value", b"1 2", b"01 2", 9, 0),
+    ("no value", b"1 2", b" ", 10, 1),
+    ("a value too few", b"1 2", b"1", 10, 1),
+    ("a value twice", b"1 2", b"1 1", 10, 2),
+    ("a value that is no name", b"1 2", b"1 3", 10, 2),
+    ("a value more", b"1 2", b"1 2 2", 10, 4),
+    ("a value more, negated", b"1 2", b"1 2 -1", 10, 4),
+    ("a value more that is no name", b"1 2", b"1 2 3", 10, 4),
+]
+
+
+class Idle(unittest.TestCase):
+    """CR 8 and readings C11 to C14, D9 and O1."""
+
+    def test_cases(self):
+        for name, names, values, *refusal in IDLE:
+            with self.subTest(name):
+                host = Host()
+                before = host.store
+                self.assertEqual(host.offer(names, values), ("refused", *refusal) if refusal else ("done",))
+                self.assertEqual(host.store == before, bool(refusal))
+
+    def test_order(self):
+        """20, 21, 22, 8 and 10 go before 31, and 31 before 23, with every choice of reasons; 11 goes before 23 as well."""
+        for closed, damaged, full, misnamed, misvalued, short in itertools.product((False, True), repeat=6):
+            held = 64 if full else 1
+            host = Host().with_rows(*[(3, 2, 1)] * held)
+            host.record, host.images = host.record._replace(open=not closed), host.images[:3 * held + (2 if short else 3)]
+            host.literals[3] = 8 if damaged else 6
+            first = [refusal for refusal, holds in zip([(20, 0), (21, 0), (22, 0), (8, 4), (10, 4)], [closed, damaged, full, misnamed, misvalued]) if holds]
+            for names, values, last in (b"1 3", b"1 3", (31, 0)), (b"1 3", b"3 1", (23, 6)), (b"1 2", b"2 1", (11, 2)):
+                lines = names + b" 4" * misnamed, values + b" 1" * misvalued
+                refusal = (first + [last])[0]
+                accepted = refusal == (23, 6) and not short
+                after = copy.copy(host)
+                self.assertEqual((after.offer(*lines), after.record.rows), (("done",) if accepted else ("refused", *refusal), held + accepted))
+
+    def test_every_line(self):
+        """Every names line of three variables with every value line, where there are no clauses: 31 exactly where the row that they state moves nothing."""
+        seen = Counter()
+        for size in 1, 2, 3:
+            for names in itertools.permutations((1, 2, 3), size):
+                for values in (tuple(names[abs(place) - 1] * (1 if place > 0 else -1) for place in row) for row in signed_rows(size)):
+                    answer = Host(b"p cnf 3 0").offer(*(b" ".join(b"%d" % i for i in line) for line in (names, values)))
+                    moving = ref.moved_variables(ref.stated_row(3, names, values)) != []
+                    self.assertEqual(answer, ("done",) if moving else ("refused", 31, 0), (names, values))
+                    seen[size, moving] += 1
+        self.assertEqual(seen, {(1, True): 3, (1, False): 3, (2, True): 42, (2, False): 6, (3, True): 282, (3, False): 6})
+
+    def test_largest(self):
+        """512 names and as many equal values, one more, one too few; the last one negated, the last two exchanged."""
+        host, names = Host(b"p cnf 512 0", images=512), b" ".join(b"%d" % i for i in range(1, 513))
+        for values, answer in ((names, ("refused", 31, 0)), (names + b" 512", ("refused", 10, len(names) + 1)), (names[:-4], ("refused", 10, len(names) - 4)),
+                               (names.replace(b"511 512", b"511 -512"), ("done",))):
+            self.assertEqual(host.offer(names, values), answer)
+        host.record = host.record._replace(rows=0)
+        self.assertEqual((host.offer(names, names.replace(b"511 512", b"512 511")), host.offer(names, names)), (("done",), ("refused", 31, 0)))
+
+    def test_lent(self):
+        """Identities in a lent store are well formed, add nothing and lower nothing; offers and withdrawals go on beside them."""
+        still, swap, all_ = (1, 2, 3), (3, 2, 1), [format(a, "03b") for a in range(8)]
+        for rows in [still], [still, swap], [swap, still], [still, swap, still, still], [swap, still, swap]:
+            host, without = Host().with_rows(*rows), Host().with_rows(*(row for row in rows if row != still))
+            self.assertEqual((ref.badly_formed(*host.store), ref.made_text(*host.store)), (False, ref.made_text(*without.store)))
+            for a in all_:
+                filled = fill_in(host, a)
+                self.assertEqual((filled, descend(host, a)), (fill_in(without, a), descend(without, a)))
+                self.assertEqual(ref.check(*host.store, filled[1]), ref.check(*without.store, filled[1]))
+            self.assertEqual((host.offer(b"1 3", b"1 3"), host.offer(b"1 3", b"3 1"), host.record.rows), (("refused", 31, 0), ("done",), len(rows) + 1))
+            self.assertEqual([host.withdraw() for _ in range(len(rows) + 2)], [("done",)] * (len(rows) + 1) + [("refused", 30, 0)])
+
+    def test_64(self):
+        """Identities count towards 64."""
+        for identities in 1, 32, 63, 64:
+            host = Host().with_rows(*[(3, 2, 1)] * (64 - identities), *[(1, 2, 3)] * identities)
+            for values in b"3 1", b"1 3", b"x":
+                self.assertEqual(host.offer(b"1 3", values), ("refused", 22, 0))
+            self.assertEqual((host.withdraw(), host.offer(b"1 3", b"1 3"), host.offer(b"1 3", b"3 1")), (("done",), ("refused", 31, 0), ("done",)))
+            self.assertEqual((host.record.rows, ref.made_counts(host.record, host.images)), (64, (3 + 65 - identities, 2 + 6 * (65 - identities))))
 
 
 class StoreReadings(unittest.TestCase):
@@ -653,13 +761,16 @@ class ProgramReadings(unittest.TestCase):
             LISTING + b"%\n1 3\n%\n": b"9 0", LISTING + b"%\n%\n1": b"7 0", LISTING + b"%\n\n1\n": b"8 0",
             LISTING + b"%\n1 3\n3 1\n\n": b"10 0", LISTING + b"%\n1 3\n\n": b"10 0", LISTING + b"%\n1 2\n2 1": b"11 2",
             LISTING + b"%\n1 3\n" + b"3 1\n" * 65: b"22 0", LISTING + b"%\n1 3\n3 1\n3 3\n": b"10 2",
+            LISTING + b"%\n1 3\n1 3": b"31 0", LISTING + b"%\n3 1\n1 3\n3 1\n1 3\n": b"31 0", LISTING + b"%\n2 1\n2 1\n1 2\n": b"31 0",
+            LISTING + b"%\n1 2\n2 1\n1 2\n": b"11 2", LISTING + b"%\n1 3\n1\n1 3\n": b"10 1",
+            LISTING + b"%\n1 3\n" + b"3 1\n" * 63 + b"1 3\n": b"31 0", LISTING + b"%\n1 3\n" + b"3 1\n" * 64 + b"1 3\n": b"22 0",
             LISTING + b"%\n" + b"x" * 65536: b"15 0"}
         for data, refusal in cases.items():
             self.assertEqual(ref.program(data), b"refused " + refusal + b"\n", data[:40])
         room = 65536 - len(plain) - 2
         for tail in b"%", b"%\n", b"%\nrubbish", b"%\nrubbish\n", b"%\n\n", b"%\n" + b"x" * room:
             self.assertEqual(ref.program(LISTING + tail), plain)
-        self.assertEqual(ref.program(b"c\np cnf 2 2\n0 2\n 2 -1 0\n%\n2\n2"), b"p cnf 2 2\n0\n2 2 -1 0\n")
+        self.assertEqual(ref.program(b"c\np cnf 2 2\n0 2\n 2 -1 0\n%\n2\n"), b"p cnf 2 2\n0\n2 2 -1 0\n")
 
 
 def models(formula, a, free):
@@ -748,13 +859,22 @@ class Demands(unittest.TestCase):
             names = [i for i in rng.sample(list(row), n) if chosen[i] != i or rng.random() < .3]
             values = [chosen[i] for i in names][:None if rng.random() < .9 else -1]
             answer = host.offer(" ".join(map(str, names)).encode(), " ".join(map(str, values)).encode())
-            place, stated = place_of_11(clauses, chosen), bool(names) and len(values) == len(names)
-            self.assertEqual(answer == ("done",), stated and place == 0, answer)
+            place, stated, moving = place_of_11(clauses, chosen), bool(names) and len(values) == len(names), any(chosen[i] != i for i in chosen)
+            self.assertEqual(answer == ("done",), stated and moving and place == 0, answer)
             if stated:
-                self.assertEqual(answer, ("refused", 11, place) if place else ("done",))
+                self.assertEqual(answer, ("refused", 11, place) if place else ("done",) if moving else ("refused", 31, 0))
                 seen["refused after a pair" if place else "accepted over a pair"] += former_rule(clauses, chosen) != place
+                seen["idle"] += not moving
             accepted += [chosen] if answer == ("done",) else []
         return accepted
+
+    def lent_identities(self, rng, host, rows):
+        """The store lent with identities put in among its rows; all rows that it holds then."""
+        n, held = host.record.variables, list(rows)
+        for _ in range(rng.randint(1, 3)):
+            held.insert(rng.randint(0, len(held)), {i: i for i in range(1, n + 1)})
+        host.with_rows(*(tuple(row.values()) for row in held))
+        return held
 
     def demand_3(self, rng, host, clauses, accepted):
         n = host.record.variables
@@ -801,12 +921,14 @@ class Demands(unittest.TestCase):
             accepted = self.offers(rng, host, clauses, row, seen)
             self.assertEqual(ref.rows_of(host.record, host.images), accepted)
             self.assertEqual(host.images[len(accepted) * len(row):], [7] * (40 - len(accepted) * len(row)))
+            if rng.random() < .3:
+                accepted = self.lent_identities(rng, host, accepted)
             self.demand_3(rng, host, clauses, accepted)
             for p in accepted:
                 moving = [i for i in p if p[i] != i]
                 seen.update(["held", "moving one" if len(moving) == 1 else "moving more" if moving else "identity"])
                 seen.update({"signed" for i in moving if p[i] < 0} | {"own negation" for i in moving if p[i] == -i})
-        for sort, least in ("held", 500), ("moving one", 30), ("moving more", 300), ("identity", 100), ("signed", 200), ("own negation", 100), \
+        for sort, least in ("held", 500), ("moving one", 30), ("moving more", 300), ("identity", 100), ("idle", 100), ("signed", 200), ("own negation", 100), \
                 ("accepted over a pair", 100), ("refused after a pair", 50):
             self.assertGreater(seen[sort], least, sort)
 

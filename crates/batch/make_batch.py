@@ -28,7 +28,7 @@ def kind(data):
         number = int(printed.split()[1])
         after = number == 11 and "missing after a pair" in generate.judged_input(data)
         return "refused after a pair" if after else "refused", number
-    rows = generate.moving_rows(data)
+    rows = generate.accepted_rows(data)
     signed = any("signed" in generate.sorts(row) for row in rows)
     return ("accepted over a pair", signed) if "symmetry over a pair" in generate.judged_input(data) else ("accepted", len(rows), signed)
 

@@ -25,6 +25,23 @@ def judged(host, names, values, answer):
     return generate.judged(reference.plain_clauses(host.record, host.literals, host.ends), generate.stated(host.record.variables, names, values))
 
 
+def idle(host, names, values, answer):
+    """Of which sorts (generate.IDLE) an offer was whose value line was read, and whether it was idle where there was no room; or it was so beside 64 rows."""
+    number = 0 if answer == ("done",) else answer[1]
+    found = generate.idle(host.record.variables, names, values)
+    if number == 22:
+        return ["idle beside 64 rows"] if "idle" in found else []
+    without_room = number == 31 and len(host.images) < (host.record.rows + 1) * host.record.variables
+    return [] if number in (7, 8, 20, 21) else found + ["idle without room"] * without_room
+
+
+def lend_identities(chance, host):
+    """Puts identities in among the rows of a well formed store, and keeps what follows them."""
+    rows = generate.with_identities(chance, host.record.variables, held(host))
+    past = host.images[host.record.rows * host.record.variables:]
+    host.put(host.record._replace(rows=len(rows)), *host.parts()[1:4], generate.codes(rows) + past)
+
+
 class Agree(unittest.TestCase):
     def open(self, host, text):
         record, literals, ends, keys, images = before = host.parts()

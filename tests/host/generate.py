@@ -46,6 +46,21 @@ def sorts(row):
     return [sort for sort, holds in zip(SORTS, [moved and not signed, signed, len(moved) == 1, negated and len(moved) > 1]) if holds]
 
 
+def identity(row):
+    """The permutation moves nothing."""
+    return row == list(range(1, len(row) + 1))
+
+
+def with_identities(chance, n, rows):
+    """The same rows with identities put in among them, or in the place of some where 64 are held; at times only identities."""
+    still = list(range(1, n + 1))
+    rows = [still] * len(rows) if chance.random() < 0.2 else list(rows)
+    for _ in range(chance.choice([1, 1, 2, 5])):
+        at = chance.randint(0, min(len(rows), 63))
+        rows[at:at + (len(rows) == 64)] = [still]
+    return rows
+
+
 def holds_pair(clause):
     """A literal and its negation are in the clause, so that it is always true."""
     return any(-literal in clause for literal in clause)
@@ -245,8 +260,53 @@ def closed(clauses, rows, most):
 def offers(chance, n, rows):
     """A names line with at least what the rows move, and a value line for each row."""
     named = [i for i in range(1, n + 1) if any(row[i - 1] != i for row in rows) or chance.random() < 0.5]
+    named = named or chance.sample(range(1, n + 1), min(n, 1))
     chance.shuffle(named)
     return [line(chance, named)] + [line(chance, [row[i - 1] for i in named]) for row in rows]
+
+
+def idle_values(chance, named):
+    """The names themselves as their values, half the time but for little: cut short, one more, one twice, two exchanged, all but the first turned round, or one
+    negated."""
+    values, at, kind = list(named), chance.randrange(len(named)), chance.randrange(10)
+    if kind == 0:
+        del values[max(at, 1):]
+    elif kind == 1:
+        values.append(chance.choice(values))
+    elif kind == 2:
+        values[at] = chance.choice(values)
+    elif kind == 3:
+        values[at - 1], values[at] = values[at], values[at - 1]
+    elif kind == 4:
+        values[1:] = values[2:] + values[1:2]
+    elif kind == 5:
+        values[at] = -values[at]
+    return values
+
+
+def idle_lines(chance, n):
+    """Two lines of which the second moves nothing, or nearly so."""
+    named = chance.sample(range(1, n + 1), chance.randint(1, n))
+    return [line(chance, named), line(chance, idle_values(chance, named))]
+
+
+def two_lines(chance, n, row):
+    """Two lines that state the permutation; at times two that move nothing, or nearly so."""
+    return idle_lines(chance, n) if n and chance.random() < 0.15 else offers(chance, n, [row])
+
+
+IDLE = ["idle", "idle, some named", "idle so far", "idle but for two", "idle at one", "idle but for signs"]
+
+
+def idle(n, names, values):
+    """Of which sorts two lines are: each value is its name, and not all variables are named; each is, but there are too few or too many; all but two of three
+    or more are, or one of two or more; all are but for signs."""
+    named, valued = ([word for _, word in reference.words(part)] for part in (names, values))
+    same, as_many = [value == name for name, value in zip(named, valued)], len(named) == len(valued)
+    found = [named == valued, named == valued and len(named) < n, not as_many and same and all(same),
+             as_many and len(same) > 2 and same.count(False) == 2, as_many and len(same) > 1 and same.count(True) == 1,
+             not all(same) and [value.removeprefix(b"-") for value in valued] == named]
+    return [sort for sort, holds in zip(IDLE, found) if holds]
 
 
 def stated(n, names, values):
@@ -256,21 +316,24 @@ def stated(n, names, values):
 
 
 def cycles(chance, n, most=60):
-    """Cycles of 1..n and their products, and clauses that they keep if there is room."""
+    """Cycles of 1..n and those of their products that move something, and clauses that they keep if there is room."""
     rows = [cycle(chance, n, chance.randint(min(n, 1), n)) for _ in range(chance.choice([1, 1, 2, 3]))]
     clauses = closed(drawn(chance, n, 3)[0] + drawn(chance, n, 3)[0], rows, most)
-    return with_pairs(chance, n, clauses, rows), rows + [image(first, second) for first in rows for second in rows]
+    products = [image(first, second) for first in rows for second in rows]
+    return with_pairs(chance, n, clauses, rows), rows + [row for row in products if not identity(row)]
 
 
 def program_input(chance, n, most):
-    """Input for the program: a formula's text, the `%` line and offers, of which some are no symmetries."""
+    """Input for the program: a formula's text, the `%` line and offers, of which some are no symmetries, and some move nothing, or nearly so."""
     clauses, rows = cycles(chance, n, most)
     chance.shuffle(clauses)
     offered = chance.choices(rows, k=chance.randrange(6))
     if chance.random() < 0.3:
         offered.insert(chance.randint(0, len(offered)), permutation(chance, n))
-    lines = [text(chance, n, clauses).removesuffix(b"\n"), b"%"] + offers(chance, n, offered)
-    return b"\n".join(lines) + chance.choice([b"", b"\n"])
+    names, *values = offers(chance, n, offered)
+    if n and chance.random() < 0.15:
+        values.insert(chance.randint(0, len(values)), line(chance, idle_values(chance, list(map(int, names.split())))))
+    return b"\n".join([text(chance, n, clauses).removesuffix(b"\n"), b"%", names, *values]) + chance.choice([b"", b"\n"])
 
 
 def damaged_input(chance, data):
@@ -291,12 +354,11 @@ def damaged_input(chance, data):
     return b"\n".join(lines)
 
 
-def moving_rows(data):
-    """The permutations that the offers of an accepted input state, those that move something and so add clauses."""
+def accepted_rows(data):
+    """The permutations that the offers of an accepted input state."""
     lines = data.split(b"\n")
     names, *offered = lines[lines.index(b"%") + 1:] or [b""]
-    rows = [stated(max(map(int, names.split())), names, values) for values in offered if values.split()]
-    return [row for row in rows if sorts(row)]
+    return [stated(max(map(int, names.split())), names, values) for values in offered if values.split()]
 
 
 def judged_input(data):
@@ -308,6 +370,18 @@ def judged_input(data):
     for row in (stated(n, lines[0], values) for values in lines[1:]):
         found += judged(clauses, row)
         if not all(map(holds_pair, missing(clauses, row))):
+            break
+    return found
+
+
+def idle_input(data):
+    """Of which sorts (IDLE) the offers of an input are, for one that is accepted or refused with 10 or 31: those up to the first that is idle, or so far."""
+    formula_text, lines = reference.split_input(data)
+    n, _ = reference.problem_counts(*reference.problem_line(formula_text))
+    found = []
+    for values in lines[1:]:
+        found += idle(n, lines[0], values)
+        if "idle" in found or "idle so far" in found:
             break
     return found
 

@@ -14,7 +14,7 @@ import library
 import reference
 import test_host
 import test_models
-from agree import LIBRARY, Agree, held, judged
+from agree import LIBRARY, Agree, held, idle, judged
 from library import TOP
 
 STORES = library.rounds(1000)
@@ -67,7 +67,7 @@ SIZES = [0, 1, 2, 2, 3, 3, 4, 4, 5, 5, 6, 9, 20, 63, 64, 65]
 
 WANTED = [
     *(("open", refusal) for refusal in (None, 1, 2, 3, 4, 6, 23)),
-    *(("offer", refusal) for refusal in (None, 7, 8, 9, 10, 11, 20, 21, 22, 23)),
+    *(("offer", refusal) for refusal in (None, 7, 8, 9, 10, 11, 20, 21, 22, 23, 31)),
     *(("withdraw", refusal) for refusal in (None, 20, 21, 30)),
     *(("header", refusal) for refusal in (None, 20, 21, 23)),
     *(("clause", refusal) for refusal in (None, 13, 20, 21, 23)),
@@ -90,8 +90,10 @@ class Random(Agree):
     """Every export on random stores, many of them damaged, with slices that are just long enough, or nearly."""
 
     def lent(self, chance, n, clauses, rows):
-        """A store with some of these rows, damaged or not. Where a call may only look at entries in use, more are said to follow."""
+        """A store with some of these rows, at times with identities, damaged or not. Where a call may only look at entries in use, more are said to follow."""
         chosen = chance.choices(rows, k=chance.choice([0, 1, 1, 2, 2, 3, 64] if n < 10 else [0, 1, 2])) if rows else []
+        if chance.random() < 0.2:
+            chosen = generate.with_identities(chance, n, chosen)
         numbers, *slices = generate.store(chance, n, clauses, chosen, chance.choice([1, 1, 1, 2, 2 ** 32, TOP]))
         parts = reference.Record(*numbers), *slices
         if chance.random() < 0.65:
@@ -120,10 +122,10 @@ class Random(Agree):
 
     def changes(self, chance, host, n, clauses, rows, seen):
         """An offer, a withdrawal, then an opening; the answers. Of the offer it is seen of which sorts it is."""
-        lines = generate.offers(chance, n, [chance.choice(rows + [generate.permutation(chance, n)])])
+        lines = generate.two_lines(chance, n, chance.choice(rows + [generate.permutation(chance, n)]))
         lines = [generate.damaged(chance, line) if chance.random() < 0.15 else line for line in lines]
         answer = self.offer(host, *lines)
-        seen.update(judged(host, *lines, answer))
+        seen.update(judged(host, *lines, answer) + idle(host, *lines, answer))
         yield "offer", answer
         yield "withdraw", self.withdraw(host)
         text = generate.text(chance, n, clauses)
@@ -139,11 +141,13 @@ class Random(Agree):
         yield "compare", self.compare(a, b if chance.random() < 0.8 else b[1:])
 
     def calls(self, chance, seen):
-        """Every call on one store; the answers. Of a store that is in order it is seen of which sorts its rows are."""
+        """Every call on one store; the answers. Of a store that is in order it is seen of which sorts its rows are, and whether one is the identity."""
         n = chance.choice(SIZES)
         clauses, rows = generate.family(chance, n) if chance.random() < 0.5 else generate.formula(chance, n, 12)
         host, sound = self.lent(chance, n, clauses, rows)
-        seen.update(sort for row in (held(host) if sound else []) for sort in generate.sorts(row))
+        in_use = held(host) if sound else []
+        seen.update(sort for row in in_use for sort in generate.sorts(row))
+        seen["identity among 64" if len(in_use) == 64 else "identity held"] += host.record.open != 0 and any(map(generate.identity, in_use))
         made = reference.made_text(*host.parts()).splitlines(True) if sound else [b"p cnf 1 1\n", b"1 2 3 0\n"]
         yield from self.lines(chance, host, made)
         yield from self.models(chance, host, n, int(made[0].split()[2]) if sound else n)
@@ -159,8 +163,9 @@ class Random(Agree):
             self.assertGreater(seen[sort], 5, sort)
         for sort in generate.SORTS:
             self.assertGreater(seen[sort], 200, sort)
-        for sort in generate.JUDGED:
+        for sort in [*generate.JUDGED, *generate.IDLE, "idle without room", "idle beside 64 rows", "identity among 64"]:
             self.assertGreater(seen[sort], 5, sort)
+        self.assertGreater(seen["identity held"], 50)
 
 
 class Stores(test_host.Stores):
@@ -175,6 +180,10 @@ class AlwaysTrue(test_host.AlwaysTrue):
     test_random = None
 
 
+class Idle(test_host.Idle):
+    test_every_line = None
+
+
 class Keys(test_host.Keys):
     test_random = None
 
@@ -187,7 +196,7 @@ def load_tests(loader, *_):
     """The guards, then all cases at the end of a page and again at the start of one."""
     suite = loader.loadTestsFromTestCase(Guards)
     for name, memory in [("AtEnd", END), ("AtStart", START)]:
-        for case in [Random, Stores, Withdrawals, test_host.Signs, AlwaysTrue, Keys, Compare, test_models.Worked, test_models.Refusals]:
+        for case in [Random, Stores, Withdrawals, test_host.Signs, AlwaysTrue, Idle, Keys, Compare, test_models.Worked, test_models.Refusals]:
             placed = type(case.__name__ + name, (case,), {"setUp": lambda self, memory=memory: setattr(library, "memory", memory)})
             suite.addTests(loader.loadTestsFromTestCase(placed))
     return suite

@@ -9,7 +9,7 @@ import generate
 import library
 import reference
 import tables
-from agree import LIBRARY, Agree, held, judged
+from agree import LIBRARY, Agree, held, idle, judged, lend_identities
 from library import TOP
 
 LISTING = b"p cnf 3 2\n1 2 0\n2 3 0\n"
@@ -89,10 +89,14 @@ class Stores(Agree):
             if chance.random() < 0.3:
                 text = generate.damaged(chance, text)
             self.count(answers, self.open(host, text))
+            if chance.random() < 0.15:
+                lend_identities(chance, host)
             for row in rows + [generate.permutation(chance, n)]:
                 named = [i for i in range(1, n + 1) if row[i - 1] != i or chance.random() < 0.3]
                 chance.shuffle(named)
                 names, values = generate.line(chance, named), generate.line(chance, [row[i - 1] for i in named])
+                if n and chance.random() < 0.15:
+                    names, values = generate.idle_lines(chance, n)
                 if chance.random() < 0.2:
                     names = generate.damaged(chance, names)
                 if chance.random() < 0.2:
@@ -102,13 +106,15 @@ class Stores(Agree):
                 answer = self.offer(host, names, values)
                 self.count(answers, answer)
                 accepted.update(generate.sorts(held(host)[-1]) if answer == ("done",) else [])
-                accepted.update(judged(host, names, values, answer))
+                accepted.update(judged(host, names, values, answer) + idle(host, names, values, answer))
+                accepted["beside an identity"] += answer[1:2] not in [(20,), (21,)] and any(map(generate.identity, held(host)))
             self.written(host, chance, lines)
-        for refusal in [None, 1, 2, 3, 4, 6, 7, 8, 9, 10, 11, 20, 21, 23]:
+        for refusal in [None, 1, 2, 3, 4, 6, 7, 8, 9, 10, 11, 20, 21, 23, 31]:
             self.assertGreater(answers.get(refusal, 0), 5, refusal)
         for refusal in [None, 13, 20, 21, 23]:
             self.assertGreater(lines.get(refusal, 0), 5, refusal)
-        for sort, least in [*((sort, 50) for sort in generate.SORTS), *((sort, 30) for sort in generate.JUDGED)]:
+        for sort, least in [*((sort, 50) for sort in generate.SORTS), *((sort, 30) for sort in generate.JUDGED), *((sort, 30) for sort in generate.IDLE),
+                            ("idle without room", 30), ("beside an identity", 200)]:
             self.assertGreater(accepted[sort], least, sort)
 
     def count(self, answers, answer):
@@ -144,19 +150,20 @@ class Withdrawals(Agree):
             self.assertEqual(self.withdraw(host), ("refused", expected, 0) if expected else ("done",))
 
     def test_full(self):
-        """After 64 rows, a withdrawal makes room for one; a damaged newest row is 21, and so it stays."""
+        """After 64 rows, a withdrawal makes room for one; a damaged newest row is 21, and so it stays; an identity in its place is taken back."""
         host = fresh(images=2 * 64)
         self.open(host, b"p cnf 2 1\n1 2 0\n")
         for _ in range(64):
             self.offer(host, b"1 2", b"2 1")
         self.assertEqual(self.offer(host, b"1 2", b"1 2"), ("refused", 22, 0))
         self.assertEqual(self.withdraw(host), ("done",))
-        self.assertEqual(self.offer(host, b"1 2", b"1 2"), ("done",))
-        self.assertEqual(host.images[126:], [2, 4])
-        for damage in [2, 3]:
+        self.assertEqual(self.offer(host, b"1 2", b"1 2"), ("refused", 31, 0))
+        self.assertEqual(self.offer(host, b"1 2", b"2 1"), ("done",))
+        self.assertEqual(host.images[126:], [4, 2])
+        for damage in [4, 5]:
             host.images[127] = damage
             self.assertEqual(self.withdraw(host), ("refused", 21, 0))
-        host.images[127] = 4
+        host.images[126:] = [2, 4]
         for left in reversed(range(64)):
             self.assertEqual((self.withdraw(host), host.record.rows), (("done",), left))
         self.assertEqual(self.withdraw(host), ("refused", 30, 0))
@@ -171,10 +178,10 @@ class Withdrawals(Agree):
                 if answer == ("done",):
                     left.pop()
             else:
-                lines = generate.offers(chance, n, [chance.choice(rows)])
+                lines = generate.two_lines(chance, n, chance.choice(rows))
                 lines = [generate.damaged(chance, line) if chance.random() < 0.1 else line for line in lines]
                 answer = self.offer(host, *lines)
-                seen.update(judged(host, *lines, answer))
+                seen.update(judged(host, *lines, answer) + idle(host, *lines, answer))
                 if answer == ("done",):
                     left.append(lines)
                 elif answer[1] == 23 and chance.random() < 0.5:
@@ -185,7 +192,7 @@ class Withdrawals(Agree):
 
     def test_lists(self):
         """After a list of offers and withdrawals, record, rows in use and text are those of a store that got only the offers accepted and not taken back, with
-        room for their rows and no more."""
+        room for their rows and no more. No row held moves nothing."""
         chance = random.Random(6)
         seen = Counter()
         for _ in range(600):
@@ -195,7 +202,9 @@ class Withdrawals(Agree):
             host = fresh(images=chance.choice([n * 20, n * 20, chance.randrange(n * 4 + 1)]))
             if self.open(host, text)[0] == "refused":
                 continue
+            idle_before = seen["idle"]
             left = self.listed(chance, host, n, rows + [generate.permutation(chance, n)], seen)
+            self.assertFalse(any(map(generate.identity, held(host))))
             other = fresh(images=len(left) * n, entry=8)
             other.open(text)
             for lines in left:
@@ -204,12 +213,14 @@ class Withdrawals(Agree):
             self.assertEqual((other.record, other.images[:used]), (host.record, host.images[:used]))
             self.assertEqual(reference.made_text(*other.parts()), reference.made_text(*host.parts()))
             seen["left", min(len(left), 2)] += 1
+            seen["left after an idle line", left != []] += seen["idle"] > idle_before
             seen.update(sort for row in held(host) for sort in generate.sorts(row))
-        for sort in ["done", 11, 23, 30, "lent", ("left", 0), ("left", 1), ("left", 2), *generate.SORTS, *generate.JUDGED]:
+        for sort in ["done", 11, 23, 30, 31, "lent", ("left", 0), ("left", 1), ("left", 2), *generate.SORTS, *generate.JUDGED, *generate.IDLE,
+                     *(("left after an idle line", some) for some in (False, True))]:
             self.assertGreater(seen[sort], 20, sort)
 
     def test_damaged(self):
-        """Lists on stores that are damaged between two calls."""
+        """Lists on stores that are damaged between two calls, at times after identities were put in."""
         chance = random.Random(7)
         seen = Counter()
         for _ in range(600):
@@ -218,11 +229,21 @@ class Withdrawals(Agree):
             host = fresh(images=n * 20)
             self.open(host, generate.text(chance, n, clauses))
             self.listed(chance, host, n, rows, Counter())
+            if chance.random() < 0.4:
+                lend_identities(chance, host)
             host.put(*generate.damaged_store(chance, *host.parts()))
-            for answer in [self.withdraw(host), self.offer(host, *generate.offers(chance, n, [chance.choice(rows)])), self.withdraw(host)]:
+            for answer in [self.taken_back(host, seen), self.offer(host, *generate.offers(chance, n, [chance.choice(rows)])), self.taken_back(host, seen)]:
                 seen[answer[1] if answer[0] == "refused" else "done"] += 1
-        for sort in ["done", 20, 21, 30]:
+        for sort in ["done", 20, 21, 30, "an identity taken back"]:
             self.assertGreater(seen[sort], 20, sort)
+
+    def taken_back(self, host, seen):
+        """A withdrawal; it is seen whether the row was an identity."""
+        answer = self.withdraw(host)
+        if answer == ("done",):
+            at, n = host.record.rows * host.record.variables, host.record.variables
+            seen["an identity taken back"] += host.images[at:at + n] == generate.codes([range(1, n + 1)])
+        return answer
 
 
 SQUARE = b"p cnf 3 4\n1 2 3 0\n1 -2 3 0\n-1 -2 3 0\n-1 2 3 0\n"  # which exchanges and negations of 1 and 2 keep
@@ -368,12 +389,13 @@ class AlwaysTrue(Agree):
             self.assertEqual((self.offer(host, *EXCHANGED), self.withdraw(host)), (("refused", 21, 0),) * 2)
 
     def test_only_such(self):
-        """Where all clauses hold a pair, every permutation of three variables is accepted, with every choice of signs."""
-        host = fresh(images=3 * 48)
+        """Where all clauses hold a pair, every permutation of three variables is accepted, with every choice of signs; only the identity is turned back."""
+        host = fresh(images=3 * 47)
         self.open(host, b"p cnf 3 4\n1 -1 0 1 -1 2 0 -2 3 2 1 0 3 2 1 -3 0")
         for sizes, turn in itertools.product(itertools.permutations([1, 2, 3]), itertools.product([1, -1], repeat=3)):
-            self.assertEqual(self.offer(host, b"1 2 3", b" ".join(b"%d" % (size * sign) for size, sign in zip(sizes, turn))), ("done",))
-        self.assertEqual((host.record.rows, len(set(map(tuple, held(host))))), (48, 48))
+            values = b" ".join(b"%d" % (size * sign) for size, sign in zip(sizes, turn))
+            self.assertEqual(self.offer(host, b"1 2 3", values), ("refused", 31, 0) if values == b"1 2 3" else ("done",))
+        self.assertEqual((host.record.rows, len(set(map(tuple, held(host))))), (47, 47))
 
     def test_limits(self):
         """12,288 literals, in clauses as long as they can be or as many. An offer's time is linear: it is not ten times that of the same lines offered where
@@ -413,6 +435,123 @@ class AlwaysTrue(Agree):
             seen.update(generate.sorts(row) if answer == ("done",) else [])
         for sort, least in [*zip(generate.JUDGED, [120, 30, 10, 100, 20]), *((sort, 10) for sort in generate.SORTS)]:
             self.assertGreater(seen[sort], least, sort)
+
+
+IDLE_LINES = [
+    ("one name", b"2", b"2", ("refused", 31, 0)),
+    ("two names in falling order", b"3 1", b"3 1", ("refused", 31, 0)),
+    ("two that may not be exchanged", b"1 2", b"1 2", ("refused", 31, 0)),
+    ("all names", b"1 2 3", b"1 2 3", ("refused", 31, 0)),
+    ("all names in another order", b"2 3 1", b"2 3 1", ("refused", 31, 0)),
+    ("blanks", b" 1\t3", b"\t1   3 \t", ("refused", 31, 0)),
+    ("line feeds, which are blanks", b"1\n3", b"\n1 3\n", ("refused", 31, 0)),
+    ("the same values in another order", b"1 3", b"3 1", [6, 4, 2]),
+    ("one of three stays", b"1 2 3", b"3 2 1", [6, 4, 2]),
+    ("the first of three stays", b"2 3 1", b"2 1 3", [6, 4, 2]),
+    ("one of three stays, no symmetry", b"1 2 3", b"1 3 2", ("refused", 11, 1)),
+    ("negated", b"1", b"-1", ("refused", 11, 1)),
+    ("all negated", b"1 2 3", b"-1 -2 -3", ("refused", 11, 1)),
+    ("the last of three negated", b"1 2 3", b"1 2 -3", ("refused", 11, 2)),
+    ("a letter for a name", b"1 x", b"1 x", ("refused", 7, 2)),
+    ("a leading zero", b"01", b"01", ("refused", 7, 0)),
+    ("beyond n", b"1 4", b"1 4", ("refused", 8, 2)),
+    ("a negative name", b"-1", b"-1", ("refused", 8, 0)),
+    ("a name twice", b"1 1", b"1 1", ("refused", 8, 2)),
+    ("no name", b"", b"", ("refused", 8, 0)),
+    ("a letter after an equal value", b"1 2", b"1 x", ("refused", 9, 2)),
+    ("a letter after all values", b"1 2", b"1 2 x", ("refused", 9, 4)),
+    ("a plus", b"1 2", b"1 +2", ("refused", 9, 2)),
+    ("a leading zero as a value", b"1 2", b"01 2", ("refused", 9, 0)),
+    ("no value", b"1 2", b" ", ("refused", 10, 1)),
+    ("a value too few", b"1 2", b"1", ("refused", 10, 1)),
+    ("a value twice", b"1 2", b"1 1", ("refused", 10, 2)),
+    ("a value that is no name", b"1 2", b"1 3", ("refused", 10, 2)),
+    ("a value more", b"1 2", b"1 2 2", ("refused", 10, 4)),
+    ("a value more, negated", b"1 2", b"1 2 -1", ("refused", 10, 4)),
+]
+
+STILL, SWAP = [2, 4, 6], [6, 4, 2]
+
+
+def lent(rows, is_open=True, literals=(2, 4, 4, 6), past=3):
+    """The listing's formula with these images as its rows, and so many entries past them."""
+    literals, ends = list(literals), [2, 4]
+    return library.Host(LIBRARY, reference.Record(3, 2, len(rows), is_open), literals, ends, generate.keys_of(literals, ends), sum(rows, []) + [7] * past)
+
+
+class Idle(Agree):
+    """CR 8: value lines that move nothing are turned back, and identities in a lent store are not."""
+
+    def test_cases(self):
+        for name, names, values, expected in IDLE_LINES:
+            with self.subTest(name):
+                host, accepted = lent([]), isinstance(expected, list)
+                self.assertEqual(self.offer(host, names, values), ("done",) if accepted else expected)
+                self.assertEqual((host.record.rows, host.images[:]), (1, expected) if accepted else (0, [7] * 3))
+
+    def test_negated(self):
+        """The value -i is not name i: where there are no clauses all negations are accepted."""
+        host = fresh(images=9)
+        self.open(host, b"p cnf 3 0")
+        for names, values in [(b"1", b"-1"), (b"1 2 3", b"1 2 -3"), (b"3 1 2", b"-3 -1 -2")]:
+            self.assertEqual(self.offer(host, names, values), ("done",))
+        self.assertEqual((self.offer(host, b"1", b"1"), held(host)), (("refused", 31, 0), [[-1, 2, 3], [1, 2, -3], [-1, -2, -3]]))
+
+    def test_order(self):
+        """20, 21, 22, 8 and 10 go before 31, and 31 before 23, with every choice of reasons; 11 goes before 23 as well."""
+        for closed, damaged, full, misnamed, misvalued, short in itertools.product([False, True], repeat=6):
+            first = [refusal for refusal, holds in zip([(20, 0), (21, 0), (22, 0), (8, 4), (10, 4)], [closed, damaged, full, misnamed, misvalued]) if holds]
+            for names, values, last in [(b"1 3", b"1 3", (31, 0)), (b"1 3", b"3 1", (23, 6)), (b"1 2", b"2 1", (11, 2))]:
+                host = lent([SWAP] * (64 if full else 1), not closed, (2, 4, 4, 8 if damaged else 6), 2 if short else 3)
+                refusal = (first + [last])[0]
+                accepted = refusal == (23, 6) and not short
+                self.assertEqual(self.offer(host, names + b" 4" * misnamed, values + b" 1" * misvalued), ("done",) if accepted else ("refused", *refusal))
+
+    def test_every_line(self):
+        """Every names line of three variables with every value line, where there are no clauses: 31 where the permutation that they state moves nothing."""
+        host, seen = fresh(images=3), Counter()
+        self.open(host, b"p cnf 3 0")
+        for size in [1, 2, 3]:
+            for names, values, turn in itertools.product(*[list(itertools.permutations([1, 2, 3], size))] * 2, itertools.product([1, -1], repeat=size)):
+                if set(names) == set(values):
+                    host.record = host.record._replace(rows=0)
+                    lines = [b" ".join(b"%d" % i for i in line) for line in (names, [i * sign for i, sign in zip(values, turn)])]
+                    still = generate.identity(generate.stated(3, *lines))
+                    self.assertEqual(self.offer(host, *lines), ("refused", 31, 0) if still else ("done",), lines)
+                    seen[size, still] += 1
+        self.assertEqual(seen, {(1, True): 3, (1, False): 3, (2, True): 6, (2, False): 42, (3, True): 6, (3, False): 282})
+
+    def test_largest(self):
+        """512 names and as many equal values, one more, one too few; the last one negated, the last two exchanged."""
+        host, names = fresh(images=1024), b" ".join(b"%d" % i for i in range(1, 513))
+        self.open(host, b"p cnf 512 0")
+        for values, answer in [(names, ("refused", 31, 0)), (names + b" 512", ("refused", 10, len(names) + 1)), (names[:-4], ("refused", 10, len(names) - 4)),
+                               (names[:-3] + b"-512", ("done",)), (names[:-7] + b"512 511", ("done",)), (names, ("refused", 31, 0))]:
+            self.assertEqual(self.offer(host, names, values), answer)
+
+    def test_lent(self):
+        """Identities in a lent store are well formed and add nothing; offers and withdrawals go on beside them."""
+        for rows in [[STILL], [STILL, SWAP], [SWAP, STILL], [STILL, SWAP, STILL, STILL], [SWAP, STILL, SWAP]]:
+            host, without = lent(rows), lent([row for row in rows if row != STILL])
+            self.assertEqual((self.header(host, bytes(20)), host.header(bytes(20))), (without.header(bytes(20))[0], without.header(bytes(20))))
+            for q in range(1, 16):
+                self.assertEqual((self.clause(host, q, bytes(20)), host.clause(q, bytes(20))), (without.clause(q, bytes(20))[0], without.clause(q, bytes(20))))
+            self.assertEqual((self.offer(host, b"1 3", b"1 3"), self.offer(host, b"1 3", b"3 1")), (("refused", 31, 0), ("done",)))
+            self.assertEqual((host.record.rows, host.images[:]), (len(rows) + 1, sum(rows, []) + SWAP))
+            self.assertEqual([self.withdraw(host) for _ in range(len(rows) + 2)], [("done",)] * (len(rows) + 1) + [("refused", 30, 0)])
+
+    def test_64(self):
+        """Identities count towards 64, also where there are no variables."""
+        for identities in [1, 32, 63, 64]:
+            host = lent([SWAP] * (64 - identities) + [STILL] * identities)
+            for values in [b"3 1", b"1 3", b"x"]:
+                self.assertEqual(self.offer(host, b"1 3", values), ("refused", 22, 0))
+            self.assertEqual((self.withdraw(host), self.offer(host, b"1 3", b"1 3")), (("done",), ("refused", 31, 0)))
+            self.assertEqual((self.offer(host, b"1 3", b"3 1"), self.offer(host, b"1 3", b"1 3")), (("done",), ("refused", 22, 0)))
+            self.assertEqual((host.record.rows, host.header(bytes(13))[1].rstrip(b"\0")), (64, b"p cnf %d %d\n" % (68 - identities, 392 - 6 * identities)))
+        empty = library.Host(LIBRARY, reference.Record(0, 0, 64, True), [], [], [], [])
+        self.assertEqual((self.offer(empty, b"1", b"1"), self.withdraw(empty)), (("refused", 22, 0), ("done",)))
+        self.assertEqual((self.offer(empty, b"1", b"1"), empty.record.rows), (("refused", 8, 0), 63))
 
 
 NUMBERS = {1: 8399848799940609, -1: 24472253299388417, 2: 27429481777696769, -2: 47979604178350081, 3: 56431291722078209,
@@ -485,7 +624,9 @@ class Keys(Agree):
         for _ in range(1000):
             n = chance.choice([1, 2, 3, 4, 6])
             clauses, rows = generate.cycles(chance, n, 12)
-            numbers, *slices = generate.store(chance, n, clauses, chance.choices(rows, k=chance.randrange(3)), 1)
+            chosen = chance.choices(rows, k=chance.randrange(3))
+            chosen = generate.with_identities(chance, n, chosen) if chance.random() < 0.2 else chosen
+            numbers, *slices = generate.store(chance, n, clauses, chosen, 1)
             record, literals, ends, keys, images = parts = generate.damaged_store(chance, reference.Record(*numbers), *slices)
             host = library.Host(LIBRARY, *parts)
             self.header(host, bytes(32))
@@ -494,13 +635,15 @@ class Keys(Agree):
             right = generate.keys_of(literals, ends[:record.clauses])
             if not reference.badly_formed(*parts):
                 seen["sound"] += 1
+                seen["identity held"] += any(generate.identity([*row.values()]) for row in reference.rows_of(record, images))
             elif not reference.badly_formed(record, literals, ends, right, images):
                 seen["a key too few" if len(keys) < record.clauses else "a wrong key"] += 1
                 repeated = map(generate.summed, generate.clauses_of(literals, ends))
                 seen["repeats counted"] += any(key == wrong != true for key, wrong, true in zip(keys, repeated, right))
                 without = [q for q, clause in enumerate(generate.clauses_of(literals, ends[:record.clauses])) if not any(code ^ 1 in clause for code in clause)]
                 seen["of clauses with a pair alone"] += all(keys[q:q + 1] == [right[q]] for q in without)
-        for sort, least in [("sound", 300), ("a wrong key", 100), ("a key too few", 10), ("repeats counted", 10), ("of clauses with a pair alone", 30)]:
+        for sort, least in [("sound", 300), ("identity held", 30), ("a wrong key", 100), ("a key too few", 10), ("repeats counted", 10),
+                            ("of clauses with a pair alone", 30)]:
             self.assertGreater(seen[sort], least, sort)
 
 

@@ -9,7 +9,7 @@ from collections import Counter
 import generate
 import library
 import reference
-from agree import LIBRARY, Agree, held, judged
+from agree import LIBRARY, Agree, held, idle, judged, lend_identities
 from library import TOP
 
 
@@ -41,7 +41,22 @@ class Worked(Agree):
     """Cases of document 01, and edges, worked out by hand."""
 
     def test_listing(self):
-        host = offered(b"p cnf 3 2\n1 2 0\n2 3 0\n", b"1 3", b"3 1")
+        self.listing(offered(b"p cnf 3 2\n1 2 0\n2 3 0\n", b"1 3", b"3 1"))
+
+    def test_identities(self):
+        """Beside identities in a lent store all is as it is without them; where only they are held, nothing is lowered and nothing added."""
+        still, swap = [2, 4, 6], [6, 4, 2]
+        for rows in [still + swap, swap + still, still * 31 + swap + still * 32]:
+            self.listing(stored(record=reference.Record(3, 2, len(rows) // 3, True), images=rows))
+        for count in [1, 2, 64]:
+            host = stored(record=reference.Record(3, 2, count, True), images=still * count)
+            for digits, clause in [("110", 0), ("011", 0), ("101", 0), ("001", 1), ("100", 2)]:
+                self.assertEqual(self.descend(host, packed(digits), 0), (("done", "settled", 0), packed(digits)))
+                self.assertEqual(self.fill_in(host, packed(digits), [5, 6]), (("done", 1), packed(digits) + [6]))
+                self.assertEqual(self.check(host, packed(digits)), ("done", clause))
+
+    def listing(self, host):
+        """The cases of the listing's formula with its row."""
         for start, limit, expected, end in [("110", TOP, ("done", "settled", 1), "011"), ("110", 1, ("done", "settled", 1), "011"),
                                             ("110", 0, ("done", "spent", 0), "110"), ("011", 0, ("done", "settled", 0), "011")]:
             self.assertEqual(self.descend(host, packed(start), limit), (expected, packed(end)), (start, limit))
@@ -217,15 +232,17 @@ def last_number(host):
 
 
 def offer_all(chance, host, n, rows, seen, last=TOP):
-    """A list of offers, damaged ones among them, until the made formula passes `last` variables; what was accepted, how many were refused. Of each offer it is
-    seen of which sorts it is."""
+    """A list of offers, damaged ones among them and at times one that moves nothing, or nearly so, until the made formula passes `last` variables; what was
+    accepted, how many were refused. Of each offer it is seen of which sorts it is."""
     accepted, refused = [], 0
-    for row in rows:
-        names, values = generate.offers(chance, n, [row])
+    offers = [generate.offers(chance, n, [row]) for row in rows]
+    if n and chance.random() < 0.4:
+        offers.insert(chance.randint(0, len(offers)), generate.idle_lines(chance, n))
+    for names, values in offers:
         if chance.random() < 0.15:
             values = generate.damaged(chance, values)
         answer = host.offer(names, values)
-        seen.update(judged(host, names, values, answer))
+        seen.update(judged(host, names, values, answer) + idle(host, names, values, answer))
         if refusal(answer):
             refused += 1
             continue
@@ -285,7 +302,7 @@ class Random(Agree):
                 seen["place among six", [r for row in held(host) for r in places(row)][added - 1]] += 1
 
     def offered(self, chance, n, clauses, rows, seen):
-        """A store after a list of offers, and the N of its made formula."""
+        """A store after a list of offers, at times with identities put in then, and the N of its made formula."""
         host = opened(generate.text(chance, n, clauses))
         seen["refused offers"] += offer_all(chance, host, n, rows, seen)[1]
         last = reference.made_counts(host.record, list(host.images))[0]
@@ -293,10 +310,13 @@ class Random(Agree):
         seen["last word", last % 64] += last > n
         seen["more words"] += reference.word_count(last) > reference.word_count(n)
         seen.update(sort for row in held(host) for sort in generate.sorts(row))
+        if chance.random() < 0.25:
+            lend_identities(chance, host)
+            seen["identity held"] += n > 0
         return host, last
 
     def test_random(self):
-        chance = random.Random(10)
+        chance = random.Random(14)
         seen = Counter()
         for n in SIZES * 10:
             clauses, rows = generate.family(chance, n)
@@ -310,7 +330,7 @@ class Random(Agree):
                 self.checks(chance, host, n, last, filled, seen)
         for sort in WANTED:
             self.assertGreater(seen[sort], 5, sort)
-        for sort, least in [*((sort, 50) for sort in generate.SORTS), *((sort, 10) for sort in generate.JUDGED)]:
+        for sort, least in [*((sort, 50) for sort in generate.SORTS), *((sort, 10) for sort in generate.JUDGED), ("idle", 50), ("identity held", 30)]:
             self.assertGreater(seen[sort], least, sort)
 
 
@@ -423,7 +443,7 @@ class Demand3(unittest.TestCase):
             n = chance.choice([0, 1, 2, 3, 3, 4, 4, 5, 5, 6, 7])
             clauses, rows = generate.family(chance, n, (generate.cycles, generate.powers, generate.columns))
             host = opened(b"p cnf %d %d\n" % (n, len(clauses)) + b"".join(map(reference.clause_line, clauses)), 400, 120, 80)
-            offers = chance.choices(rows, k=chance.randint(1, 4)) + [generate.permutation(chance, n)]
+            offers, idle_before = chance.choices(rows, k=chance.randint(1, 4)) + [generate.permutation(chance, n)], seen["idle"]
             chance.shuffle(offers)
             accepted, refused = offer_all(chance, host, n, offers, seen, 10)
             taken_back = chance.choice([0, 0, 1, 2, 3])
@@ -433,20 +453,28 @@ class Demand3(unittest.TestCase):
                 accepted = accepted[:-1]
             if taken_back and last_number(host) <= 10:
                 accepted += offer_all(chance, host, n, [chance.choice(rows)], seen)[0]
+            self.assertEqual(held(host), accepted)
+            self.assertFalse(any(map(generate.identity, held(host))))
+            seen["idle line", accepted != []] += seen["idle"] > idle_before
+            seen["rows", min(len(accepted), 2), refused > 0] += 1
+            if chance.random() < 0.2:
+                lend_identities(chance, host)
+                accepted = held(host)
+                seen["identity held"] += n > 0
             before = host.parts()
             self.whole(host, n, clauses, accepted, seen)
             self.assertEqual(host.parts(), before)
-            seen["rows", min(len(accepted), 2), refused > 0] += 1
             seen.update(sort for row in accepted for sort in generate.sorts(row))
         for sort, least in [(("satisfiable", True), 200), (("satisfiable", False), 20), ("kept", 2000), ("dropped", 1000), ("spent", 2000),
                             ("false added", 2000), (("moves", 0), 1000), (("moves", 1), 1000), (("moves", 2), 300), (("moves", 3), 100),
                             (("rows", 1, True), 20), (("rows", 2, True), 80), (("taken back", True), 100), (("taken back", False), 20),
+                            (("idle line", True), 50), (("idle line", False), 30), ("identity held", 50), *((sort, 20) for sort in generate.IDLE),
                             *((sort, 50) for sort in generate.SORTS), *((sort, 10) for sort in generate.JUDGED)]:
             self.assertGreater(seen[sort], least, sort)
 
     def test_always_true(self):
         """Formulas of which some clauses hold a pair, and lists of offers from all permutations of their variables: accepted are those that the reference finds
-        to be symmetries, and demand 3 holds, also after a withdrawal."""
+        to be symmetries, but for the identity, and demand 3 holds, also after a withdrawal."""
         chance, seen = random.Random(13), Counter()
         for _ in range(80):
             n = chance.choice([2, 3, 3, 4, 4])
@@ -460,24 +488,30 @@ class Demand3(unittest.TestCase):
             for row in offers:
                 lines = [b" ".join(b"%d" % i for i in line) for line in (range(1, n + 1), row)]
                 answer = host.offer(*lines)
-                self.assertEqual(answer == ("done",), row in kept)
+                self.assertEqual(answer == ("refused", 31, 0), generate.identity(row))
+                self.assertEqual(answer == ("done",), row in kept and not generate.identity(row))
                 seen.update(judged(host, *lines, answer))
-                accepted += [row] if row in kept else []
+                accepted += [row] if answer == ("done",) else []
             self.whole(host, n, clauses, accepted, seen)
-            self.assertEqual(host.withdraw(), ("done",))
+            self.assertEqual(host.withdraw(), ("done",) if accepted else ("refused", 30, 0))
             self.whole(host, n, clauses, accepted[:-1], seen)
         for sort, least in [(("satisfiable", True), 60), ("kept", 200), ("dropped", 200), *((sort, 5) for sort in generate.JUDGED)]:
             self.assertGreater(seen[sort], least, sort)
 
     def test_every_row(self):
-        """Every permutation of up to three variables, with every choice of signs, alone and before another. Where there are no clauses all are symmetries."""
+        """Every permutation of up to three variables, with every choice of signs, alone and before another. Where there are no clauses all are symmetries, and
+        only the identity is turned back; it is lent then."""
         chance, seen = random.Random(12), Counter()
         for n in [1, 2, 3]:
             rows = every_row(n)
             for pair in ([row, chance.choice(rows)] for row in rows):
                 host = opened(b"p cnf %d 0" % n)
                 for count, row in enumerate(pair, 1):
-                    self.assertEqual(host.offer(*(b" ".join(b"%d" % i for i in line) for line in (range(1, n + 1), row))), ("done",))
+                    still = generate.identity(row)
+                    answer = host.offer(*(b" ".join(b"%d" % i for i in line) for line in (range(1, n + 1), row)))
+                    self.assertEqual(answer, ("refused", 31, 0) if still else ("done",))
+                    if still:
+                        host.put(host.record._replace(rows=count), *host.parts()[1:4], generate.codes(pair[:count]) + host.images[count * n:])
                     self.whole(host, n, [], pair[:count], seen)
         self.assertGreater(seen["dropped"], 200)
 

@@ -119,6 +119,20 @@ OFFERS = [
     ("a value too few and a blank", b"1 3\n3 ", "refused 10 2"),
     ("a value more", b"1 3\n3 1 1", "refused 10 4"),
     ("no value", b"1 3\n\n3 1", "refused 10 0"),
+    ("an equal value before a letter", b"1 3\n1 x", "refused 9 2"),
+    ("equal values before a letter", b"1 3\n1 3 x", "refused 9 4"),
+    ("an equal value and too few", b"1 3\n1", "refused 10 1"),
+    ("an equal value twice", b"1 3\n1 1", "refused 10 2"),
+    ("equal values and one more", b"1 3\n1 3 3", "refused 10 4"),
+    ("a line that moves nothing", b"1 3\n1 3", "refused 31 0"),
+    ("one name", b"2\n2", "refused 31 0"),
+    ("all names, in another order", b"3 1 2\n3 1 2", "refused 31 0"),
+    ("blanks around equal values", b"\t3 1\n 3\t\t1 ", "refused 31 0"),
+    ("a line that moves nothing in the second offer", b"1 3\n3 1\n1 3", "refused 31 0"),
+    ("a line that moves nothing before one that is no symmetry", b"1 2\n1 2\n2 1", "refused 31 0"),
+    ("no symmetry before a line that moves nothing", b"1 2\n2 1\n1 2", "refused 11 2"),
+    ("no symmetry, one of three equal", b"1 2 3\n1 3 2", "refused 11 1"),
+    ("no symmetry, the value the name negated", b"2\n-2", "refused 11 1"),
     ("no symmetry", b"1 2\n2 1", "refused 11 2"),
     ("no symmetry in the second offer", b"1 2 3\n3 2 1\n1 3 2", "refused 11 1"),
     ("no symmetry for its sign", b"1 3\n3 -1", "refused 11 2"),
@@ -215,10 +229,10 @@ class Program(unittest.TestCase):
             self.prints(PLAIN + b"%" + after, expected)
 
     def test_layout(self):
-        """Blanks, line ends and comments don't matter; order, repeats and empty clauses stay; the identity adds nothing."""
+        """Blanks, line ends and comments don't matter; order, repeats and empty clauses stay."""
         self.prints(b"c %\ncp cnf 9 9\r\np\tcnf  3 \t2 \n\n1\n2 0 2\t3 0\n \n%\n\t3  1 \n1\t3", MADE)
         self.prints(b"p cnf 3 2\nc\n1\nc % 0\n2 0 2\t3\ncnf 9 9\r\n0\nc 1\n%\n3 1\n1 3", MADE)
-        self.prints(b"p cnf 2 6\n0 1 1 0 1 -1 0 0 2 2 2 0 -2 2 0\n%\n2 1\n2 1\n1 2\n",
+        self.prints(b"p cnf 2 6\n0 1 1 0 1 -1 0 0 2 2 2 0 -2 2 0\n%\n2 1\n1 2\n",
                     b"p cnf 3 12\n0\n1 1 0\n1 -1 0\n0\n2 2 2 0\n-2 2 0\n-1 2 0\n-3 -1 2 0\n-3 1 -2 0\n3 1 2 0\n3 -1 -2 0\n-3 -2 1 0\n")
         self.prints(b"p cnf 0 0\n%\n", b"p cnf 0 0\n")
 
@@ -267,42 +281,43 @@ class Program(unittest.TestCase):
 
     def test_refusals(self):
         found = self.table(OPENINGS, b"%b%%\n1 3\n3 1\n") | self.table(OFFERS, PLAIN + b"%%\n%b\n") | self.table(MISSING, b"%b%%\n1 2\n2 1\n")
-        self.assertEqual(found, set(range(1, 12)))
+        self.assertEqual(found, {*range(1, 12), 31})
 
     def test_rows_held(self):
-        """Row 64 is held, the next offer is 22 and not looked at; the identity counts."""
+        """Row 64 is held, the next offer is 22 and not looked at."""
         cycles = b"p cnf 3 1\n1 2 3 0\n%\n1 2 3\n" + b"2 3 1\n" * 63
         self.assertTrue(self.agree(cycles + b"2 3 1\n").startswith(b"p cnf 131 769\n1 2 3 0\n"))
         self.prints(cycles + b"x\n", b"refused 9 0\n")
+        self.prints(cycles + b"1 2 3\n", b"refused 31 0\n")
         for line in [b"2 3 1", b"1 2 3", b"x", b""]:
             self.prints(cycles + b"2 3 1\n" + line + b"\n", b"refused 22 0\n")
-        identities = b"p cnf 2 0\n%\n1\n" + b"1\n" * 64
-        self.prints(identities, b"p cnf 2 0\n")
-        self.prints(identities + b"1", b"refused 22 0\n")
         self.prints(b"p cnf 2 0\n%\n2\n" + b"-2\n" * 64, b"p cnf 2 64\n" + b"-2 -2 0\n" * 64)
 
     def test_random(self):
         refused, accepted, sorts = Counter(), Counter(), Counter()
-        for number in range(INPUTS):
-            chance = random.Random(number)
+        for seed in range(INPUTS):
+            chance = random.Random(seed)
             data = generate.program_input(chance, chance.choice([0, 1, 2, 2, 3, 3, 4, 4, 5, 5, 6, 7, 8, 9]), 40)
-            if number % 2:
+            if seed % 2:
                 data = generate.damaged_input(chance, data)
-            with self.subTest(input=number):
+            with self.subTest(input=seed):
                 printed = self.agree(data)
-                if not printed.startswith(b"refused") or printed.startswith(b"refused 11 "):
+                number = int(printed.split()[1]) if printed.startswith(b"refused") else None
+                if number in (None, 11):
                     sorts.update(generate.judged_input(data))
-                if printed.startswith(b"refused"):
-                    refused[int(printed.split()[1])] += 1
-                else:
-                    rows = generate.moving_rows(data)
+                if number in (None, 10, 31):
+                    sorts.update(generate.idle_input(data))
+                if number is None:
+                    rows = generate.accepted_rows(data)
+                    self.assertFalse(any(map(generate.identity, rows)))
                     accepted[len(rows)] += 1
                     sorts.update(sort for row in rows for sort in generate.sorts(row))
-        for number in [1, 2, 3, 4, 6, 7, 8, 9, 10, 11, 15]:
+                refused[number] += 1
+        for number in [1, 2, 3, 4, 6, 7, 8, 9, 10, 11, 15, 31]:
             self.assertGreater(refused[number], 5, number)
         self.assertGreater(sum(times for rows, times in accepted.items() if rows >= 1), 200)
         self.assertGreater(sum(times for rows, times in accepted.items() if rows >= 2), 100)
-        for sort, least in [*((sort, 50) for sort in generate.SORTS), *((sort, 10) for sort in generate.JUDGED)]:
+        for sort, least in [*((sort, 50) for sort in generate.SORTS), *((sort, 10) for sort in [*generate.JUDGED, *generate.IDLE])]:
             self.assertGreater(sorts[sort], least, sort)
 
     def test_many_rows(self):
@@ -317,7 +332,7 @@ class Program(unittest.TestCase):
         """64 accepted rows over 512 variables that move as many of them as 65,536 bytes can state, the last one too."""
         data = most_rows()
         self.assertLessEqual(len(data), 65536)
-        self.assertEqual(len(generate.moving_rows(data)), 64)
+        self.assertEqual(len(generate.accepted_rows(data)), 64)
         self.assertTrue(self.agree(data).startswith(b"p cnf 17984 104852\n"))
 
     def test_many_clauses(self):

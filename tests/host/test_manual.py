@@ -121,7 +121,7 @@ class Manual(unittest.TestCase):
                 with self.subTest(each):
                     self.assertEqual(self.refusal(example), (int(number), int(place)))
                 tried.add(int(number))
-        self.assertEqual(tried, set(range(1, 16)) | set(range(20, 24)) | {30})
+        self.assertEqual(tried, set(range(1, 16)) | set(range(20, 24)) | {30, 31})
 
     def test_moving(self):
         """Each table says in its head by which values of the names 1, 2, .. it moves; where there are no clauses they are all accepted."""

@@ -14,9 +14,9 @@ sys.path[:0] = [os.path.join(TESTS, "reference"), os.path.join(TESTS, "host")]
 import generate
 import reference
 
-# How many inputs of each kind: refused with a number, or accepted with as many rows that move something, of which some turn signs or none. Apart from these,
-# inputs with a clause that holds a pair and whose image is missing: refused with 11 at a clause after it, or accepted, with or without signs.
-WANTED = {**{("refused", number): 3 for number in (1, 3, 4, 6, 7, 8, 9, 10, 11, 15)},
+# How many inputs of each kind: refused with a number, or accepted with as many rows, of which some turn signs or none. Apart from these, inputs with a clause
+# that holds a pair and whose image is missing: refused with 11 at a clause after it, or accepted, with or without signs.
+WANTED = {**{("refused", number): 3 for number in (1, 3, 4, 6, 7, 8, 9, 10, 11, 15)}, ("refused", 31): 6,
           ("accepted", 0, False): 6, **{("accepted", rows, signed): 3 for rows in (1, 2, 3, 4) for signed in (False, True)},
           ("refused after a pair", 11): 3, **{("accepted over a pair", signed): 3 for signed in (False, True)}}
 

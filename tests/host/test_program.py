@@ -312,7 +312,8 @@ class Program(unittest.TestCase):
                     self.assertFalse(any(map(generate.identity, rows)))
                     accepted[len(rows)] += 1
                     sorts.update(sort for row in rows for sort in generate.sorts(row))
-                refused[number] += 1
+                else:
+                    refused[number] += 1
         for number in [1, 2, 3, 4, 6, 7, 8, 9, 10, 11, 15, 31]:
             self.assertGreater(refused[number], 5, number)
         self.assertGreater(sum(times for rows, times in accepted.items() if rows >= 1), 200)

@@ -1,14 +1,14 @@
 -- Demand 2, first half: a permutation is accepted exactly when it is a symmetry of the formula and moves something, the input rules and limits
 -- permitting, and the row that is then held is the one that the two lines state. Assumes nothing.
 use mathlib.Core.Path.{_≡_, refl, ap, _∙_}
-use mathlib.Core.Bool.{true, false}
+use mathlib.Core.Bool.{true}
 use mathlib.Core.List.{List, [], _∷_, _++_}
 use mathlib.Core.Logic.{_↔_}
 use Prim.Native.Nat.{ℕ}
 use native.Mathlib.Omega.{arith}
 use Rattle.store.specs.Refusals.{done, refused}
 use Rattle.store.specs.Stores.{plainOf, heldRows, isRow, withRow}
-use Rattle.store.specs.Identity.{movesNothing, MovesSomething}
+use Rattle.store.specs.Identity.{MovesSomething}
 use Rattle.store.proofs.Formed.{formed, row-of}
 use Rattle.store.proofs.Identity.{moves-something-iff}
 use Rattle.store.proofs.RowChanges.{with-row-held, with-row-formed}
@@ -29,32 +29,6 @@ module _ (s : Keyed) (names values : List ℕ) where
   abbrev row : List ℕ
   row = rowFor (s .store) names values
 
-  -- everything that an acceptance rests on
-  pub record Accepts : Type 0 where
-    pub permitted : Permitted s names values
-    pub moving : movesNothing row ≡ false
-    pub none-missing : firstMissing row (plainOf (s .store)) ≡ 0
-
-  never : {A : Type 0} {number place : ℕ} → offerSays s names values ≡ refused number place → offerSays s names values ≡ done accepted → A
-  never e said = let z : _≡_ {A = ℕ} 0 1 = cc in absurd (omega arith)
-
-  pub accepts-of : offerSays s names values ≡ done accepted → Accepts
-  accepts-of said = by (decided s names values)
-    where
-      by : Decided s names values → Accepts
-      by (shut q e) = never e said
-      by (misformed q e) = never e said
-      by (full e) = never e said
-      by (unstated r h e) = never e said
-      by (idle a h e) = never e said
-      by (asymmetric e) = never e said
-      by (short a h e) = never e said
-      by (taken a moving none room e) = record {
-        permitted = record { states = a; room = room };
-        moving = moving;
-        none-missing = none;
-      }
-
   is-row : Permitted s names values → isRow (s .store .counts .variables) row ≡ true
   is-row p = stated-row (s .store .counts .variables) names values (p .states .stated)
 
@@ -64,9 +38,30 @@ module _ (s : Keyed) (names values : List ℕ) where
       (literals-within (s .store) (formed (s .store) (its-form s (p .states .formed))))
 
   -- Demand 2: two lines are accepted exactly when they state, by the input rules and limits, a permutation that is a symmetry and moves something.
-  pub accepted-iff : (offerSays s names values ≡ done accepted) ↔ (Permitted s names values × IsSymmetry row (plainOf (s .store)) × MovesSomething row)
+  abbrev Acceptance : Type 0
+  Acceptance = Permitted s names values × IsSymmetry row (plainOf (s .store)) × MovesSomething row
+
+  acceptance-of : offerSays s names values ≡ done accepted → Acceptance
+  acceptance-of said = by (decided s names values)
+    where
+      turned : {number place : ℕ} → offerSays s names values ≡ refused number place → Acceptance
+      turned e = let z : _≡_ {A = ℕ} 0 1 = cc in absurd (omega arith)
+
+      by : Decided s names values → Acceptance
+      by (shut q e) = turned e
+      by (misformed q e) = turned e
+      by (full e) = turned e
+      by (unstated r h e) = turned e
+      by (idle a h e) = turned e
+      by (asymmetric e) = turned e
+      by (short a h e) = turned e
+      by (taken a moving none room e) =
+          let p : Permitted s names values = record { states = a; room = room } in
+          (p, symmetry-iff p .0 none, moves-something-iff row .0 moving)
+
+  pub accepted-iff : (offerSays s names values ≡ done accepted) ↔ Acceptance
   accepted-iff = (
-    λ said. let a = accepts-of said in (a .permitted, symmetry-iff (a .permitted) .0 (a .none-missing), moves-something-iff row .0 (a .moving)),
+    acceptance-of,
     λ all. let p = all .0 in says s names values (p .states) (held (s .store) names values (p .states .stated) (moves-something-iff row .1 (all .2)) _ refl (symmetry-iff p .1 (all .1)) (p .room)),
   )
 
@@ -81,8 +76,8 @@ module _ (s : Keyed) (names values : List ℕ) where
     unfolding offerStore
     store-accepted = rw said
 
-    abbrev permitted : Permitted s names values
-    permitted = accepts-of said .permitted
+    pub permitted : Permitted s names values
+    permitted = acceptance-of said .0
 
     -- the rows held afterwards are those held before and the one that the lines state, and the store stays well formed
     pub accepted-held : heldRows (offerStore s names values .store) ≡ heldRows (s .store) ++ (row ∷ [])

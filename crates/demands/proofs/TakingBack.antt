@@ -22,7 +22,7 @@ use Rattle.demands.specs.Lists.{Call, offer, withdraw, lend, lentAnew, a
 use Rattle.demands.specs.Demand2.{Permitted}
 use Rattle.demands.specs.Demand3.{permutations, left}
 use Rattle.demands.specs.TakingBack.{Answers, NoneRefused, lendsNone, offers, GetsOnly, TakesBack}
-use Rattle.demands.proofs.Acceptance.{accepts-of, accepted-iff, store-refused, store-accepted, accepted-held, accepted-formed}
+use Rattle.demands.proofs.Acceptance.{permitted, accepted-iff, store-refused, store-accepted, accepted-held, accepted-formed}
 use Rattle.demands.proofs.Withdrawal.{withdrawn-refused, withdrawn-row}
 use Rattle.demands.proofs.AfterCalls.{Keeps, same-plain, same-variables, same-open, keeps-self, keeps-trans, accepted-keeps, Acceptable, acceptable-alike}
 use Rattle.demands.proofs.AfterCalls.{Held, none, newest, Ending, ending, answered, turned, Sound, sound-call, fresh, after-opening}
@@ -53,7 +53,7 @@ images-call s (offer names values) e = by (ending (offerSays s names values))
     by : Ending (offerSays s names values) → length (offerStore s names values .store .images) ≡ length (s .store .images)
     by (turned number place q) = rw (store-refused s names values number place q)
     by (answered yes q) =
-        rw (store-accepted s names values q) (with-row-images (s .store) (rowFor (s .store) names values) (row-length (s .store .counts .variables) names values) (accepts-of s names values q .permitted .room))
+        rw (store-accepted s names values q) (with-row-images (s .store) (rowFor (s .store) names values) (row-length (s .store .counts .variables) names values) (permitted s names values q .room))
 
 images-calls : (s : Keyed) (calls : List Call) → allOf lendsNone calls ≡ true → length (after s calls .store .images) ≡ length (s .store .images)
 unfolding after allOf
@@ -86,11 +86,11 @@ module _ (o t : Keyed) (k : Keeps o t) (opened : t .store .counts .is_open ≡ t
         let all = keeps-trans (r .keeps) k in
         let here = acceptable-alike o u names values (sym (same-variables all)) (sym (same-plain all)) a in
         let needed = ap₂ (λ (c n : ℕ). (c + 1) * n) (sym count) (sym (same-variables (r .keeps))) in
-        let permitted : Permitted u names values = record {
+        let may : Permitted u names values = record {
           states = record { opened = same-open (r .keeps) ∙ opened; formed = r .formed; not-full = omega (arith, count); stated = here .stated };
           room = subst₂ (λ (needed given : ℕ). needed ≤ given) needed (sym (r .images)) room;
         } in
-        accepted-iff u names values .1 (permitted, here .symmetry, here .moves)
+        accepted-iff u names values .1 (may, here .symmetry, here .moves)
 
     replayed-more : Replayed t (rows ++ (rowFor (o .store) names values ∷ [])) (offers ++ (offer names values ∷ []))
     replayed-more =

@@ -38,7 +38,7 @@ use Rattle.offering.specs.Offering.{rowFor}
 use Rattle.calls.specs.Calls.{Accepted, accepted, Dimensions, saidOpened, openSays, openStore, offerSays, offerStore}
 use Rattle.demands.specs.Lists.{after}
 use Rattle.demands.proofs.Decided.{Decided, shut, misformed, full, unstated, idle, asymmetric, short, taken, decided}
-use Rattle.demands.proofs.Acceptance.{accepts-of, store-accepted, accepted-formed}
+use Rattle.demands.proofs.Acceptance.{permitted, store-accepted, accepted-formed}
 use Rattle.demands.proofs.AfterCalls.{after-opening}
 use Rattle.session.specs.Input.{maxInput, fromDivider}
 use Rattle.session.specs.Session.{Ended, ended, offerAll, offerLines, ifOpened, divided, sessionOf}
@@ -241,7 +241,7 @@ offer-stands s names values h said =
     record {
       opened = ap (λ (t : Keyed). t .store .counts .is_open) is ∙ h .opened;
       formed = accepted-formed s names values said;
-      long = rw (is, with-row-images (s .store) row (row-length (s .store .counts .variables) names values) (accepts-of s names values said .permitted .room)) (h .long);
+      long = rw (is, with-row-images (s .store) row (row-length (s .store .counts .variables) names values) (permitted s names values said .room)) (h .long);
     }
 
 open-stands : (s : Keyed) → Ample s → (text : List ℕ) (sizes : Dimensions) → openSays s text ≡ done sizes → StoreStands (openStore s text)

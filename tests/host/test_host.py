@@ -274,16 +274,22 @@ SIGNED = [
 ]
 
 
-class Signs(Agree):
+class Offers(Agree):
+    def offered(self, text, cases):
+        """Two lines offered to this formula, case by case, and the row that is then held, or the refusal."""
+        for name, names, values, expected in cases:
+            with self.subTest(name):
+                host, accepted = fresh(images=4), isinstance(expected, list)
+                self.open(host, text)
+                self.assertEqual(self.offer(host, names, values), ("done",) if accepted else expected)
+                self.assertEqual((host.record.rows, host.images[:]), (1, [*expected, 7]) if accepted else (0, [7] * 4))
+
+
+class Signs(Offers):
     """CR 6: permutations that turn signs."""
 
     def test_offers(self):
-        for name, names, values, expected in SIGNED:
-            with self.subTest(name):
-                host, accepted = fresh(images=4), isinstance(expected, list)
-                self.open(host, SQUARE)
-                self.assertEqual(self.offer(host, names, values), ("done",) if accepted else expected)
-                self.assertEqual(host.images[:], [*expected, 7] if accepted else [7] * 4)
+        self.offered(SQUARE, SIGNED)
 
     def test_sign_from_both(self):
         """The image of a negative literal by a negative value is positive."""
@@ -479,15 +485,11 @@ def lent(rows, is_open=True, literals=(2, 4, 4, 6), past=3):
     return library.Host(LIBRARY, reference.Record(3, 2, len(rows), is_open), literals, ends, generate.keys_of(literals, ends), sum(rows, []) + [7] * past)
 
 
-class Idle(Agree):
+class Idle(Offers):
     """CR 8: value lines that move nothing are turned back, and identities in a lent store are not."""
 
     def test_cases(self):
-        for name, names, values, expected in IDLE_LINES:
-            with self.subTest(name):
-                host, accepted = lent([]), isinstance(expected, list)
-                self.assertEqual(self.offer(host, names, values), ("done",) if accepted else expected)
-                self.assertEqual((host.record.rows, host.images[:]), (1, expected) if accepted else (0, [7] * 3))
+        self.offered(LISTING, IDLE_LINES)
 
     def test_negated(self):
         """The value -i is not name i: where there are no clauses all negations are accepted."""

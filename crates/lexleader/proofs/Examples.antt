@@ -3,10 +3,12 @@ use mathlib.Core.Path.{_≡_, refl}
 use mathlib.Core.Bool.{true, false}
 use mathlib.Core.List.{List, [], _∷_}
 use Prim.Native.Nat.{ℕ}
+use Rattle.lists.specs.Tests.{allOf}
 use Rattle.packed.specs.Order.{less}
+use Rattle.cycles.specs.Cycles.{sentTo, turns, metFrom, cycleOf, isLargest, oddly, turnsOdd, leftOut}
 use Rattle.lexleader.specs.Models.{literalValue}
-use Rattle.lexleader.specs.Rows.{moved, lowers, pairsFrom, pairsOf}
-use Rattle.lexleader.specs.Made.{laterClauses, pairClauses, rowClauses, auxiliaries, rowsClauses, made, agrees, settingsAfter, rowSettings, settings, filledIn}
+use Rattle.lexleader.specs.Rows.{moved, lowers, pairsBut, pairsOf}
+use Rattle.lexleader.specs.Made.{laterClauses, pairClauses, rowClauses, auxiliaries, rowsClauses, made, settingsAfter, rowSettings, settings, filledIn}
 use Rattle.lexleader.specs.Bounds.{maxAuxiliaries, maxMadeVariables, maxMadeClauses}
 use Rattle.lexleader.specs.Descent.{stepBy, settled, spent, descendFrom, descend}
 
@@ -14,24 +16,16 @@ use Rattle.lexleader.specs.Descent.{stepBy, settled, spent, descendFrom,
 bounds : maxAuxiliaries ∷ maxMadeVariables ∷ maxMadeClauses ∷ [] ≡ 32704 ∷ 33216 ∷ 200320 ∷ []
 bounds = refl
 
--- the listing: (1 2)(2 3), with the row that exchanges 1 and 3; the auxiliary is variable 4
+-- the listing: (1 2)(2 3), with the row that exchanges 1 and 3. Variable 3 is left out, so one x is left, and one clause is added, without an auxiliary
 abbrev exchanged : List (List ℕ)
 exchanged = (6 ∷ 4 ∷ 2 ∷ []) ∷ []
 
-listing : made 3 ((2 ∷ 4 ∷ []) ∷ (4 ∷ 6 ∷ []) ∷ []) exchanged
-    ≡ (2 ∷ 4 ∷ [])
-    ∷ (4 ∷ 6 ∷ [])
-    ∷ (3 ∷ 6 ∷ [])
-    ∷ (9 ∷ 3 ∷ 6 ∷ [])
-    ∷ (9 ∷ 2 ∷ 7 ∷ [])
-    ∷ (8 ∷ 2 ∷ 6 ∷ [])
-    ∷ (8 ∷ 3 ∷ 7 ∷ [])
-    ∷ (9 ∷ 7 ∷ 2 ∷ [])
-    ∷ []
-unfolding made rowsClauses rowClauses pairClauses laterClauses pairsOf pairsFrom
+listing : made 3 ((2 ∷ 4 ∷ []) ∷ (4 ∷ 6 ∷ []) ∷ []) exchanged ≡ (2 ∷ 4 ∷ []) ∷ (4 ∷ 6 ∷ []) ∷ (3 ∷ 6 ∷ []) ∷ []
+unfolding made rowsClauses rowClauses pairClauses pairsOf pairsBut leftOut isLargest turnsOdd cycleOf metFrom sentTo turns oddly allOf
 listing = refl
 
--- rows that turn signs: 1 to -1, which adds one clause and no auxiliary; then 1 to -1 and 2 to -2, whose auxiliary is variable 3
+-- rows that turn signs: 1 to -1, which adds one clause and no auxiliary; then 1 to -1 and 2 to -2, two cycles from which nothing is left out, whose auxiliary is
+-- variable 3
 signed : made 2 [] ((3 ∷ 4 ∷ []) ∷ (3 ∷ 5 ∷ []) ∷ [])
     ≡ (3 ∷ 3 ∷ [])
     ∷ (3 ∷ 3 ∷ [])
@@ -41,16 +35,29 @@ signed : made 2 [] ((3 ∷ 4 ∷ []) ∷ (3 ∷ 5 ∷ []) ∷ [])
     ∷ (6 ∷ 3 ∷ 2 ∷ [])
     ∷ (7 ∷ 5 ∷ 5 ∷ [])
     ∷ []
-unfolding made rowsClauses rowClauses auxiliaries pairClauses laterClauses pairsOf pairsFrom
+unfolding made rowsClauses rowClauses auxiliaries pairClauses laterClauses pairsOf pairsBut leftOut isLargest turnsOdd cycleOf metFrom sentTo turns oddly allOf
 signed = refl
 
--- 101 fills in as 1011, and 011 as 0110
-filled-agreeing : filledIn exchanged (true ∷ false ∷ true ∷ []) ≡ true ∷ false ∷ true ∷ true ∷ []
-unfolding filledIn settings rowSettings settingsAfter agrees literalValue pairsOf pairsFrom
+-- 1 to -2 and 2 to 1 turns the sign once, so both are left; 1 to -2 and 2 to -1 twice, so 2 is left out; and of 1 to 2 to 3 to 1 it is 3
+turned-once : pairsOf (5 ∷ 2 ∷ []) ≡ record { x = 2; y = 5 } ∷ record { x = 4; y = 2 } ∷ []
+unfolding pairsOf pairsBut leftOut isLargest turnsOdd cycleOf metFrom sentTo turns oddly allOf
+turned-once = refl
+
+turned-twice : pairsOf (5 ∷ 3 ∷ []) ≡ record { x = 2; y = 5 } ∷ []
+unfolding pairsOf pairsBut leftOut isLargest turnsOdd cycleOf metFrom sentTo turns oddly allOf
+turned-twice = refl
+
+round-three : pairsOf (4 ∷ 6 ∷ 2 ∷ []) ≡ record { x = 2; y = 4 } ∷ record { x = 4; y = 6 } ∷ []
+unfolding pairsOf pairsBut leftOut isLargest turnsOdd cycleOf metFrom sentTo turns oddly allOf
+round-three = refl
+
+-- 101 and 011 fill in as themselves
+filled-agreeing : filledIn exchanged (true ∷ false ∷ true ∷ []) ≡ true ∷ false ∷ true ∷ []
+unfolding filledIn settings rowSettings settingsAfter pairsOf pairsBut leftOut isLargest turnsOdd cycleOf metFrom sentTo turns oddly allOf
 filled-agreeing = refl
 
-filled-lower : filledIn exchanged (false ∷ true ∷ true ∷ []) ≡ false ∷ true ∷ true ∷ false ∷ []
-unfolding filledIn settings rowSettings settingsAfter agrees literalValue pairsOf pairsFrom
+filled-lower : filledIn exchanged (false ∷ true ∷ true ∷ []) ≡ false ∷ true ∷ true ∷ []
+unfolding filledIn settings rowSettings settingsAfter pairsOf pairsBut leftOut isLargest turnsOdd cycleOf metFrom sentTo turns oddly allOf
 filled-lower = refl
 
 -- 110 settles at 011 with one move, and is spent at the limit 0, at which 011 is settled
@@ -70,10 +77,10 @@ rests = refl
 abbrev turned : List (List ℕ)
 turned = (4 ∷ 6 ∷ 2 ∷ []) ∷ []
 
-turns : descend 5 turned (true ∷ false ∷ false ∷ []) ≡ settled 1 (false ∷ false ∷ true ∷ [])
+goes-round : descend 5 turned (true ∷ false ∷ false ∷ []) ≡ settled 1 (false ∷ false ∷ true ∷ [])
 unfolding descendFrom stepBy lowers moved less literalValue
-turns = refl
+goes-round = refl
 
-stays : descend 5 turned (false ∷ true ∷ false ∷ []) ≡ settled 0 (false ∷ true ∷ false ∷ [])
+stays-there : descend 5 turned (false ∷ true ∷ false ∷ []) ≡ settled 0 (false ∷ true ∷ false ∷ [])
 unfolding descendFrom stepBy lowers moved less literalValue
-stays = refl
+stays-there = refl

@@ -1,12 +1,10 @@
 -- A loop over the rows: what is left is row r and those after it, and what that means for the counts and for the clause looked for. Assumes nothing.
 use mathlib.Core.Path.{_≡_, ap, _∙_}
-use mathlib.Core.Logic.{_⊎_, inl, inr}
 use mathlib.Core.List.{List, [], _++_}
 use Prim.Native.Nat.{ℕ, _+_, _-_, _*_, _≤_, _<_}
 use native.Mathlib.Omega.{arith}
 use lib.ListN.{length, getD, length-append, List·getD-append}
 use lib.Seq.{getD-append-add}
-use Rattle.lists.proofs.Cases.{lt-or-le}
 use Rattle.store.specs.Stores.{maxVariables, rowsOf, rowAt, rowsFrom, FormedRows}
 use Rattle.store.proofs.RowLaws.{from-first, from-here, from-end, row-size}
 use Rattle.lexleader.specs.Made.{rowClauses, auxiliaries, rowsClauses, allAuxiliaries}
@@ -70,53 +68,59 @@ module _ (n rows : ℕ) (images : List ℕ) where
     λ e. omega (arith, s .all-clauses, ap (λ (l : List (List ℕ)). length (rowsClauses 0 l)) (from-end n rows images r h), rows-length 0 e (rowsOf n rows images)),
   )
 
+  -- what all rows add
+  abbrev all : List (List ℕ)
+  all = rowsClauses (n + 1) (rowsOf n rows images)
+
   -- The search for clause q at row r, whose first auxiliary is e: it is clause k of what is left.
   pub record Sought (q e k r : ℕ) : Type 0 where
+    pub upto : r ≤ rows
     pub low : e ≤ maxBefore r + 1
-    pub inside : k < length (rowsClauses e (left r))
-    pub same : getD (rowsClauses (n + 1) (rowsOf n rows images)) q [] ≡ getD (rowsClauses e (left r)) k []
+    pub passed : length all + k ≡ q + length (rowsClauses e (left r))
+    pub same : getD all q [] ≡ getD (rowsClauses e (left r)) k []
 
   module _ (q : ℕ) where
-    pub sought-first : n ≤ maxVariables → q < length (rowsClauses (n + 1) (rowsOf n rows images)) → Sought q (n + 1) q 0
-    sought-first small inside = record {
+    pub sought-first : n ≤ maxVariables → Sought q (n + 1) q 0
+    sought-first small = record {
+      upto = omega arith;
       low = omega arith;
-      inside = rw (from-first n rows images) inside;
+      passed = rw (from-first n rows images) (omega arith);
       same = rw (from-first n rows images);
     }
 
     module _ (e k r : ℕ) (s : Sought q e k r) where
-      pub sought-within : r < rows
+      -- past the last row there is no such clause
+      pub sought-none : rows ≤ r → length all ≤ q
       unfolding rowsClauses
-      sought-within = go (lt-or-le r rows)
-        where
-          go : (r < rows) ⊎ (rows ≤ r) → r < rows
-          go (inl h) = h
-          go (inr h) = absurd (omega (arith, s .inside, ap (λ (l : List (List ℕ)). length (rowsClauses e l)) (from-end n rows images r h)))
+      sought-none h = omega (arith, s .passed, ap (λ (l : List (List ℕ)). length (rowsClauses e l)) (from-end n rows images r h))
 
-      apart : rowsClauses e (left r) ≡ rowClauses e (rowAt n r images) ++ rowsClauses (e + auxiliaries (rowAt n r images)) (left (r + 1))
-      unfolding rowsClauses
-      apart = ap (rowsClauses e) (from-here n rows images r sought-within)
+      module _ (there : r < rows) where
+        apart : rowsClauses e (left r) ≡ rowClauses e (rowAt n r images) ++ rowsClauses (e + auxiliaries (rowAt n r images)) (left (r + 1))
+        unfolding rowsClauses
+        apart = ap (rowsClauses e) (from-here n rows images r there)
 
-      pub sought-here : k < length (rowClauses e (rowAt n r images))
-          → getD (rowsClauses (n + 1) (rowsOf n rows images)) q [] ≡ getD (rowClauses e (rowAt n r images)) k []
-      sought-here h =
-          s .same
-          ∙ ap (λ (l : List (List ℕ)). getD l k []) apart
-          ∙ List·getD-append (rowClauses e (rowAt n r images)) (rowsClauses (e + auxiliaries (rowAt n r images)) (left (r + 1))) [] k h
+        pub sought-here : k < length (rowClauses e (rowAt n r images)) → (q < length all) × (getD all q [] ≡ getD (rowClauses e (rowAt n r images)) k [])
+        sought-here h =
+            let row : List ℕ = rowAt n r images in
+            let rest : List (List ℕ) = rowsClauses (e + auxiliaries row) (left (r + 1)) in (
+              omega (arith, s .passed, ap length apart, length-append (rowClauses e row) rest),
+              s .same ∙ ap (λ (l : List (List ℕ)). getD l k []) apart ∙ List·getD-append (rowClauses e row) rest [] k h,
+            )
 
-      pub sought-later : FormedRows n rows images → {x y : ℕ} → Adds x y (rowAt n r images) → y ≤ k → Sought q (e + x) (k - y) (r + 1)
-      sought-later f {x} {y} (ax, count) h =
-          let ky : y ≡ length (rowClauses e (rowAt n r images)) = count e in
-          let row : List ℕ = rowAt n r images in
-          let rest : List (List ℕ) = rowsClauses (e + x) (left (r + 1)) in
-          let cut : rowsClauses e (left r) ≡ rowClauses e row ++ rest = rw ax apart in
-          let number : k ≡ length (rowClauses e row) + (k - y) = omega arith in
-          record {
-            low = omega (arith, f .small, s .low, auxiliaries-most row, row-size n rows images (f .fits) r sought-within);
-            inside = omega (arith, s .inside, ap length cut, length-append (rowClauses e row) rest);
-            same =
-                s .same
-                ∙ ap (λ (l : List (List ℕ)). getD l k []) cut
-                ∙ ap (λ (i : ℕ). getD (rowClauses e row ++ rest) i []) number
-                ∙ getD-append-add (rowClauses e row) rest (k - y) [];
-          }
+        pub sought-later : FormedRows n rows images → {x y : ℕ} → Adds x y (rowAt n r images) → y ≤ k → Sought q (e + x) (k - y) (r + 1)
+        sought-later f {x} {y} (ax, count) h =
+            let ky : y ≡ length (rowClauses e (rowAt n r images)) = count e in
+            let row : List ℕ = rowAt n r images in
+            let rest : List (List ℕ) = rowsClauses (e + x) (left (r + 1)) in
+            let cut : rowsClauses e (left r) ≡ rowClauses e row ++ rest = rw ax apart in
+            let number : k ≡ length (rowClauses e row) + (k - y) = omega arith in
+            record {
+              upto = omega arith;
+              low = omega (arith, f .small, s .low, auxiliaries-most row, row-size n rows images (f .fits) r there);
+              passed = omega (arith, s .passed, ap length cut, length-append (rowClauses e row) rest);
+              same =
+                  s .same
+                  ∙ ap (λ (l : List (List ℕ)). getD l k []) cut
+                  ∙ ap (λ (i : ℕ). getD (rowClauses e row ++ rest) i []) number
+                  ∙ getD-append-add (rowClauses e row) rest (k - y) [];
+            }

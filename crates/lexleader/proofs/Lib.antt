@@ -3,7 +3,11 @@ pub mod AlwaysTrue
 pub mod Images
 pub mod Values
 pub mod Pairs
+pub mod Walk
+pub mod Along
 pub mod Moved
+pub mod Agree
+pub mod Remaining
 pub mod Within
 pub mod Settings
 pub mod Completed
@@ -11,7 +15,7 @@ pub mod Order
 pub mod Descent
 pub mod Theorems
 pub mod Examples
-pub mod Walk
+pub mod Marked
 pub mod Numbers
 pub mod Bounds
 pub mod PlaceLaws

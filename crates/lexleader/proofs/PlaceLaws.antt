@@ -12,10 +12,11 @@ use lib.ListN.{length, getD, drop, length-append, length-drop, List·getD-append
 use lib.Seq.{drop-append-le, drop-append-add, getD-drop}
 use Rattle.lists.proofs.Cases.{lt-or-le}
 use Rattle.lists.proofs.Steps.{drop-step}
+use Rattle.cycles.specs.Cycles.{leftOut}
 use Rattle.lexleader.specs.Rows.{Pair, pairsOf}
 use Rattle.lexleader.specs.Made.{laterSix, laterClauses, pairClauses, rowClauses, auxiliaries}
 use Rattle.lexleader.specs.Bounds.{maxMadeVariables}
-use Rattle.lexleader.specs.Clause.{columnOf, tableOf, pairAt, pairsAt, NextMoved}
+use Rattle.lexleader.specs.Clause.{columnOf, tableOf, pairAt, pairsAt, NextPair}
 use Rattle.lexleader.specs.Places.{clausesOn, clausesAt, sixAt, auxiliaryAfter, pastLast, PlaceStands, PlaceLeaves, PlaceAfter}
 use Rattle.lexleader.specs.declared.places.Place.{Place}
 use Rattle.lexleader.proofs.Walk.{pairs-start, walk-end, later-pairs}
@@ -94,7 +95,7 @@ module _ (row : List ℕ) (p : Place) where
   -- no clause stands past the last
   pub past : length row ≤ p .index → (clausesAt row p ≡ []) × (auxiliaryAfter row p ≡ p .auxiliary)
   unfolding clausesAt auxiliaryAfter clausesOn
-  past h = rw (walk-end row (p .index) h) (drop-none (p .r - 1), omega arith)
+  past h = rw (walk-end (leftOut row) row (p .index) h) (drop-none (p .r - 1), omega arith)
     where
       drop-none : (k : ℕ) → drop {A = List ℕ} k [] ≡ []
       drop-none zero = refl
@@ -121,7 +122,7 @@ module _ (row : List ℕ) (p : Place) where
 
     module _ (last : p .next ≡ length row) where
       one : pairsAt (p .index) row ≡ own ∷ []
-      one = s .here h ∙ ap (λ (l : List Pair). own ∷ l) (s .then h .same ∙ walk-end row (p .next) (omega arith))
+      one = s .here h ∙ ap (λ (l : List Pair). own ∷ l) (s .then h .same ∙ walk-end (leftOut row) row (p .next) (omega arith))
 
       pub at-one : (q : Pair) → getD (clausesAt row p) 0 [] ≡ getD (tableOf 1 (p .auxiliary) own q) 0 []
       unfolding clausesAt clausesOn
@@ -230,7 +231,7 @@ some-clause row p s h = go (lt-or-le (p .next) (length row))
 
 -- ---- a row's first pair
 
-module _ (row : List ℕ) (e index : ℕ) (n : NextMoved row 0 index) where
+module _ (row : List ℕ) (e index : ℕ) (n : NextPair row 0 index) where
   same-pairs : pairsOf row ≡ pairsAt index row
   same-pairs = pairs-start row ∙ n .same
 
@@ -241,13 +242,13 @@ module _ (row : List ℕ) (e index : ℕ) (n : NextMoved row 0 index) where
   pub first-none : length row ≤ index → ([] ≡ rowClauses e row) × (e ≡ e + auxiliaries row)
   unfolding clausesOn
   first-none h =
-      let none : pairsAt index row ≡ [] = walk-end row index h in
+      let none : pairsAt index row ≡ [] = walk-end (leftOut row) row index h in
       (sym (ap (clausesOn 1 e) none) ∙ first-rest .0, omega (arith, ap length none, first-rest .1))
 
 -- ---- the first clauses of an auxiliary, for a pair at an index
 
 module _ (row : List ℕ) (index next e j : ℕ) (h : index < length row) (here : pairsAt index row ≡ pairAt row index ∷ pairsAt (index + 1) row)
-    (then : NextMoved row (index + 1) next) where
+    (then : NextPair row (index + 1) next) where
   abbrev start : Place
   start = record { index = index; next = next; auxiliary = e; j = j; r = 1 }
 
@@ -272,7 +273,7 @@ module _ (row : List ℕ) (index next e j : ℕ) (h : index < length row) (here 
   pub no-later : 2 ≤ j → next ≡ length row → (clausesOn j e (pairsAt index row) ≡ []) × (e + (length (pairsAt index row) - 1) ≡ e)
   unfolding clausesOn
   no-later later last =
-      let one : pairsAt index row ≡ pairAt row index ∷ [] = here ∙ ap (λ (l : List Pair). pairAt row index ∷ l) (then .same ∙ walk-end row next (omega arith)) in
+      let one : pairsAt index row ≡ pairAt row index ∷ [] = here ∙ ap (λ (l : List Pair). pairAt row index ∷ l) (then .same ∙ walk-end (leftOut row) row next (omega arith)) in
       rw (one, ne-eqb j 1 (λ e. omega arith)) (refl, omega arith)
 
 -- the place past the last clause, with the clauses and the auxiliary that are left
@@ -322,18 +323,18 @@ module _ (row : List ℕ) (e q i : ℕ) (p : Place) (is : p ≡ record { index =
       go (inl l) = omega (arith, size, row-few e row l)
       go (inr l) = absurd (omega (arith, size, row-many e row l))
 
-  module _ (many : q < length (rowClauses e row)) (h : i < length row) (here : pairsAt i row ≡ pairAt row i ∷ pairsAt (i + 1) row) (then : NextMoved row (i + 1) (p .next)) where
+  module _ (many : q < length (rowClauses e row)) (h : i < length row) (here : pairsAt i row ≡ pairAt row i ∷ pairsAt (i + 1) row) (then : NextPair row (i + 1) (p .next)) where
     pub number-stands : e + auxiliaries row ≤ maxMadeVariables + 1 → PlaceStands row p
     unfolding auxiliaryAfter auxiliaries
     number-stands low =
-        let last : p .next ≡ length row → q ≡ 0 = λ end. only many (ap length here ∙ ap (λ (l : List Pair). suc (length l)) (then .same ∙ walk-end row (p .next) (omega arith))) in
+        let last : p .next ≡ length row → q ≡ 0 = λ end. only many (ap length here ∙ ap (λ (l : List Pair). suc (length l)) (then .same ∙ walk-end (leftOut row) row (p .next) (omega arith))) in
         rw is (record {
           within = omega arith;
           here = λ _. here;
           then = λ _. then;
           alone = λ _ end. (omega (arith, last end), omega (arith, last end));
           one = omega arith;
-          early = omega (arith, ap length (pairs-start row), later-pairs row 0 i (omega arith) .1, length-drop (q / 6) (pairsOf row), ap length found);
+          early = omega (arith, ap length (pairs-start row), later-pairs (leftOut row) row 0 i (omega arith) .1, length-drop (q / 6) (pairsOf row), ap length found);
           low = omega arith;
           high = omega arith;
           after-most = omega (arith, low, length-drop (q / 6) (pairsOf row), ap length found);

@@ -12,7 +12,7 @@ use Rattle.lexleader.specs.Rows.{Pair, pairsOf}
 use Rattle.lexleader.specs.Made.{agrees, settingsAfter, rowSettings, auxiliaries, settings, allAuxiliaries}
 
 module _ (v : ℕ → Bool) where
-  length-after : (before : Bool) (pairs : List Pair) → length (settingsAfter v before pairs) ≡ length pairs - 1
+  pub length-after : (before : Bool) (pairs : List Pair) → length (settingsAfter v before pairs) ≡ length pairs - 1
   unfolding settingsAfter
   length-after before [] = refl
   length-after before (q ∷ []) = refl

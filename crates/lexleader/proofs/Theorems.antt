@@ -15,9 +15,10 @@ use Rattle.lexleader.specs.Models.{Model, Satisfiable}
 use Rattle.lexleader.specs.Rows.{moved, lowers}
 use Rattle.lexleader.specs.Made.{made, madeVariables, settings}
 use Rattle.lexleader.specs.Kept.{Completes, Kept, Least, Carried, stay, move, Symmetric}
+use Rattle.lexleader.specs.Longer.{KeptLonger}
 use Rattle.lexleader.specs.Descent.{settled, spent, descend}
 use Rattle.lexleader.proofs.Images.{length-moved, formula-moved}
-use Rattle.lexleader.proofs.Completed.{completes-iff}
+use Rattle.lexleader.proofs.Completed.{completes-iff, longer-iff}
 use Rattle.lexleader.proofs.Descent.{ended, carried-to-least}
 pub use Rattle.lexleader.proofs.Settings.{setting-at, length-settings}
 
@@ -37,6 +38,13 @@ module _ (n : ℕ) (formula rows : List (List ℕ)) (literals : allOf (allOf (is
       setting = settings rows a;
       completes = completes-iff n formula rows literals permutations a (settings rows a) (m .size) .1 (m, least, refl);
     },
+  )
+
+  -- "the kept models are exactly those of the longer form, whatever rows are held" (document 02, CR 9)
+  pub kept-longer : (a : List Bool) → Kept n formula rows a ↔ KeptLonger n formula rows a
+  kept-longer a = (
+    λ k. longer-iff n formula rows literals permutations a .1 (k .plain, kept-iff a (k .plain) .0 k),
+    λ k. let l = longer-iff n formula rows literals permutations a .0 k in kept-iff a (l .0) .1 (l .1),
   )
 
   -- with one setting of the auxiliaries

@@ -15,7 +15,7 @@ use Rattle.store.proofs.Formed.{row-of}
 use Rattle.lexleader.specs.Rows.{Pair, pairsOf}
 use Rattle.lexleader.specs.Made.{laterClauses, pairClauses, rowClauses, auxiliaries, rowsClauses, allAuxiliaries, made, madeVariables}
 use Rattle.lexleader.proofs.Pairs.{both}
-use Rattle.lexleader.proofs.Moved.{pairs-within}
+use Rattle.lexleader.proofs.Remaining.{pairs-within}
 
 -- ---- a literal of 1..n
 

@@ -1,4 +1,4 @@
--- Bounds on the made formula, from the limits of the store (document 01: "At most 512 variables, 4,096 clauses", 64 rows; "N is at most 33,216"). A row moves
+-- Bounds on the made formula, from the limits of the store (document 01: "At most 512 variables, 4,096 clauses", 64 rows; "N is at most 33,216"). A row's x are
 -- at most all variables, so it adds at most one auxiliary less than there are. Assumes nothing.
 use Prim.Native.Nat.{ℕ, _+_, _-_, _*_}
 use Rattle.store.specs.Stores.{maxVariables, maxClauses, maxRows}

@@ -9,4 +9,5 @@ pub mod Counted
 pub mod Clause
 pub mod Places
 pub mod Kept
+pub mod Longer
 pub mod Descent

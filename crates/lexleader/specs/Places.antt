@@ -9,7 +9,7 @@ use Rattle.store.specs.Literals.{oppositeOf}
 use Rattle.lexleader.specs.Rows.{Pair}
 use Rattle.store.specs.Stores.{maxVariables}
 use Rattle.lexleader.specs.Bounds.{maxMadeVariables}
-use Rattle.lexleader.specs.Clause.{tableOf, pairAt, pairsAt, NextMoved}
+use Rattle.lexleader.specs.Clause.{tableOf, pairAt, pairsAt, NextPair}
 use Rattle.lexleader.specs.declared.places.Place.{Place}
 
 -- the clauses of a row from the auxiliary ej on, whose number is e, for the pairs from (xj, yj) on
@@ -34,11 +34,11 @@ auxiliaryAfter row p = p .auxiliary + (length (pairsAt (p .index) row) - 1)
 abbrev pub pastLast : List ℕ → ℕ → Place
 pastLast row e = record { index = length row; next = length row; auxiliary = e; j = 1; r = 1 }
 
--- p is a place of the row: at a moved variable, with the next one, or past the last clause. Before the j-th moved variable there are j - 1 others (`early`).
+-- p is a place of the row: at one of its x, with the next one, or past the last clause. Before xj there are j - 1 others (`early`).
 pub record PlaceStands (row : List ℕ) (p : Place) : Type 0 where
   pub within : p .index ≤ length row
   pub here : p .index < length row → pairsAt (p .index) row ≡ pairAt row (p .index) ∷ pairsAt (p .index + 1) row
-  pub then : p .index < length row → NextMoved row (p .index + 1) (p .next)
+  pub then : p .index < length row → NextPair row (p .index + 1) (p .next)
   pub alone : p .index < length row → p .next ≡ length row → (p .j ≡ 1) × (p .r ≡ 1)
   pub one : 1 ≤ p .j
   pub early : p .j ≤ p .index + 1

@@ -1,4 +1,4 @@
--- N and M as sums over the rows (documents 01 and 02, CR 6), by how many variables each row moves. Assumes nothing.
+-- N and M as sums over the rows (documents 01 and 02, CR 6), by how many x each row has. Assumes nothing.
 use Prim.Native.Nat.{ℕ, _+_, _-_, _*_}
 use mathlib.Core.Bool.{cond}
 use mathlib.Core.List.{List, [], _∷_}
@@ -6,7 +6,7 @@ use lib.ListN.{length}
 use lib.Dec.{eqb}
 use Rattle.lexleader.specs.Rows.{pairsOf}
 
--- the sum over rows of what each adds, where one that moves k variables adds `more k`
+-- the sum over rows of what each adds, where one with x1 .. xk adds `more k`
 unfoldable pub sumOver : (ℕ → ℕ) → List (List ℕ) → ℕ
 sumOver more [] = 0
 sumOver more (row ∷ rows) = more (length (pairsOf row)) + sumOver more rows

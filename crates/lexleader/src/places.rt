@@ -1,21 +1,23 @@
 // The clauses that a row adds, one after another: a place says where among them, and what the table needs to know there.
 //
 // A row compares an assignment with what the row makes of it, A with A moved by p, by the first variable at which they differ. A variable
-// that p leaves where it is has the same value in both, so they first differ at a moved one: the comparison may pass over all others, and
-// the table is asked about the pairs x1, y1 .. xk, yk of the moved variables alone (`along-moved`, proofs/Moved.antt). A row is therefore
-// walked from moved variable to moved variable, and a place has the index of the pair's variable, that of the next moved one, the
-// auxiliary's number, and which clause of the six comes next. From it the next place is found without looking back: the row is read once
-// for all of its clauses, however many.
+// that p leaves where it is has the same value in both, and so has the largest of a cycle where all smaller variables do and going round the
+// cycle turns the sign an even number of times: the value comes back round the cycle as it was (`left-agrees`, proofs/Agree.antt). So A and
+// A moved first differ at a variable that is not left out (`cycles`), and the table is asked about the pairs x1, y1 .. xk, yk of these alone
+// (`along-pairs`, proofs/Remaining.antt). A row is therefore walked from x to x, by the marks of what is left out, which are made once a
+// row; and a place has the index of the pair's variable, that of the next one, the auxiliary's number, and which clause of the six comes
+// next. From it the next place is found without looking back: the marks are read once for all clauses of a row, however many.
 use crate::table;
 use crate::table::Clause;
 ghost use mathlib.Core.Path.{_≡_};
-ghost use mathlib.Core.List.{_∷_, []};
-ghost use Prim.Native.Nat.{_+_, _-_, _*_, _≤_, _<_};
+ghost use mathlib.Core.List.{List, _∷_, []};
+ghost use Prim.Native.Nat.{ℕ, _+_, _-_, _*_, _≤_, _<_};
 ghost use lib.ListN.{length, getD, drop};
 ghost use Rattle.store.specs.Stores.{maxVariables};
+ghost use Rattle.cycles.specs.Cycles.{marksOf};
 ghost use Rattle.lexleader.specs.Made.{rowClauses, auxiliaries};
 ghost use Rattle.lexleader.specs.Bounds.{maxMadeVariables};
-ghost use Rattle.lexleader.specs.Clause.{ClauseIs, NextMoved};
+ghost use Rattle.lexleader.specs.Clause.{ClauseIs, NextPair};
 ghost use Rattle.lexleader.specs.Places.{clausesAt, sixAt, pastLast, ClauseStands, PlaceLeaves, PlaceAfter};
 
 // A place among the clauses that a row adds: clause r of auxiliary j, that auxiliary's number, and the indices of its pair's variable and
@@ -29,15 +31,15 @@ pub struct Place {
 }
 
 // The place of a row's first clause, its first auxiliary being e.
-pub fn first_place(row: &[u16], e: u32) -> Place
-    requires { ⌜ (length (now row) ≤ maxVariables) × (e + auxiliaries (now row) ≤ maxMadeVariables + 1) ⌝ }
+pub fn first_place(row: &[u16], marks: &[bool], e: u32) -> Place
+    requires { ⌜ (length (now row) ≤ maxVariables) × (now marks ≡ marksOf (now row)) × (e + auxiliaries (now row) ≤ maxMadeVariables + 1) ⌝ }
     ensures { λ r. let row = now (row .entry) in ⌜ PlaceLeaves row r (rowClauses e row) (e + auxiliaries row) ⌝ }
 {
-    let index = next_moved(row, 0);
+    let index = next_pair(marks, 0);
     if index == row.len() {
         return no_place(row, e);
     }
-    let next = next_moved(row, index + 1);
+    let next = next_pair(marks, index + 1);
     Place {
         index: index,
         next: next,
@@ -47,7 +49,7 @@ pub fn first_place(row: &[u16], e: u32) -> Place
     }
 }
 
-// The clause at a place. A row that moves one variable only has the table's first clause and no auxiliary.
+// The clause at a place. A row with one x only has the table's first clause and no auxiliary.
 pub fn clause_at(row: &[u16], place: Place) -> Clause
     requires { ⌜ ClauseStands (now row) place ⌝ }
     ensures { λ r. ⌜ ClauseIs r (getD (clausesAt (now (row .entry)) place) 0 []) ⌝ }
@@ -65,8 +67,8 @@ pub fn clause_at(row: &[u16], place: Place) -> Clause
 }
 
 // The place after one at which a clause stands.
-pub fn next_place(row: &[u16], place: Place) -> Place
-    requires { ⌜ ClauseStands (now row) place ⌝ }
+pub fn next_place(row: &[u16], marks: &[bool], place: Place) -> Place
+    requires { ⌜ ClauseStands (now row) place × (now marks ≡ marksOf (now row)) ⌝ }
     ensures { λ r. let row = now (row .entry) in ⌜ PlaceAfter row place (getD (clausesAt row place) 0 [] ∷ []) r ⌝ }
 {
     if place.next == row.len() {
@@ -81,16 +83,16 @@ pub fn next_place(row: &[u16], place: Place) -> Place
             r: place.r + 1,
         };
     }
-    next_auxiliary(row, place)
+    next_auxiliary(row, marks, place)
 }
 
 // The place after the clauses of the auxiliary at one, whose pair is not the row's last.
-pub fn next_auxiliary(row: &[u16], place: Place) -> Place
-    requires { ⌜ ClauseStands (now row) place × (place .next < length (now row)) ⌝ }
+pub fn next_auxiliary(row: &[u16], marks: &[bool], place: Place) -> Place
+    requires { ⌜ ClauseStands (now row) place × (now marks ≡ marksOf (now row)) × (place .next < length (now row)) ⌝ }
     ensures { λ r. let row = now (row .entry) in ⌜ PlaceAfter row place (drop (place .r - 1) (sixAt row place)) r ⌝ }
 {
     let e = place.auxiliary + 1;
-    let next = next_moved(row, place.next + 1);
+    let next = next_pair(marks, place.next + 1);
     if next == row.len() {
         return no_place(row, e);
     }
@@ -116,14 +118,14 @@ fn no_place(row: &[u16], e: u32) -> Place
     }
 }
 
-// The index of the first moved variable at or after an index; the row's length where there is none.
-pub fn next_moved(row: &[u16], from: usize) -> usize
-    requires { ⌜ (length (now row) ≤ maxVariables) × (from ≤ length (now row)) ⌝ }
-    ensures { λ r. ⌜ NextMoved (now (row .entry)) from r ⌝ }
+// The index of a row's first x at or after an index, by the marks of what is left out; the row's length where there is none.
+pub fn next_pair(marks: &[bool], from: usize) -> usize
+    requires { ⌜ from ≤ length (now marks) ⌝ }
+    ensures { λ r. ⌜ ((row : List ℕ) → now (marks .entry) ≡ marksOf row → NextPair row from r) ⌝ }
 {
     let mut i = from;
-    while i < row.len() {
-        if store::literal::wide(row[i]) != own_code(i) {
+    while i < marks.len() {
+        if !marks[i] {
             return i;
         }
         i += 1;

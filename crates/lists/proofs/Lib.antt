@@ -5,3 +5,4 @@ pub mod Steps
 pub mod Distinct
 pub mod TableLaws
 pub mod Writing
+pub mod Finite

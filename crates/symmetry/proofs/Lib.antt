@@ -4,7 +4,6 @@ pub mod JudgedLaws
 pub mod Missing
 pub mod KeyLaws
 pub mod Looking
-pub mod Finite
 pub mod Onto
 pub mod Theorem
 pub mod Facts

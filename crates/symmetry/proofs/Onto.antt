@@ -7,7 +7,7 @@ use native.Mathlib.Omega.{arith}
 use lib.ListN.{length, getD}
 use Rattle.symmetry.specs.Sets.{SameSet, Among}
 use Rattle.symmetry.proofs.SetLaws.{mem-at, same-eq, same-sym, same-trans}
-use Rattle.symmetry.proofs.Finite.{twice}
+use Rattle.lists.proofs.Finite.{twice}
 
 module _ (f : List ℕ → List ℕ) (formula : List (List ℕ)) where
   -- a clause of the formula

@@ -7,6 +7,7 @@ use Rattle.store.specs.Stores.{maxVariables}
 use Rattle.lexleader.specs.Rows.{pairsOf}
 use Rattle.lexleader.specs.Clause.{pairsAt}
 use Rattle.lexleader.proofs.Walk.{pairs-length}
+use Rattle.lexleader.proofs.Marked.{marks-length}
 use Rattle.lexleader.proofs.Numbers.{row-most}
 use Rattle.lexleader.proofs.TableLaws.{clause-same}
 use Rattle.lexleader.proofs.PlaceLaws.{numbered, number-stands}
@@ -20,42 +21,45 @@ number c =
     let row = c .args .row .now in
     (omega (arith, row-most (c .args .e) row), omega (arith, row-most (c .args .e) row, pairs-length row))
 
-moved-at-requires : tie.Need-moved-at-requires
-moved-at-requires c κs = let s = c .before in (s .pre .0, omega arith, number s .0)
+pair-at-requires : tie.Need-pair-at-requires
+pair-at-requires c κs = let s = c .before .before in (s .pre .0, s .pre .1, omega arith, number s .0)
 
-cast-t9 : tie.Need-cast-t9
-cast-t9 c = omega (arith, number (c .before .before .before) .1)
+next-pair-requires : tie.Need-next-pair-requires
+next-pair-requires c κs = let s = c .before .before .before in omega (arith, c .pair-at .ensures .0, marks-length _ (s .pre .1))
 
-add-t10 : tie.Need-add-t10
-add-t10 c = omega (arith, number (c .before .before .before) .1)
+cast-t10 : tie.Need-cast-t10
+cast-t10 c = omega (arith, number (c .before .before .before .before) .1)
 
-add-t8 : tie.Need-add-t8
-add-t8 c = omega (arith, number (c .before .before .before) .1)
+add-t11 : tie.Need-add-t11
+add-t11 c = omega (arith, number (c .before .before .before .before) .1)
+
+add-t9 : tie.Need-add-t9
+add-t9 c = omega (arith, number (c .before .before .before .before) .1)
 
 clause-at-requires : tie.Need-clause-at-requires
 clause-at-requires c κs =
     let m = c .before in
-    let s = m .before .before in
+    let s = m .before .before .before in
     let row = s .args .row .now in
-    let found = m .moved-at .ensures in
-    let same : drop (s .args .q / 6) (pairsOf row) ≡ pairsAt (m .moved-at .result) row = ap (λ (k : ℕ). drop k (pairsOf row)) {x = s .args .q / 6} {y = s .args .q / 6 + 1 - 1} (omega arith) ∙ found .1 in
+    let found = m .pair-at .ensures in
+    let same : drop (s .args .q / 6) (pairsOf row) ≡ pairsAt (m .pair-at .result) row = ap (λ (k : ℕ). drop k (pairsOf row)) {x = s .args .q / 6} {y = s .args .q / 6 + 1 - 1} (omega arith) ∙ found .1 in
     record {
       small = s .pre .0;
-      stands = number-stands row (s .args .e) (s .args .q) (m .moved-at .result) _ refl (omega (arith, number s .0)) same (s .pre .2) (found .0) (found .2) (c .next-moved .ensures) (s .pre .1);
+      stands = number-stands row (s .args .e) (s .args .q) (m .pair-at .result) _ refl (omega (arith, number s .0)) same (s .pre .3) (found .0) (found .2) (c .next-pair .ensures row (s .pre .1)) (s .pre .2);
       inside = found .0;
     }
 
 returns : tie.Need-returns
 returns c =
     let m = c .before .before in
-    let s = m .before .before in
+    let s = m .before .before .before in
     let row = s .args .row .now in
-    let found = m .moved-at .ensures in
-    let same : drop (s .args .q / 6) (pairsOf row) ≡ pairsAt (m .moved-at .result) row = ap (λ (k : ℕ). drop k (pairsOf row)) {x = s .args .q / 6} {y = s .args .q / 6 + 1 - 1} (omega arith) ∙ found .1 in
-    clause-same (c .clause-at .ensures) (numbered row (s .args .e) (s .args .q) (m .moved-at .result) _ refl (omega (arith, number s .0)) same)
+    let found = m .pair-at .ensures in
+    let same : drop (s .args .q / 6) (pairsOf row) ≡ pairsAt (m .pair-at .result) row = ap (λ (k : ℕ). drop k (pairsOf row)) {x = s .args .q / 6} {y = s .args .q / 6 + 1 - 1} (omega arith) ∙ found .1 in
+    clause-same (c .clause-at .ensures) (numbered row (s .args .e) (s .args .q) (m .pair-at .result) _ refl (omega (arith, number s .0)) same)
 
 pub row-clause-spec : {M : Type 1} → statement M
 row-clause-spec =
     tie.close
-    (tie.spec (search needs) moved-at-requires (search needs) (search needs) cast-t9 add-t10 add-t8 (search needs) clause-at-requires
+    (tie.spec (search needs) pair-at-requires (search needs) next-pair-requires cast-t10 add-t11 add-t9 (search needs) clause-at-requires
     returns)

@@ -12,10 +12,10 @@ use Rattle.lexleader.proofs.places.next_place.Tie as tie
 
 returns : tie.Need-returns
 returns c =
-    let s = c .before .before .before .before in
+    let s = c .before .before .before .before .before in
     let row = s .args .row .now in
     let p = s .args .place in
-    let r = s .pre in
+    let r = s .pre .0 in
     let after = after-one row p (r .stands) (r .inside) (omega arith) in
     let z = at-last row (p .auxiliary) (c .no-place .result) (c .no-place .ensures) (few-auxiliaries row p (r .stands)) refl (sym after) in
     let passed = then-one row p (r .stands) (r .inside) (omega arith) ∙ ap (λ (l : List (List ℕ)). getD (clausesAt row p) 0 [] ∷ l) (sym (z .are)) in
@@ -23,18 +23,18 @@ returns c =
 
 returns-2 : tie.Need-returns-2
 returns-2 c =
-    let s = c .before .before .before .before .before .before in
-    let r = s .pre in
+    let s = c .before .before .before .before .before .before .before in
+    let r = s .pre .0 in
     same-stands (s .args .row .now) (s .args .place) (r .stands) (r .inside) (omega (arith, r .stands .then (r .inside) .within)) (omega arith) _ refl
 
 next-auxiliary-requires : tie.Need-next-auxiliary-requires
-next-auxiliary-requires c κs = let r = c .before .before .before .before .before .pre in (r, omega (arith, r .stands .then (r .inside) .within))
+next-auxiliary-requires c κs = let s = c .before .before .before .before .before .before in let r = s .pre .0 in (r, s .pre .1, omega (arith, r .stands .then (r .inside) .within))
 
 returns-3 : tie.Need-returns-3
 returns-3 c =
-    let s = c .before .before .before .before .before .before in
+    let s = c .before .before .before .before .before .before .before in
     let z = c .next-auxiliary .ensures in
-    let passed = last-clause (s .args .row .now) (s .args .place) (omega (arith, s .pre .stands .high)) (z .passed) in
+    let passed = last-clause (s .args .row .now) (s .args .place) (omega (arith, s .pre .0 .stands .high)) (z .passed) in
     record { stands = z .stands; passed = passed; auxiliary = z .auxiliary }
 
 pub next-place-spec : {M : Type 1} → statement M

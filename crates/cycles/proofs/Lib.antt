@@ -1,0 +1,6 @@
+pub mod Sent
+pub mod Returns
+pub mod Walks
+pub mod Visiting
+pub mod Scan
+pub mod Largest

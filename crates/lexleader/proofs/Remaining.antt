@@ -1,0 +1,56 @@
+-- The x of a row, without the largest variable of each cycle that turns the sign an even number of times: comparing along them decides as the order over all
+-- variables does, for every row and every assignment; and one that is not moved is none of them. Assumes nothing.
+use mathlib.Core.Path.{_≡_, refl, _∙_}
+use mathlib.Core.Bool.{Bool, true}
+use mathlib.Core.List.{List, [], _∷_}
+use Prim.Native.Nat.{ℕ, suc, _+_, _-_, _≤_, _<_, zero-le, suc-le-suc}
+use native.Mathlib.Nat.{add-zero}
+use native.Mathlib.Omega.{arith}
+use lib.ListN.{length, getD}
+use Rattle.lists.specs.Tests.{allOf}
+use Rattle.packed.specs.Order.{valueOf, firstDifference}
+use Rattle.store.specs.Literals.{isLiteral}
+use Rattle.store.specs.Identity.{movesNothing}
+use Rattle.store.proofs.Formed.{Row}
+use Rattle.store.proofs.Identity.{moves-nothing-each}
+use Rattle.cycles.specs.Cycles.{leftOut}
+use Rattle.cycles.proofs.Largest.{unmoved-out}
+use Rattle.lexleader.specs.Models.{literalValue}
+use Rattle.lexleader.specs.Rows.{moved, lowers, pairsBut, pairsOf}
+use Rattle.lexleader.specs.Deciding.{deciding, lowersAlong}
+use Rattle.lexleader.proofs.Pairs.{both}
+use Rattle.lexleader.proofs.Along.{Idle, along-but, deciding-but, but-within}
+use Rattle.lexleader.proofs.Agree.{left-agrees}
+
+module _ (n : ℕ) (row : List ℕ) (r : Row n row) where
+  -- one that is left out has the value of its image where all before it have
+  left-idle : (a : List Bool) → Idle (valueOf a) (leftOut row) 1 row
+  left-idle a j h out before =
+      let place : 1 + j - 1 ≡ j = omega arith in
+      let agree = left-agrees n row r (valueOf a) (1 + j) (λ m low high. let index : 1 + (m - 1) ≡ m = omega arith in rw index at (before (m - 1) (omega arith))) in
+      rw place (rw place at (agree (omega arith) (omega (arith, r .size)) out))
+
+  module _ (a : List Bool) (size : length a ≡ length row) where
+    pub along-pairs : lowersAlong (literalValue (valueOf a)) (pairsOf row) ≡ lowers row a
+    unfolding pairsOf
+    along-pairs = along-but (leftOut row) row a size (left-idle a)
+
+    pub deciding-pairs : deciding (literalValue (valueOf a)) (pairsOf row) ≡ firstDifference a (moved row a)
+    unfolding pairsOf
+    deciding-pairs = deciding-but (leftOut row) row a size (left-idle a)
+
+  pub pairs-within : allOf (both (isLiteral n)) (pairsOf row) ≡ true
+  unfolding pairsOf
+  pairs-within = but-within (leftOut row) n row r
+
+-- a row that moves nothing has no x
+none-but : (out : ℕ → Bool) (i : ℕ) (row : List ℕ) → ((j : ℕ) → j < length row → out (i + j) ≡ true) → pairsBut out i row ≡ []
+unfolding pairsBut
+none-but out i [] h = refl
+none-but out i (y ∷ row) h =
+    let here : out i ≡ true = rw add-zero at (h 0 (suc-le-suc zero-le)) in
+    rw here (none-but out (i + 1) row (λ j k. let next : i + 1 + j ≡ i + suc j = omega arith in rw next (h (suc j) (suc-le-suc k))))
+
+pub stays-none : (row : List ℕ) → movesNothing row ≡ true → pairsOf row ≡ []
+unfolding pairsOf
+stays-none row e = none-but (leftOut row) 1 row (λ j h. unmoved-out row (1 + j) (moves-nothing-each row .0 e (1 + j) (omega arith) (omega arith)))

@@ -1,6 +1,6 @@
 -- The moved variables of a row: a walk along them, and that comparing along them decides as the order over all variables does. Assumes nothing.
-use mathlib.Core.Path.{_≡_, sym, _∙_}
-use mathlib.Core.Bool.{Bool, true, false}
+use mathlib.Core.Path.{_≡_}
+use mathlib.Core.Bool.{Bool, true}
 use mathlib.Core.List.{List, _∷_}
 use Prim.Native.Nat.{ℕ, _+_, _-_, _*_, _<_}
 use native.Mathlib.Omega.{arith}
@@ -16,14 +16,18 @@ use Rattle.lexleader.specs.Clause.{pairAt, butAt}
 use Rattle.lexleader.specs.Deciding.{deciding, lowersAlong}
 use Rattle.lexleader.proofs.Truth.{value-positive}
 use Rattle.lexleader.proofs.Pairs.{both}
-use Rattle.lexleader.proofs.Walk.{walk-past, walk-here}
+use Rattle.lexleader.proofs.Walk.{but-start, walk-past, walk-here}
 use Rattle.lexleader.proofs.Along.{Idle, along-but, deciding-but, but-within}
+
+pub moved-start : (row : List ℕ) → movedPairs row ≡ butAt (stays row) 0 row
+unfolding movedPairs
+moved-start row = but-start (stays row) row
 
 module _ (row : List ℕ) (i : ℕ) where
   index : i + 1 - 1 ≡ i
   index = omega arith
 
-  pub stays-at : getD row i 0 ≡ 2 * (i + 1) → stays row (i + 1) ≡ true
+  stays-at : getD row i 0 ≡ 2 * (i + 1) → stays row (i + 1) ≡ true
   unfolding stays
   stays-at e = rw index (eq-eqb (getD row i 0) (2 * (i + 1)) e)
 

@@ -9,12 +9,13 @@ use borrow.Author.Tests.{ltb-true, lt-ltb}
 use lib.Dec.{ltb}
 use lib.ListN.{length, getD}
 use Rattle.lists.proofs.Cases.{never, and-l, and-r, and-both, eq-or-ne}
-use Rattle.lexleader.specs.Rows.{Pair, pairsOf}
-use Rattle.lexleader.specs.Clause.{pairAt, pairsAt}
-use Rattle.lexleader.proofs.Walk.{pairs-start, walk-past, walk-moved, walk-end, later-pairs}
+use Rattle.lexleader.specs.Rows.{Pair, stays, movedPairs}
+use Rattle.lexleader.specs.Clause.{pairAt}
+use Rattle.lexleader.proofs.Walk.{walk-end, later-pairs}
+use Rattle.lexleader.proofs.Moved.{moved-start, moved-past, moved-here}
 use Rattle.lexleader.specs.Deciding.{decides, deciding, lowersAlong}
 use Rattle.valuation.specs.Tables.{byCode}
-use Rattle.trial.specs.Spans.{placed, SameFound, Decides, Covers, IsSpan}
+use Rattle.trial.specs.Spans.{movedAt, placed, SameFound, Decides, Covers, IsSpan}
 
 -- ---- a step
 
@@ -26,20 +27,20 @@ module _ (value : ℕ → Bool) where
   found-on s t = record { yes = s .yes ∙ t .yes; variable = s .variable ∙ t .variable }
 
   module _ (row : List ℕ) (i : ℕ) (h : i < length row) where
-    found-past : getD row i 0 ≡ 2 * (i + 1) → SameFound value (pairsAt i row) (pairsAt (i + 1) row)
-    found-past e = found-start (walk-past row i h e)
+    found-past : getD row i 0 ≡ 2 * (i + 1) → SameFound value (movedAt i row) (movedAt (i + 1) row)
+    found-past e = found-start (moved-past row i h e)
 
     module _ (m : getD row i 0 ≡ 2 * (i + 1) → ⊥) where
-      found-alike : not (Bool·beq (value (2 * (i + 1))) (value (getD row i 0))) ≡ false → SameFound value (pairsAt i row) (pairsAt (i + 1) row)
+      found-alike : not (Bool·beq (value (2 * (i + 1))) (value (getD row i 0))) ≡ false → SameFound value (movedAt i row) (movedAt (i + 1) row)
       unfolding lowersAlong deciding decides
-      found-alike e = let front = walk-moved row i h m in record { yes = rw (front, e); variable = rw (front, e) }
+      found-alike e = let front = moved-here row i h m in record { yes = rw (front, e); variable = rw (front, e) }
 
       found-here : not (Bool·beq (value (2 * (i + 1))) (value (getD row i 0))) ≡ true
-          → (deciding value (pairsAt i row) ≡ i + 1) × (lowersAlong value (pairsAt i row) ≡ value (2 * (i + 1)))
+          → (deciding value (movedAt i row) ≡ i + 1) × (lowersAlong value (movedAt i row) ≡ value (2 * (i + 1)))
       unfolding lowersAlong deciding decides
       found-here e =
           let half : 2 * (i + 1) / 2 ≡ i + 1 = omega arith in
-          let front = walk-moved row i h m in
+          let front = moved-here row i h m in
           (rw (front, e) half, rw (front, e))
 
   found-none : (deciding value [] ≡ 0) × (lowersAlong value [] ≡ false)
@@ -57,9 +58,9 @@ placed-all values (q ∷ pairs) all =
     and-both (and-both (lt-ltb (q .x) (length values) (here .0)) (lt-ltb (q .y) (length values) (here .1)))
     (rw (placed-all values pairs (λ p m. all p (List·Memᴰ·tail m))) (or-true (decides (byCode values) q)))
 
-module _ (values : List Bool) (row : List ℕ) (i : ℕ) (h : i < length row) (p : placed values (pairsAt i row) ≡ true) where
-  placed-past : getD row i 0 ≡ 2 * (i + 1) → placed values (pairsAt (i + 1) row) ≡ true
-  placed-past e = rw (walk-past row i h e) at p
+module _ (values : List Bool) (row : List ℕ) (i : ℕ) (h : i < length row) (p : placed values (movedAt i row) ≡ true) where
+  placed-past : getD row i 0 ≡ 2 * (i + 1) → placed values (movedAt (i + 1) row) ≡ true
+  placed-past e = rw (moved-past row i h e) at p
 
   module _ (m : getD row i 0 ≡ 2 * (i + 1) → ⊥) where
     -- the places of the pair at i
@@ -68,11 +69,11 @@ module _ (values : List Bool) (row : List ℕ) (i : ℕ) (h : i < length row) (p
 
     -- what comes after it is asked for
     abbrev after : Bool
-    after = decides (byCode values) (pairAt row i) || placed values (pairsAt (i + 1) row)
+    after = decides (byCode values) (pairAt row i) || placed values (movedAt (i + 1) row)
 
     front : (inside && after) ≡ true
     unfolding placed
-    front = rw (walk-moved row i h m) at p
+    front = rw (moved-here row i h m) at p
 
     pub placed-here : (2 * (i + 1) < length values) × (getD row i 0 < length values)
     placed-here =
@@ -81,13 +82,13 @@ module _ (values : List Bool) (row : List ℕ) (i : ℕ) (h : i < length row) (p
           ltb-true (getD row i 0) (length values) (and-r (ltb (2 * (i + 1)) (length values)) (ltb (getD row i 0) (length values)) both),
         )
 
-    placed-alike : not (Bool·beq (byCode values (2 * (i + 1))) (byCode values (getD row i 0))) ≡ false → placed values (pairsAt (i + 1) row) ≡ true
+    placed-alike : not (Bool·beq (byCode values (2 * (i + 1))) (byCode values (getD row i 0))) ≡ false → placed values (movedAt (i + 1) row) ≡ true
     unfolding decides
     placed-alike e = rw e at (and-r inside after front)
 
 -- ---- the ways out of `decides`
 
-module _ (row : List ℕ) (values : List Bool) (i : ℕ) (h : i < length row) (p : placed values (pairsAt i row) ≡ true) where
+module _ (row : List ℕ) (values : List Bool) (i : ℕ) (h : i < length row) (p : placed values (movedAt i row) ≡ true) where
   pub decides-past : getD row i 0 ≡ 2 * (i + 1) → Decides row values i false
   decides-past e = record {
     place = λ t. never t;
@@ -109,13 +110,13 @@ module _ (row : List ℕ) (values : List Bool) (i : ℕ) (h : i < length row) (p
 -- ---- a walk that has found nothing before index i
 
 pub record Trying (row : List ℕ) (values : List Bool) (i : ℕ) : Type 0 where
-  pub found : SameFound (byCode values) (pairsOf row) (pairsAt i row)
-  pub places : placed values (pairsAt i row) ≡ true
+  pub found : SameFound (byCode values) (movedPairs row) (movedAt i row)
+  pub places : placed values (movedAt i row) ≡ true
 
 module _ {row : List ℕ} {values : List Bool} {i : ℕ} (t : Trying row values i) where
   -- what a trial answers
   abbrev Answer : ℕ → Bool → Type 0
-  Answer variable lowers = (variable ≡ deciding (byCode values) (pairsOf row)) × (lowers ≡ lowersAlong (byCode values) (pairsOf row))
+  Answer variable lowers = (variable ≡ deciding (byCode values) (movedPairs row)) × (lowers ≡ lowersAlong (byCode values) (movedPairs row))
 
   pub trying-on : {b : Bool} → Decides row values i b → b ≡ false → Trying row values (i + 1)
   trying-on d f = record { found = found-on (byCode values) (t .found) (d .rest f); places = d .rest-placed f }
@@ -123,7 +124,7 @@ module _ {row : List ℕ} {values : List Bool} {i : ℕ} (t : Trying row values 
   pub trying-here : {b : Bool} → Decides row values i b → b ≡ true → (variable : ℕ) (lowers : Bool) → variable ≡ i + 1 → lowers ≡ byCode values (2 * (i + 1)) → Answer variable lowers
   trying-here d e variable lowers v l = (v ∙ sym (t .found .variable ∙ d .variable e), l ∙ sym (t .found .yes ∙ d .yes e))
 
-  pub trying-none : pairsAt i row ≡ [] → Answer 0 false
+  pub trying-none : movedAt i row ≡ [] → Answer 0 false
   trying-none e =
       let none = found-on (byCode values) (t .found) (found-start (byCode values) e) in
       (sym (none .variable ∙ found-none (byCode values) .0), sym (none .yes ∙ found-none (byCode values) .1))
@@ -132,26 +133,26 @@ module _ {row : List ℕ} {values : List Bool} {i : ℕ} (t : Trying row values 
 
 module _ (row : List ℕ) where
   -- where the pairs do not become fewer, nothing is moved
-  none-between : (j k : ℕ) → length (pairsAt j row) ≡ length (pairsAt k row) → (i : ℕ) → j ≤ i → i < k → i < length row → getD row i 0 ≡ 2 * (i + 1)
+  none-between : (j k : ℕ) → length (movedAt j row) ≡ length (movedAt k row) → (i : ℕ) → j ≤ i → i < k → i < length row → getD row i 0 ≡ 2 * (i + 1)
   none-between j k e i low high h =
       ⊎-elim (λ (s : getD row i 0 ≡ 2 * (i + 1)). s)
       (λ (m : getD row i 0 ≡ 2 * (i + 1) → ⊥).
-      absurd (omega (arith, e, later-pairs row j i low .0, later-pairs row (i + 1) k (omega arith) .0, ap length (walk-moved row i h m))))
+      absurd (omega (arith, e, later-pairs (stays row) row j i low .0, later-pairs (stays row) row (i + 1) k (omega arith) .0, ap length (moved-here row i h m))))
       (eq-or-ne (getD row i 0) (2 * (i + 1)))
 
 -- ---- spans
 
 pub covers-all : (row : List ℕ) → Covers row 0 (length row)
-covers-all row = record { order = omega arith; within = omega arith; none-before = pairs-start row; none-after = walk-end row (length row) (omega arith) }
+covers-all row = record { order = omega arith; within = omega arith; none-before = moved-start row; none-after = walk-end (stays row) row (length row) (omega arith) }
 
 module _ {row : List ℕ} {first end : ℕ} where
   pub span-covers : IsSpan row first end → Covers row first end
-  span-covers s = record { order = s .order; within = s .within; none-before = pairs-start row ∙ s .starts .same; none-after = s .none-after }
+  span-covers s = record { order = s .order; within = s .within; none-before = moved-start row ∙ s .starts .same; none-after = s .none-after }
 
   module _ (c : Covers row first end) (i : ℕ) where
     pub stays-before : i < first → getD row i 0 ≡ 2 * (i + 1)
     stays-before h =
-        none-between row 0 first (ap length (sym (pairs-start row) ∙ c .none-before)) i (omega arith) h (omega (arith, c .order, c .within))
+        none-between row 0 first (ap length (sym (moved-start row) ∙ c .none-before)) i (omega arith) h (omega (arith, c .order, c .within))
 
     pub stays-after : end ≤ i → i < length row → getD row i 0 ≡ 2 * (i + 1)
-    stays-after h l = none-between row end (length row) (ap length (c .none-after ∙ sym (walk-end row (length row) (omega arith)))) i h l l
+    stays-after h l = none-between row end (length row) (ap length (c .none-after ∙ sym (walk-end (stays row) row (length row) (omega arith)))) i h l l

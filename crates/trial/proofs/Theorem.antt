@@ -9,7 +9,7 @@ use Rattle.lists.proofs.Members.{map-at}
 use Rattle.packed.specs.Order.{valueOf, firstDifference}
 use Rattle.packed.proofs.OrderLaws.{difference-zero, difference-first, difference-here, difference-within}
 use Rattle.lexleader.specs.Models.{literalValue}
-use Rattle.lexleader.specs.Rows.{moved, pairsOf}
+use Rattle.lexleader.specs.Rows.{moved, movedPairs}
 use Rattle.lexleader.specs.Deciding.{deciding, lowersAlong, SameAlong}
 use Rattle.lexleader.proofs.Images.{length-moved}
 use Rattle.lexleader.proofs.Truth.{value-positive}
@@ -23,18 +23,18 @@ unfolding moved
 stays-same row a i low high e =
     map-at (literalValue (valueOf a)) row (i - 1) 0 false (omega arith) ∙ ap (literalValue (valueOf a)) e ∙ value-positive (valueOf a) i
 
-module _ (row : List ℕ) (a : List Bool) (size : length a ≡ length row) (value : ℕ → Bool) (same : SameAlong (pairsOf row) value (literalValue (valueOf a))) where
+module _ (row : List ℕ) (a : List Bool) (size : length a ≡ length row) (value : ℕ → Bool) (same : SameAlong (movedPairs row) value (literalValue (valueOf a))) where
   alike : length a ≡ length (moved row a)
   alike = size ∙ sym (length-moved row a)
 
   within : firstDifference a (moved row a) ≤ length row
   within = omega (arith, size, difference-within a (moved row a))
 
-  pub trial-answers : Answers row a (lowersAlong value (pairsOf row)) (deciding value (pairsOf row))
+  pub trial-answers : Answers row a (lowersAlong value (movedPairs row)) (deciding value (movedPairs row))
   trial-answers =
-      let at = deciding-same value (literalValue (valueOf a)) (pairsOf row) same ∙ deciding-moved row a size in
+      let at = deciding-same value (literalValue (valueOf a)) (movedPairs row) same ∙ deciding-moved row a size in
       rw at (record {
-        says = lowers-same value (literalValue (valueOf a)) (pairsOf row) same ∙ along-moved row a size;
+        says = lowers-same value (literalValue (valueOf a)) (movedPairs row) same ∙ along-moved row a size;
         compared = refl;
         within = within;
         is-moved = λ h e. difference-here a (moved row a) alike h (sym (stays-same row a _ h within e));

@@ -16,11 +16,10 @@ ghost use mathlib.Core.Bool.{true};
 ghost use Prim.Native.Nat.{_+_, _*_, _≤_, _<_};
 ghost use lib.ListN.{length};
 ghost use Rattle.store.specs.Stores.{maxVariables};
-ghost use Rattle.lexleader.specs.Rows.{pairsOf};
-ghost use Rattle.lexleader.specs.Clause.{pairsAt};
+ghost use Rattle.lexleader.specs.Rows.{movedPairs};
 ghost use Rattle.lexleader.specs.Deciding.{deciding, lowersAlong};
 ghost use Rattle.valuation.specs.Tables.{byCode};
-ghost use Rattle.trial.specs.Spans.{placed, Decides, Covers, IsSpan};
+ghost use Rattle.trial.specs.Spans.{movedAt, FirstMoved, placed, Decides, Covers, IsSpan};
 
 // Whether the row makes the assignment smaller, and the variable that decided, 0 where none does.
 pub struct Trial {
@@ -37,9 +36,9 @@ pub struct Span {
 // Tries a row on the values of literals by code, where no variable outside of a span is moved. Two variables to a turn, which is a step
 // and a test of the end less for every other one.
 pub fn try_row(row: &[u16], span: Span, values: &[bool]) -> Trial
-    requires { ⌜ Covers (now row) (span .first) (span .end) × (placed (now values) (pairsOf (now row)) ≡ true) ⌝ }
-    ensures variable { λ r. ⌜ r .variable ≡ deciding (byCode (now (values .entry))) (pairsOf (now (row .entry))) ⌝ }
-    ensures lowers { λ r. ⌜ r .lowers ≡ lowersAlong (byCode (now (values .entry))) (pairsOf (now (row .entry))) ⌝ }
+    requires { ⌜ Covers (now row) (span .first) (span .end) × (placed (now values) (movedPairs (now row)) ≡ true) ⌝ }
+    ensures variable { λ r. ⌜ r .variable ≡ deciding (byCode (now (values .entry))) (movedPairs (now (row .entry))) ⌝ }
+    ensures lowers { λ r. ⌜ r .lowers ≡ lowersAlong (byCode (now (values .entry))) (movedPairs (now (row .entry))) ⌝ }
 {
     let first = span.first;
     let end = span.end;
@@ -66,7 +65,7 @@ pub fn try_row(row: &[u16], span: Span, values: &[bool]) -> Trial
 
 // Whether the variable at an index decides: it is moved, and has another value than its image.
 fn decides(row: &[u16], i: usize, values: &[bool]) -> bool
-    requires { ⌜ (i < length (now row)) × (placed (now values) (pairsAt i (now row)) ≡ true) ⌝ }
+    requires { ⌜ (i < length (now row)) × (placed (now values) (movedAt i (now row)) ≡ true) ⌝ }
     ensures { λ r. ⌜ Decides (now (row .entry)) (now (values .entry)) i r ⌝ }
 {
     let own = 2 * (i + 1);
@@ -94,7 +93,7 @@ pub fn span_of(row: &[u16]) -> Span
     requires { ⌜ length (now row) ≤ maxVariables ⌝ }
     ensures { λ r. ⌜ IsSpan (now (row .entry)) (r .first) (r .end) ⌝ }
 {
-    let first = lexleader::places::next_moved(row, 0);
+    let first = first_moved(row);
     let mut end = row.len();
     while first < end {
         if row[end - 1] as usize != 2 * end {
@@ -103,4 +102,19 @@ pub fn span_of(row: &[u16]) -> Span
         end -= 1;
     }
     Span { first, end }
+}
+
+// The index of a row's first moved variable; the row's length where nothing is moved.
+fn first_moved(row: &[u16]) -> usize
+    requires { ⌜ length (now row) ≤ maxVariables ⌝ }
+    ensures { λ r. ⌜ FirstMoved (now (row .entry)) r ⌝ }
+{
+    let mut i = 0;
+    while i < row.len() {
+        if row[i] as usize != 2 * (i + 1) {
+            return i;
+        }
+        i += 1;
+    }
+    i
 }

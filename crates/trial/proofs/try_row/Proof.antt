@@ -3,8 +3,7 @@ use mathlib.Core.Path.{_≡_, ap, _∙_}
 use mathlib.Core.List.{List, []}
 use Prim.Native.Nat.{ℕ, _+_, _-_, _≤_}
 use native.Mathlib.Omega.{arith}
-use Rattle.lexleader.specs.Clause.{pairsAt}
-use Rattle.trial.specs.Spans.{Covers}
+use Rattle.trial.specs.Spans.{movedAt, Covers}
 use Rattle.trial.proofs.PairLaws.{found-start, Trying, trying-on, trying-here, trying-none}
 use borrow.Author.Needs.{needs}
 use Rattle.trial.proofs.try_row.Statement.{statement}
@@ -25,8 +24,8 @@ loop-holds c =
 covers : (c : tie.At-loop Inv-loop μ-loop) → let a = c .before .before .before .args in Covers (a .row .now) (a .span .first) (a .span .end)
 covers c = c .before .before .before .pre .0
 
-past : {row : List ℕ} {first end : ℕ} → Covers row first end → (i : ℕ) → i ≡ end → pairsAt i row ≡ []
-past {row} c i e = ap (λ (k : ℕ). pairsAt k row) e ∙ c .none-after
+past : {row : List ℕ} {first end : ℕ} → Covers row first end → (i : ℕ) → i ≡ end → movedAt i row ≡ []
+past {row} c i e = ap (λ (k : ℕ). movedAt k row) e ∙ c .none-after
 
 add-loop : tie.Need-add-loop Inv-loop μ-loop
 add-loop c = omega (arith, covers c .within)

@@ -2,10 +2,12 @@
 -- row's in order of acceptance"). A cursor only counts the plain clauses, so what is left is said for any list of them. Assumes nothing.
 use mathlib.Core.Path.{_≡_}
 use Prim.Native.Nat.{ℕ, _+_, _≤_, _<_}
+use mathlib.Core.Bool.{Bool}
 use mathlib.Core.List.{List, [], _∷_, _++_}
 use lib.ListN.{length, drop}
 use Rattle.store.specs.Stores.{Store, rowAt, rowsFrom, plainOf, FormedRows}
 use Rattle.store.specs.declared.record.Record.{Record}
+use Rattle.cycles.specs.Cycles.{marksOf}
 use Rattle.lexleader.specs.Made.{rowsClauses}
 use Rattle.lexleader.specs.Bounds.{maxBefore}
 use Rattle.lexleader.specs.Places.{clausesAt, auxiliaryAfter, PlaceStands}
@@ -41,6 +43,11 @@ pub record CursorStands (counts : Record) (images : List ℕ) (c : Cursor) : Typ
   pub place : c .row < counts .rows → PlaceStands (rowOf counts images c) (c .place)
   pub there : c .row < counts .rows → c .place .index < counts .variables
   pub after-most : c .row < counts .rows → auxiliaryAfter (rowOf counts images c) (c .place) ≤ maxBefore (c .row + 1) + 1
+
+-- the marks of what is left out of the row that a cursor is in
+pub record RowMarked (counts : Record) (images : List ℕ) (c : Cursor) (marks : List Bool) : Type 0 where
+  pub room : length marks ≡ counts .variables
+  pub are : c .row < counts .rows → marks ≡ marksOf (rowOf counts images c)
 
 -- a clause is left: a plain one, or one that a row adds
 abbrev pub ClauseRemains : Record → Cursor → Type 0

@@ -27,7 +27,7 @@ ghost use Rattle.store.specs.Stores.{isRow, stored, isFormed};
 ghost use Rattle.lexleader.specs.Models.{clauseHolds, formulaHolds};
 ghost use Rattle.lexleader.specs.Clause.{pairAt};
 ghost use Rattle.lexleader.specs.Places.{sixAt, ClauseStands};
-ghost use Rattle.lexleader.specs.Store.{variablesOf};
+ghost use Rattle.lexleader.specs.Store.{variablesOf, clausesOf};
 ghost use Rattle.valuation.specs.Tables.{byCode};
 ghost use Rattle.cursor.specs.Cursors.{addedFrom, remainingOf, rowOf, CursorStands, ClauseRemains, AtAuxiliary};
 ghost use Rattle.checking.specs.Checking.{verdictOf, firstFalse};
@@ -40,35 +40,65 @@ pub enum Checked {
     Falsified(usize),
 }
 
-// The first clause of the made formula that an assignment of 1..N makes false.
+// The first clause of the made formula that an assignment of 1..N makes false; how many clauses there are is known.
 pub fn first_false(
     counts: Record,
     literals: &[u16],
     ends: &[u16],
     images: &[u16],
+    clauses: usize,
     a: &[u64],
 ) -> Checked
     requires { let s = stored counts literals ends images in
-        ⌜ (isFormed s ≡ true) × (isAssignment (variablesOf s) (now a) ≡ true) ⌝ }
+        ⌜ (isFormed s ≡ true) × (isAssignment (variablesOf s) (now a) ≡ true) × (clauses ≡ clausesOf s) ⌝ }
     ensures { λ r. let s = stored counts (literals .entry) (ends .entry) (images .entry) in
         ⌜ verdictOf r ≡ firstFalse s (now (a .entry)) ⌝ }
 {
     let mut values = [false; valuation::TABLE];
-    valuation::tabulate(a, counts.variables, &mut values);
-    let total = lexleader::counting::totals_of(counts, images);
-    let clauses = total.clauses;
-    let mut at = cursor::start(counts, images);
+    let mut marks = [false; Record::MAX_VARIABLES];
+    let n = counts.variables;
+    valuation::tabulate(a, n, &mut values);
+    try_clauses(
+        counts,
+        literals,
+        ends,
+        images,
+        clauses,
+        a,
+        &values,
+        &mut marks[..n],
+    )
+}
+
+// The same, by the table of the plain variables' literals and with room for the marks of a row.
+fn try_clauses(
+    counts: Record,
+    literals: &[u16],
+    ends: &[u16],
+    images: &[u16],
+    clauses: usize,
+    a: &[u64],
+    values: &[bool],
+    marks: &mut [bool],
+) -> Checked
+    requires { let s = stored counts literals ends images in
+        ⌜ (isFormed s ≡ true) × (isAssignment (variablesOf s) (now a) ≡ true) × (clauses ≡ clausesOf s)
+        × TableOf (counts .variables) (now values) (now a) × (length (now marks) ≡ counts .variables) ⌝ }
+    ensures { λ r. let s = stored counts (literals .entry) (ends .entry) (images .entry) in
+        ⌜ verdictOf r ≡ firstFalse s (now (a .entry)) ⌝ }
+{
+    let mut at = cursor::start(counts, images, marks);
     let mut q = 1;
     while q <= clauses {
-        if six_hold(counts, images, at, &values, a) {
-            at = cursor::next_auxiliary(counts, images, at);
+        if six_hold(counts, images, at, values, a) {
+            at = cursor::next_auxiliary(counts, images, at, marks);
             q += 6;
             continue;
         }
-        if !holds_at(counts, literals, ends, images, at, &values, a) {
+        if !holds_at(counts, literals, ends, images, at, values, a) {
             return Checked::Falsified(q);
         }
-        at = cursor::next(counts, images, at);
+        at = cursor::next(counts, images, at, marks);
         q += 1;
     }
     Checked::Satisfied

@@ -4,7 +4,7 @@ use mathlib.Core.Logic.{_⊎_, inl, inr}
 use mathlib.Core.List.{List, [], _∷_, _++_}
 use Prim.Native.Nat.{ℕ, _+_, _*_, _≤_, _<_}
 use native.Mathlib.Omega.{arith}
-use lib.ListN.{length, getD, drop-of-length-le}
+use lib.ListN.{length, getD, drop, drop-of-length-le}
 use Rattle.lists.proofs.Cases.{lt-or-le}
 use Rattle.lists.proofs.Steps.{drop-step}
 use Rattle.store.specs.Stores.{Store, rowsOf, plainOf, heldRows}
@@ -15,7 +15,7 @@ use Rattle.lexleader.specs.Store.{madeOf}
 use Rattle.lexleader.specs.Places.{clausesAt, ClauseStands}
 use Rattle.cursor.specs.Cursors.{addedFrom, remaining, remainingOf, rowOf, CursorStands, ClauseRemains, AtAdded}
 use Rattle.cursor.specs.declared.Cursor.{Cursor}
-use Rattle.cursor.proofs.RowLaws.{size, nothing-added, here-first}
+use Rattle.cursor.proofs.RowLaws.{size, nothing-added, here-some, here-first}
 
 -- a cursor before the first clause of any plain ones is one before the first clause of a store's made formula
 pub start-left : (s : Store) (c : Cursor)
@@ -55,6 +55,13 @@ module _ (plain : List (List ℕ)) (counts : Record) (many : length plain ≡ co
   added-first p at =
       ap (λ (l : List (List ℕ)). getD l 0 []) (past-plain (at .past))
       ∙ here-first counts images (c .row) (p .rows) (at .row) (c .place) (clause-stands counts images c p (at .row))
+
+  pub added-head : CursorStands counts images c → AtAdded counts c
+      → remaining plain counts images c ≡ getD (clausesAt (rowOf counts images c) (c .place)) 0 [] ∷ drop 1 (remaining plain counts images c)
+  added-head p at =
+      let some = here-some counts images (c .row) (p .rows) (at .row) (c .place) (clause-stands counts images c p (at .row)) in
+      drop-step (remaining plain counts images c) 0 [] (omega (arith, some, ap length (past-plain (at .past))))
+      ∙ ap (λ (clause : List ℕ). clause ∷ drop 1 (remaining plain counts images c)) (added-first p at)
 
   pub some-left : 0 < length (remaining plain counts images c) → ClauseRemains counts c
   some-left some h = go (lt-or-le (c .row) (counts .rows))

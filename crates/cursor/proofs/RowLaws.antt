@@ -3,7 +3,7 @@ use mathlib.Core.Path.{_≡_, sym, ap, ap₂, _∙_}
 use mathlib.Core.List.{List, [], _++_, append-assoc}
 use Prim.Native.Nat.{ℕ, _+_, _-_, _≤_, _<_}
 use native.Mathlib.Omega.{arith}
-use lib.ListN.{length, getD, drop, List·getD-append}
+use lib.ListN.{length, getD, drop, length-append, List·getD-append}
 use Rattle.store.specs.Stores.{rowAt, rowsFrom, FormedRows}
 use Rattle.store.specs.declared.record.Record.{Record}
 use Rattle.store.proofs.RowLaws.{from-here, from-end, row-size}
@@ -47,6 +47,15 @@ module _ (counts : Record) (images : List ℕ) (r : ℕ) where
       here : addedFrom counts images r p ≡ clausesAt row p ++ rowsClauses (auxiliaryAfter row p) later
       unfolding addedFrom addedLeft
       here = ap (λ (l : List (List ℕ)). addedLeft l p) (from-here n (counts .rows) images r h)
+
+      pub here-some : ClauseStands row p → 0 < length (addedFrom counts images r p)
+      here-some s =
+          omega (
+            arith,
+            ap length here,
+            length-append (clausesAt row p) (rowsClauses (auxiliaryAfter row p) later),
+            some-clause row p (s .stands) (s .inside),
+          )
 
       -- the clause at a place where one stands
       pub here-first : ClauseStands row p → getD (addedFrom counts images r p) 0 [] ≡ getD (clausesAt row p) 0 []

@@ -42,3 +42,7 @@ headerBy s room = writtenIf (headerOf s) room
 
 unfoldable pub clauseBy : Store → ℕ → ℕ → Said ℕ
 clauseBy s q room = cond (eqb q 0) (refused 13 0) (cond (ltb (clausesOf s) q) (refused 13 0) (writtenIf (lineOf s q) room))
+
+-- one of the clauses that the rows add, by its number among these, from 0
+unfoldable pub addedBy : List (List ℕ) → ℕ → ℕ → Said ℕ
+addedBy clauses c room = cond (ltb c (length clauses)) (writtenIf (clauseLine (getD clauses c [])) room) (refused 13 0)

@@ -6,14 +6,14 @@ use store::record::Record;
 use store::refusal::Refusal;
 ghost use mathlib.Core.Path.{_≡_};
 ghost use mathlib.Core.Bool.{true};
-ghost use Prim.Native.Nat.{_+_, _-_, _≤_, _<_};
+ghost use Prim.Native.Nat.{_+_, _≤_};
 ghost use mathlib.Core.List.{[]};
 ghost use lib.ListN.{length, getD};
 ghost use Rattle.store.specs.Refusals.{said, bufferLeft};
 ghost use Rattle.store.specs.Stores.{stored, rowsOf, isFormed, FormedRows, maxLiterals};
 ghost use Rattle.lexleader.specs.Made.{rowsClauses};
 ghost use Rattle.render.specs.Text.{clauseLine, headerLine};
-ghost use Rattle.emit.specs.Emit.{lineOf, clauseBy, writtenIf};
+ghost use Rattle.emit.specs.Emit.{lineOf, clauseBy, addedBy, writtenIf};
 
 // Writes the header line of N variables and M clauses.
 pub fn header(total: Totals, out: &mut [u8]) -> Answer
@@ -48,10 +48,6 @@ pub fn clause(
     if q == 0 {
         return Answer::Refused(Refusal::NoSuchClause);
     }
-    let total = lexleader::counting::totals_of(counts, images);
-    if total.clauses < q {
-        return Answer::Refused(Refusal::NoSuchClause);
-    }
     let c = q - 1;
     if c < counts.clauses {
         return write_stored(
@@ -64,14 +60,38 @@ pub fn clause(
 
 // A clause that the rows add, by its number among those, from 0.
 fn added(counts: Record, images: &[u16], c: usize, out: &mut [u8]) -> Answer
-    requires { let rows = rowsOf (counts .variables) (counts .rows) (now images) in
-        ⌜ FormedRows (counts .variables) (counts .rows) (now images) × (c < length (rowsClauses (counts .variables + 1) rows)) ⌝ }
+    requires { ⌜ FormedRows (counts .variables) (counts .rows) (now images) ⌝ }
     ensures answer { λ r. let rows = rowsOf (counts .variables) (counts .rows) (now (images .entry)) in
-        ⌜ said r ≡ writtenIf (clauseLine (getD (rowsClauses (counts .variables + 1) rows) c [])) (length (now (out .entry))) ⌝ }
+        ⌜ said r ≡ addedBy (rowsClauses (counts .variables + 1) rows) c (length (now (out .entry))) ⌝ }
     ensures buffer { λ r. let rows = rowsOf (counts .variables) (counts .rows) (now (images .entry)) in
         ⌜ now (out .exit) ≡ bufferLeft (said r) (clauseLine (getD (rowsClauses (counts .variables + 1) rows) c [])) (now (out .entry)) ⌝ }
 {
-    let clause = lexleader::numbered::added_clause(images, counts.rows, counts.variables, c);
+    let mut marks = [false; Record::MAX_VARIABLES];
+    let n = counts.variables;
+    write_added(counts, images, c, &mut marks[..n], out)
+}
+
+// The same, with room for the marks of a row.
+fn write_added(
+    counts: Record,
+    images: &[u16],
+    c: usize,
+    marks: &mut [bool],
+    out: &mut [u8],
+) -> Answer
+    requires { ⌜ FormedRows (counts .variables) (counts .rows) (now images) × (length (now marks) ≡ counts .variables) ⌝ }
+    ensures answer { λ r. let rows = rowsOf (counts .variables) (counts .rows) (now (images .entry)) in
+        ⌜ said r ≡ addedBy (rowsClauses (counts .variables + 1) rows) c (length (now (out .entry))) ⌝ }
+    ensures buffer { λ r. let rows = rowsOf (counts .variables) (counts .rows) (now (images .entry)) in
+        ⌜ now (out .exit) ≡ bufferLeft (said r) (clauseLine (getD (rowsClauses (counts .variables + 1) rows) c [])) (now (out .entry)) ⌝ }
+{
+    let n = counts.variables;
+    let spot = lexleader::numbered::find(images, counts.rows, n, c, marks);
+    if spot.row == counts.rows {
+        return Answer::Refused(Refusal::NoSuchClause);
+    }
+    let row = store::rows::row(images, n, spot.row);
+    let clause = lexleader::numbered::row_clause(row, marks, spot.auxiliary, spot.number);
     let codes = clause.literals;
     let count = clause.count;
     write_codes(&codes[..count], out)

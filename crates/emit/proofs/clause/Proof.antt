@@ -1,15 +1,17 @@
 -- `emit::clause` meets its contract: 13, then a plain clause or one that the rows add. Assumes nothing.
 use mathlib.Core.Path.{_≡_, refl, sym, ap, _∙_}
-use Prim.Native.Nat.{_-_, _≤_, _<_}
+use mathlib.Core.List.{List}
+use Prim.Native.Nat.{ℕ, _-_, _≤_}
 use native.Mathlib.Omega.{arith}
 use lib.ListN.{length}
+use Rattle.store.specs.Refusals.{said, bufferLeft}
 use Rattle.store.specs.Stores.{Store, lent, heldRows}
 use Rattle.store.proofs.Formed.{formed, formed-rows, formed-clauses}
 use Rattle.lexleader.specs.Store.{clausesOf}
-use Rattle.lexleader.proofs.MadeLaws.{made-plain, made-added, counted-clauses}
+use Rattle.lexleader.proofs.MadeLaws.{clauses-are, made-plain, made-added}
 use Rattle.render.specs.Text.{clauseLine}
-use Rattle.emit.specs.Emit.{lineOf, writtenIf, clauseBy}
-use Rattle.emit.proofs.WrittenLaws.{same-line, clause-short, no-clause-zero, no-clause-above, clause-there}
+use Rattle.emit.specs.Emit.{lineOf}
+use Rattle.emit.proofs.WrittenLaws.{same-line, clause-short, no-clause-zero, clause-there, clause-added}
 use borrow.Author.Needs.{needs}
 use Rattle.emit.proofs.clause.Statement.{statement}
 use Rattle.emit.proofs.clause.Tie as tie
@@ -17,34 +19,19 @@ use Rattle.emit.proofs.clause.Tie as tie
 abbrev S : tie.Start → Store
 S c = lent (c .args .counts) (c .args .literals .now) (c .args .ends .now) (c .args .images .now)
 
--- past the tests of the number
-abbrev start : tie.Else2 → tie.Start
-start c = c .before .before .before .before .before .before .before .before
-
-high : (c : tie.Else2) → start c .args .q ≤ clausesOf (S (start c))
-high c = let s = start c in omega (arith, counted-clauses (S s) (s .pre) (c .before .before .totals-of .ensures), c .if2 .left)
-
-there : (c : tie.Else2) → let s = start c in clauseBy (S s) (s .args .q) (length (s .args .out .now)) ≡ writtenIf (lineOf (S s) (s .args .q)) (length (s .args .out .now))
-there c = let s = start c in clause-there (S s) (s .args .q) (length (s .args .out .now)) (c .before .before .before .if1 .left) (high c)
-
 returns : tie.Need-returns
 returns c =
     let s = c .before .before .before .before .before in
     (no-clause-zero (S s) (s .args .q) (length (s .args .out .now)) (c .if1 .taken), refl)
 
-totals-of-requires : tie.Need-totals-of-requires
-totals-of-requires c κs = let s = c .before .before .before .before .before in (formed (S s) (s .pre) .clauses-fit, formed-rows (S s) (s .pre))
-
-returns-2 : tie.Need-returns-2
-returns-2 c =
-    let s = c .before .before .before .before .before .before .before .before in
-    let above : clausesOf (S s) < s .args .q = omega (arith, counted-clauses (S s) (s .pre) (c .before .before .totals-of .ensures), c .if2 .taken) in
-    (no-clause-above (S s) (s .args .q) (length (s .args .out .now)) (c .before .before .before .if1 .left) above, refl)
+-- past the test of 0
+abbrev start : tie.Else1 → tie.Start
+start c = c .before .before .before .before .before
 
 -- ---- a plain clause
 
 clause-requires : tie.Need-clause-requires
-clause-requires c κs = let s = start (c .before .before) in (formed-clauses (S s) (formed (S s) (s .pre)), c .if3 .taken)
+clause-requires c κs = let s = start (c .before .before) in (formed-clauses (S s) (formed (S s) (s .pre)), c .if2 .taken)
 
 write-stored-requires : tie.Need-write-stored-requires
 write-stored-requires c κs =
@@ -52,42 +39,40 @@ write-stored-requires c κs =
     let i = f .before in
     let s = start (i .before .before) in
     let a = s .args in
-    rw (f .clause .ensures) (clause-short (a .counts .clauses) (a .literals .now) (a .ends .now) (formed-clauses (S s) (formed (S s) (s .pre))) (a .q - 1) (i .if3 .taken))
+    rw (f .clause .ensures) (clause-short (a .counts .clauses) (a .literals .now) (a .ends .now) (formed-clauses (S s) (formed (S s) (s .pre))) (a .q - 1) (i .if2 .taken))
 
-returns-3 : tie.Need-returns-3
+returns-2 : tie.Need-returns-2
 unfolding lineOf
-returns-3 c =
+returns-2 c =
     let w = c .before .before in
     let f = w .before .before in
     let i = f .before in
     let e = i .before .before in
     let s = start e in
-    let line = ap clauseLine (f .clause .ensures ∙ sym (made-plain (S s) (s .pre) (s .args .q - 1) (i .if3 .taken))) in
+    let high : s .args .q ≤ clausesOf (S s) = omega (arith, clauses-are (S s) (s .pre), i .if2 .taken) in
+    let line = ap clauseLine (f .clause .ensures ∙ sym (made-plain (S s) (s .pre) (s .args .q - 1) (i .if2 .taken))) in
     let wrote = same-line line (s .args .out .now) (w .write-stored .result) _ (w .write-stored .ensures) in
-    (wrote .0 ∙ sym (there e), wrote .1)
+    (wrote .0 ∙ sym (clause-there (S s) (s .args .q) (length (s .args .out .now)) (e .if1 .left) high), wrote .1)
 
 -- ---- a clause that the rows add
 
 added-requires : tie.Need-added-requires
-added-requires c κs =
-    let i = c .before .before in
-    let e = i .before .before in
-    let s = start e in
-    (formed-rows (S s) (s .pre), omega (arith, e .before .before .totals-of .ensures .clauses, e .if2 .left, i .if3 .left))
+added-requires c κs = let s = start (c .before .before .before .before) in formed-rows (S s) (s .pre)
 
-returns-4 : tie.Need-returns-4
+returns-3 : tie.Need-returns-3
 unfolding lineOf heldRows
-returns-4 c =
+returns-3 c =
     let w = c .before .before in
     let i = w .before .before .before in
     let e = i .before .before in
     let s = start e in
-    let line = ap clauseLine (sym (made-added (S s) (s .pre) (s .args .q - 1) (i .if3 .left))) in
-    let wrote = same-line line (s .args .out .now) (w .added .result) _ (w .added .ensures) in
-    (wrote .0 ∙ sym (there e), wrote .1)
+    let a = s .args in
+    let line = ap clauseLine (made-added (S s) (s .pre) (a .q - 1) (i .if2 .left)) in (
+      w .added .ensures .0 ∙ clause-added (S s) (s .pre) (a .q) (length (a .out .now)) (e .if1 .left) (i .if2 .left),
+      w .added .ensures .1 ∙ ap (λ (l : List ℕ). bufferLeft (said (w .added .result)) l (a .out .now)) (sym line),
+    )
 
 pub clause-spec : {M : Type 1} → statement M
 clause-spec =
     tie.close
-    (tie.spec returns totals-of-requires returns-2 (search needs) clause-requires write-stored-requires (search needs) returns-3
-    added-requires (search needs) returns-4)
+    (tie.spec returns (search needs) clause-requires write-stored-requires (search needs) returns-2 added-requires (search needs) returns-3)

@@ -1,12 +1,11 @@
 -- The settings of a row's auxiliaries as two runs, how far its variables agree with their images, and what the settings of all rows come to.
 -- Assumes nothing.
-use mathlib.Core.Path.{_≡_, refl}
+use mathlib.Core.Path.{_≡_, refl, _∙_}
 use mathlib.Core.Bool.{Bool, true, false, cond, Bool·beq}
 use mathlib.Core.List.{List, [], _∷_, _++_}
 use Prim.Native.Nat.{ℕ, suc, _+_, _-_, _*_, _/_, _≤_, _<_}
 use native.Mathlib.Omega.{arith}
 use lib.ListN.{length, take, replicate, length-append}
-use lib.Dec.{eqb}
 use Rattle.packed.specs.Words.{maxWords, bitsOf, wordCount}
 use Rattle.packed.specs.Order.{valueOf}
 use Rattle.packed.specs.Writing.{WriterHolds, Appends}
@@ -14,8 +13,9 @@ use Rattle.packed.specs.declared.writer.Writer.{Writer}
 use Rattle.packed.proofs.Bits.{length-bits}
 use Rattle.store.specs.Stores.{rowsOf, rowsFrom, rowAt, FormedRows}
 use Rattle.store.proofs.RowLaws.{from-here, from-end}
+use Rattle.cycles.specs.Cycles.{leftOut}
 use Rattle.lexleader.specs.Models.{literalValue}
-use Rattle.lexleader.specs.Rows.{Pair, pairsFrom, pairsOf}
+use Rattle.lexleader.specs.Rows.{Pair, pairsBut, pairsOf}
 use Rattle.lexleader.specs.Deciding.{decides, deciding}
 use Rattle.lexleader.specs.Made.{agrees, settingsAfter, rowSettings, settings, auxiliaries, allAuxiliaries, filledIn, madeVariables}
 use Rattle.lexleader.proofs.Settings.{length-settings}
@@ -67,35 +67,35 @@ module _ (row : List ℕ) (bits : List Bool) (all agreed : ℕ) (count : all ≡
   unfolding rowSettings auxiliaries
   settings-apart h = rw count (after-true (valueOf bits) (pairsOf row) agreed is .1 (omega (arith, count)))
 
--- ---- how far a row's variables agree with their images: up to the one that decides
+-- ---- how far a row's x agree with their images: up to the one that decides
 
-module _ (v : ℕ → Bool) where
+module _ (v out : ℕ → Bool) where
   -- no variable from i on decides
-  agreeing-all : (i : ℕ) (row : List ℕ) → 1 ≤ i → deciding (literalValue v) (pairsFrom i row) ≡ 0 → agreeing v (pairsFrom i row) ≡ length (pairsFrom i row)
-  unfolding pairsFrom deciding decides agreeing agrees
+  agreeing-all : (i : ℕ) (row : List ℕ) → 1 ≤ i → deciding (literalValue v) (pairsBut out i row) ≡ 0 → agreeing v (pairsBut out i row) ≡ length (pairsBut out i row)
+  unfolding pairsBut deciding decides agreeing agrees
   agreeing-all i [] low e = refl
-  agreeing-all i (y ∷ row) low e = go (eqb y (2 * i)) (Bool·beq (literalValue v (2 * i)) (literalValue v y)) refl (agreeing-all (i + 1) row (omega arith)) e
+  agreeing-all i (y ∷ row) low e = go (out i) (Bool·beq (literalValue v (2 * i)) (literalValue v y)) refl (agreeing-all (i + 1) row (omega arith)) e
     where
       go : (c b : Bool) → Bool·beq (literalValue v (2 * i)) (literalValue v y) ≡ b
-          → (deciding (literalValue v) (pairsFrom (i + 1) row) ≡ 0 → agreeing v (pairsFrom (i + 1) row) ≡ length (pairsFrom (i + 1) row))
-          → let pairs = cond c (pairsFrom (i + 1) row) (record { x = 2 * i; y = y } ∷ pairsFrom (i + 1) row) in
+          → (deciding (literalValue v) (pairsBut out (i + 1) row) ≡ 0 → agreeing v (pairsBut out (i + 1) row) ≡ length (pairsBut out (i + 1) row))
+          → let pairs = cond c (pairsBut out (i + 1) row) (record { x = 2 * i; y = y } ∷ pairsBut out (i + 1) row) in
           deciding (literalValue v) pairs ≡ 0 → agreeing v pairs ≡ length pairs
       go true b q later e = later e
       go false true q later e = rw q (omega (arith, later (rw q at e)))
       go false false q later e = let none : 2 * i / 2 ≡ 0 = rw q at e in absurd (omega arith)
 
   -- variable d decides, i or a later one
-  agreeing-before : (i : ℕ) (row : List ℕ) (d : ℕ) → 1 ≤ d → deciding (literalValue v) (pairsFrom i row) ≡ d
-      → (i ≤ d) × (agreeing v (pairsFrom i row) ≡ length (pairsFrom i (take (d - i) row)))
-  unfolding pairsFrom deciding decides agreeing agrees
+  agreeing-before : (i : ℕ) (row : List ℕ) (d : ℕ) → 1 ≤ d → deciding (literalValue v) (pairsBut out i row) ≡ d
+      → (i ≤ d) × (agreeing v (pairsBut out i row) ≡ length (pairsBut out i (take (d - i) row)))
+  unfolding pairsBut deciding decides agreeing agrees
   agreeing-before i [] d low e = absurd (omega arith)
-  agreeing-before i (y ∷ row) d low e = go (eqb y (2 * i)) refl (Bool·beq (literalValue v (2 * i)) (literalValue v y)) refl (agreeing-before (i + 1) row d low) e
+  agreeing-before i (y ∷ row) d low e = go (out i) refl (Bool·beq (literalValue v (2 * i)) (literalValue v y)) refl (agreeing-before (i + 1) row d low) e
     where
-      go : (c : Bool) → eqb y (2 * i) ≡ c → (b : Bool) → Bool·beq (literalValue v (2 * i)) (literalValue v y) ≡ b
-          → (deciding (literalValue v) (pairsFrom (i + 1) row) ≡ d
-          → (i + 1 ≤ d) × (agreeing v (pairsFrom (i + 1) row) ≡ length (pairsFrom (i + 1) (take (d - (i + 1)) row))))
-          → let pairs = cond c (pairsFrom (i + 1) row) (record { x = 2 * i; y = y } ∷ pairsFrom (i + 1) row) in
-          deciding (literalValue v) pairs ≡ d → (i ≤ d) × (agreeing v pairs ≡ length (pairsFrom i (take (d - i) (y ∷ row))))
+      go : (c : Bool) → out i ≡ c → (b : Bool) → Bool·beq (literalValue v (2 * i)) (literalValue v y) ≡ b
+          → (deciding (literalValue v) (pairsBut out (i + 1) row) ≡ d
+          → (i + 1 ≤ d) × (agreeing v (pairsBut out (i + 1) row) ≡ length (pairsBut out (i + 1) (take (d - (i + 1)) row))))
+          → let pairs = cond c (pairsBut out (i + 1) row) (record { x = 2 * i; y = y } ∷ pairsBut out (i + 1) row) in
+          deciding (literalValue v) pairs ≡ d → (i ≤ d) × (agreeing v pairs ≡ length (pairsBut out i (take (d - i) (y ∷ row))))
       go true is b q later e =
           let rest = later e in
           let next : d - i ≡ suc (d - (i + 1)) = omega (arith, rest .0) in
@@ -109,15 +109,14 @@ module _ (v : ℕ → Bool) where
           let none : d - i ≡ 0 = omega arith in
           (omega arith, rw (none, q))
 
-  module _ (row : List ℕ) where
-    pub agreeing-none : deciding (literalValue v) (pairsOf row) ≡ 0 → agreeing v (pairsOf row) ≡ length (pairsOf row)
-    unfolding pairsOf
-    agreeing-none e = agreeing-all 1 row (omega arith) e
+module _ (v : ℕ → Bool) (row : List ℕ) (d : ℕ) (decided : deciding (literalValue v) (pairsOf row) ≡ d) where
+  pub agreeing-none : d ≡ 0 → agreeing v (pairsOf row) ≡ length (pairsOf row)
+  unfolding pairsOf
+  agreeing-none e = agreeing-all v (leftOut row) 1 row (omega arith) (decided ∙ e)
 
-    pub agreeing-to : 1 ≤ deciding (literalValue v) (pairsOf row)
-        → agreeing v (pairsOf row) ≡ length (pairsOf (take (deciding (literalValue v) (pairsOf row) - 1) row))
-    unfolding pairsOf
-    agreeing-to h = agreeing-before 1 row (deciding (literalValue v) (pairsFrom 1 row)) h refl .1
+  pub agreeing-to : 1 ≤ d → agreeing v (pairsOf row) ≡ length (pairsBut (leftOut row) 1 (take (d - 1) row))
+  unfolding pairsOf
+  agreeing-to h = agreeing-before v (leftOut row) 1 row d h decided .1
 
 -- ---- the auxiliaries of all rows
 

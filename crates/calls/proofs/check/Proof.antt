@@ -10,7 +10,7 @@ use mathlib.Core.Bool.{true}
 use Prim.Native.Nat.{ℕ}
 use Rattle.packed.specs.Words.{isAssignment}
 use Rattle.lexleader.specs.Store.{variablesOf}
-use Rattle.lexleader.proofs.MadeLaws.{counted-variables}
+use Rattle.lexleader.proofs.MadeLaws.{counted-variables, counted-clauses}
 use Rattle.calls.proofs.ModelLaws.{check-unready, check-misformed, check-done}
 use borrow.Author.Needs.{needs}
 use Rattle.calls.proofs.check.Statement.{statement}
@@ -52,7 +52,10 @@ returns-2 c =
     check-misformed (S s) (s .args .a .now) (admitted (t .before)) (sym same ∙ sym (i .is-assignment .ensures) ∙ not-true _ (c .if1 .taken))
 
 first-false-requires : tie.Need-first-false-requires
-first-false-requires c κs = let s = start c in (ready-form (S s) (admitted (told c)), form c)
+first-false-requires c κs =
+    let s = start c in
+    let well = ready-form (S s) (admitted (told c)) in
+    (well, form c, counted-clauses (S s .store) well (c .before .before .totals-of .ensures))
 
 returns-3 : tie.Need-returns-3
 returns-3 c =

@@ -27,7 +27,8 @@ use Rattle.symmetry.specs.Sets.{within, sameSet}
 use Rattle.symmetry.specs.Judged.{hasOpposites, judged}
 use Rattle.symmetry.specs.Symmetry.{imageOf, clauseImage, hasImage, missingFrom}
 use Rattle.offering.specs.Offering.{ifRoom, ifSymmetry, ifMoving, offeredBy}
-use Rattle.lexleader.specs.Rows.{pairsFrom, pairsOf}
+use Rattle.cycles.specs.Cycles.{sentTo, turns, metFrom, cycleOf, isLargest, oddly, turnsOdd, leftOut}
+use Rattle.lexleader.specs.Rows.{pairsBut, pairsOf}
 use Rattle.lexleader.specs.Made.{firstSix, laterClauses, pairClauses, rowClauses, rowsClauses, made, auxiliaries, allAuxiliaries, madeVariables}
 use Rattle.lexleader.specs.Store.{madeOf, variablesOf}
 use Rattle.calls.specs.Calls.{Accepted, accepted, TakenBack, takenBack, openStore, offerSays, offerStore, withdrawSays, withdrawStore}
@@ -48,12 +49,12 @@ contradictory =
     ∷ 49 ∷ 32 ∷ 50 ∷ 32 ∷ 48 ∷ 10
     ∷ 50 ∷ 32 ∷ 51 ∷ 32 ∷ 48 ∷ 10 ∷ [])
 
--- `1 2 3`/`2 3 1`, which has the auxiliaries 4 and 5 where it is the first row, and `1 3`/`3 1`, which then has 4
+-- `1 2 3`/`2 3 1`, whose x are 1 and 2 and which has the auxiliary 4 where it is the first row, and `1 2 3`/`3 1 2`, which then has 4
 abbrev turning : Call
 turning = offer (49 ∷ 32 ∷ 50 ∷ 32 ∷ 51 ∷ []) (50 ∷ 32 ∷ 51 ∷ 32 ∷ 49 ∷ [])
 
-abbrev exchange : Call
-exchange = offer (49 ∷ 32 ∷ 51 ∷ []) (51 ∷ 32 ∷ 49 ∷ [])
+abbrev back : Call
+back = offer (49 ∷ 32 ∷ 50 ∷ 32 ∷ 51 ∷ []) (51 ∷ 32 ∷ 49 ∷ 32 ∷ 50 ∷ [])
 
 -- what a case comes to: what an offer or a withdrawal says, the rows held with the images lent and N, or the made formula
 data Case : Type 0 where
@@ -76,9 +77,9 @@ valued values = offering (offerSays opened (49 ∷ 32 ∷ 51 ∷ []) values)
 abbrev idle : Keyed
 idle = withKeys (withRow (opened .store) (identity 3)) (opened .keys)
 
--- With no row a withdrawal is 30. The turning row is held, and N is 5; taken back, its entries stay and N is 3; a second withdrawal is refused and changes
--- nothing. The exchange, offered then, has the auxiliary 4 of the row taken back: its clauses are the table's first six, for 4 and the pairs 1, 3 and 3, 1.
--- Over `1 -1 2` the same exchange is accepted, which sends that clause to none of the formula's and was refused for it before CR 7; the exchange of 1 and 2 is refused at
+-- With no row a withdrawal is 30. The turning row is held, and N is 4; taken back, its entries stay and N is 3; a second withdrawal is refused and changes
+-- nothing. The row that turns back, offered then, has the auxiliary 4 of the row taken back: its clauses are the table's first six, for 4 and the pairs 1, 3 and 2, 1.
+-- Over `1 -1 2` the exchange of 1 and 3 is accepted, which sends that clause to none of the formula's and was refused for it before CR 7; the exchange of 1 and 2 is refused at
 -- clause 3 of all three, as the image of `2 3` is missing; and all three are in the made formula.
 -- `1 3`/`1 3` moves nothing and is 31; `1 3`/`1 1` is 10 before it, `1 3`/`1 -3` moves 3 and is 11, `1 3`/`3 1` has no value that equals its name. A lent row that moves nothing is held and
 -- adds nothing, neither a variable nor a clause, and can be taken back.
@@ -88,8 +89,8 @@ computed :
     ∷ saying (after opened (turning ∷ []))
     ∷ held (after opened (turning ∷ withdraw ∷ []))
     ∷ saying (after opened (turning ∷ withdraw ∷ []))
-    ∷ held (after opened (turning ∷ withdraw ∷ withdraw ∷ exchange ∷ []))
-    ∷ making (madeOf (after opened (turning ∷ withdraw ∷ withdraw ∷ exchange ∷ []) .store))
+    ∷ held (after opened (turning ∷ withdraw ∷ withdraw ∷ back ∷ []))
+    ∷ making (madeOf (after opened (turning ∷ withdraw ∷ withdraw ∷ back ∷ []) .store))
     ∷ offering (offerSays contradictory (49 ∷ 32 ∷ 51 ∷ []) (51 ∷ 32 ∷ 49 ∷ []))
     ∷ offering (offerSays contradictory (49 ∷ 32 ∷ 50 ∷ []) (50 ∷ 32 ∷ 49 ∷ []))
     ∷ making (madeOf (contradictory .store))
@@ -102,12 +103,12 @@ computed :
     ∷ saying idle
     ∷ []
     ≡ withdrawing (refused 30 0)
-    ∷ holding ((4 ∷ 6 ∷ 2 ∷ []) ∷ []) (4 ∷ 6 ∷ 2 ∷ 0 ∷ []) 5
+    ∷ holding ((4 ∷ 6 ∷ 2 ∷ []) ∷ []) (4 ∷ 6 ∷ 2 ∷ 0 ∷ []) 4
     ∷ withdrawing (done takenBack)
     ∷ holding [] (4 ∷ 6 ∷ 2 ∷ 0 ∷ []) 3
     ∷ withdrawing (refused 30 0)
-    ∷ holding ((6 ∷ 4 ∷ 2 ∷ []) ∷ []) (6 ∷ 4 ∷ 2 ∷ 0 ∷ []) 4
-    ∷ making ((2 ∷ 4 ∷ 6 ∷ []) ∷ firstSix 4 (record { x = 2; y = 6 }) (record { x = 6; y = 2 }))
+    ∷ holding ((6 ∷ 2 ∷ 4 ∷ []) ∷ []) (6 ∷ 2 ∷ 4 ∷ 0 ∷ []) 4
+    ∷ making ((2 ∷ 4 ∷ 6 ∷ []) ∷ firstSix 4 (record { x = 2; y = 6 }) (record { x = 4; y = 2 }))
     ∷ offering (done accepted)
     ∷ offering (refused 11 3)
     ∷ making ((2 ∷ 3 ∷ 4 ∷ []) ∷ (2 ∷ 4 ∷ []) ∷ (4 ∷ 6 ∷ []) ∷ [])
@@ -123,6 +124,6 @@ unfolding
     openStore offerSays offerStore withdrawSays withdrawStore after anyOf allOf distinct table isBlank run wordsFrom linesFrom isDigit decimalFrom digitsOf sizeOf numeralOf
     isLiteral codeIn rising literalCount rowsOf cut plainOf heldRows isName isRow demands isFormed different total keyBy numbers rightKeys wellFormed standingOf afterComments wordsIn sameBytes fourWords sizesOf problemIn
     problemOf scanFrom literalsIn endsFrom clausesFrom bodyOf formulaOf openedBy notNumber badNameAfter badName badValueAfter namesOn valuesOn statedBy imageAmong rowStated within sameSet
-    imageOf clauseImage hasOpposites judged hasImage missingFrom ifRoom ifSymmetry ifMoving staysFrom offeredBy pairsFrom pairsOf laterClauses pairClauses rowClauses rowsClauses made auxiliaries allAuxiliaries
+    imageOf clauseImage hasOpposites judged hasImage missingFrom ifRoom ifSymmetry ifMoving staysFrom offeredBy pairsBut pairsOf leftOut isLargest turnsOdd cycleOf metFrom sentTo turns oddly laterClauses pairClauses rowClauses rowsClauses made auxiliaries allAuxiliaries
     madeVariables madeOf variablesOf
 computed = refl

@@ -20,3 +20,4 @@ pub mod Keys
 pub mod Signs
 pub mod AlwaysTrue
 pub mod NoIdleLines
+pub mod ShorterClauses

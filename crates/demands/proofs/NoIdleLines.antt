@@ -15,7 +15,7 @@ use Rattle.offering.specs.Offering.{rowFor}
 use Rattle.offering.proofs.OfferLaws.{not-moving}
 use Rattle.lexleader.specs.Rows.{pairsOf}
 use Rattle.lexleader.specs.Made.{pairClauses, rowClauses, auxiliaries, rowsClauses, allAuxiliaries, made, madeVariables}
-use Rattle.lexleader.proofs.Walk.{stays-none}
+use Rattle.lexleader.proofs.Remaining.{stays-none}
 use Rattle.calls.specs.Calls.{offerSays}
 use Rattle.calls.proofs.CallLaws.{full as is-full}
 use Rattle.demands.specs.Demand2.{States}
@@ -52,8 +52,7 @@ module _ (s : Keyed) (names values : List ℕ) where
 -- ---- among the rows
 
 no-pairs : (n : ℕ) → pairsOf (identity n) ≡ []
-unfolding pairsOf
-no-pairs n = stays-none 1 (identity n) (moves-nothing-iff n (identity n) (identity-length n) .1 refl)
+no-pairs n = stays-none (identity n) (moves-nothing-iff n (identity n) (identity-length n) .1 refl)
 
 module _ (n : ℕ) (after : List (List ℕ)) where
   no-clauses : (e : ℕ) (before : List (List ℕ)) → rowsClauses e (before ++ (identity n ∷ after)) ≡ rowsClauses e (before ++ after)

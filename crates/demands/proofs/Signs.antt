@@ -15,8 +15,10 @@ use Rattle.store.specs.Stores.{isRow}
 use Rattle.store.proofs.Formed.{row-of, is-row}
 use Rattle.symmetry.specs.Symmetry.{imageOf}
 use Rattle.symmetry.proofs.ImageLaws.{turned}
+use Rattle.cycles.specs.Cycles.{leftOut}
+use Rattle.cycles.proofs.Largest.{turned-in}
 use Rattle.lexleader.specs.Models.{literalValue}
-use Rattle.lexleader.specs.Rows.{Pair, moved, pairsFrom, pairsOf}
+use Rattle.lexleader.specs.Rows.{Pair, moved, pairsBut, pairsOf}
 use Rattle.lexleader.specs.Made.{pairClauses, rowClauses, auxiliaries}
 use Rattle.lexleader.proofs.StoreBounds.{variables-sum, clauses-sum}
 use Rattle.demands.specs.Signs.{imageAt, sizeAt, turnsAt, SignedRow, TurnsSigns}
@@ -76,20 +78,20 @@ module _ (row : List ℕ) (a : List Bool) (i : ℕ) (low : 1 ≤ i) (high : i �
       let half : variableOf (2 * j + 1) ≡ j = omega arith in
       moved-at ∙ rw (e, eq-eqb ((2 * j + 1) % 2) 1 (omega arith), half)
 
--- a variable that is not its own image is one of the pairs, with its image
-moved-pair : (k : ℕ) (row : List ℕ) (i : ℕ) → i < length row → (getD row i 0 ≡ 2 * (k + i) → ⊥) → List·Memᴰ (record { x = 2 * (k + i); y = getD row i 0 }) (pairsFrom k row)
-unfolding pairsFrom
-moved-pair k [] i h e = absurd (omega arith)
-moved-pair k (y ∷ row) zero h e =
+-- a variable that is not left out is one of the pairs, with its image
+pair-in : (out : ℕ → Bool) (k : ℕ) (row : List ℕ) (i : ℕ) → i < length row → out (k + i) ≡ false → List·Memᴰ (record { x = 2 * (k + i); y = getD row i 0 }) (pairsBut out k row)
+unfolding pairsBut
+pair-in out k [] i h e = absurd (omega arith)
+pair-in out k (y ∷ row) zero h e =
     let here : k + 0 ≡ k = omega arith in
-    rw (here, ne-eqb y (2 * k) (λ q. e (q ∙ ap (λ (j : ℕ). 2 * j) (sym here)))) (List·Memᴰ·head refl)
-moved-pair k (y ∷ row) (suc i) h e =
+    let stays : out k ≡ false = rw here at e in
+    rw (here, stays) (List·Memᴰ·head refl)
+pair-in out k (y ∷ row) (suc i) h e =
     let next : k + suc i ≡ k + 1 + i = omega arith in
-    let rest = moved-pair (k + 1) row i (omega arith) (λ q. e (q ∙ ap (λ (j : ℕ). 2 * j) (sym next))) in
-    by (eqb y (2 * k)) (rw next rest)
+    by (out k) (rw next (pair-in out (k + 1) row i (omega arith) (rw next at e)))
   where
-    by : (b : Bool) → List·Memᴰ (record { x = 2 * (k + suc i); y = getD row i 0 }) (pairsFrom (k + 1) row)
-        → List·Memᴰ (record { x = 2 * (k + suc i); y = getD row i 0 }) (cond b (pairsFrom (k + 1) row) (record { x = 2 * k; y = y } ∷ pairsFrom (k + 1) row))
+    by : (b : Bool) → List·Memᴰ (record { x = 2 * (k + suc i); y = getD row i 0 }) (pairsBut out (k + 1) row)
+        → List·Memᴰ (record { x = 2 * (k + suc i); y = getD row i 0 }) (cond b (pairsBut out (k + 1) row) (record { x = 2 * k; y = y } ∷ pairsBut out (k + 1) row))
     by true m = m
     by false m = List·Memᴰ·tail m
 
@@ -97,7 +99,7 @@ own-negation : (row : List ℕ) (i : ℕ) → 1 ≤ i → i ≤ length row → i
 unfolding pairsOf
 own-negation row i low high e =
     let here : 1 + (i - 1) ≡ i = omega arith in
-    rw (here, e) at (moved-pair 1 row (i - 1) (omega arith) (λ q. omega (arith, e, q)))
+    rw (here, e) at (pair-in (leftOut row) 1 row (i - 1) (omega arith) (rw here (turned-in row i e)))
 
 single-clause : (e : ℕ) (row : List ℕ) (q : Pair) → pairsOf row ≡ q ∷ [] → (rowClauses e row ≡ (oppositeOf (q .x) ∷ q .y ∷ []) ∷ []) × (auxiliaries row ≡ 0)
 unfolding rowClauses pairClauses auxiliaries

@@ -1,4 +1,4 @@
--- Document 01's starred cases ("Tried on both edges"), the figures as document 02's CR 4 has them: one table, by computation on what the calls say and leave.
+-- Document 01's starred cases ("Tried on both edges"), the figures as document 02's CR 4 has them and filling in as CR 9 has it: one table, by computation on what the calls say and leave.
 -- Assumes nothing.
 use mathlib.Core.Path.{_≡_, refl}
 use mathlib.Core.List.{List, [], _∷_}
@@ -31,9 +31,10 @@ use Rattle.symmetry.specs.Sets.{within, sameSet}
 use Rattle.symmetry.specs.Judged.{hasOpposites, judged}
 use Rattle.symmetry.specs.Symmetry.{imageOf, clauseImage, hasImage, missingFrom}
 use Rattle.offering.specs.Offering.{ifRoom, ifSymmetry, ifMoving, offeredBy}
+use Rattle.cycles.specs.Cycles.{sentTo, turns, metFrom, cycleOf, isLargest, oddly, turnsOdd, leftOut}
 use Rattle.lexleader.specs.Models.{literalValue}
-use Rattle.lexleader.specs.Rows.{moved, lowers, pairsFrom, pairsOf}
-use Rattle.lexleader.specs.Made.{auxiliaries, allAuxiliaries, madeVariables, agrees, settingsAfter, rowSettings, settings, filledIn}
+use Rattle.lexleader.specs.Rows.{moved, lowers, pairsBut, pairsOf}
+use Rattle.lexleader.specs.Made.{auxiliaries, allAuxiliaries, madeVariables, settingsAfter, rowSettings, settings, filledIn}
 use Rattle.lexleader.specs.Descent.{stepBy, descendFrom}
 use Rattle.lexleader.specs.Store.{variablesOf}
 use Rattle.filling.specs.Written.{filledWords}
@@ -72,7 +73,7 @@ abbrev filling : Keyed → ℕ → Case
 filling s a = filled (fillSays s (a ∷ []) 1) (fillLeaves s (a ∷ []) (0 ∷ []))
 
 -- The values of three variables stand in the highest bits of a word: 110 is 6 · 2 ^ 61. In the order of the paper: the listing's offers; with its row 110 settles at
--- 011 with one move, is spent at once with limit 0, where 011 settles; 101 fills in as 1011, 011 as 0110; with the row `2 3 1`, 100 settles at 001 and 010
+-- 011 with one move, is spent at once with limit 0, where 011 settles; 101 and 011 fill in as themselves, one x being left of its row; with the row `2 3 1`, 100 settles at 001 and 010
 -- unmoved; the figures, CR 4's exact halves last.
 starred :
     offered (offerSays listing (49 ∷ 32 ∷ 51 ∷ []) (51 ∷ 32 ∷ 49 ∷ []))
@@ -102,8 +103,8 @@ starred :
     ∷ came (done (settledAfter 1)) (3 * 2 ^ 61 ∷ [])
     ∷ came (done (spentAfter 0)) (6 * 2 ^ 61 ∷ [])
     ∷ came (done (settledAfter 0)) (3 * 2 ^ 61 ∷ [])
-    ∷ filled (done 1) (11 * 2 ^ 60 ∷ [])
-    ∷ filled (done 1) (6 * 2 ^ 60 ∷ [])
+    ∷ filled (done 1) (5 * 2 ^ 61 ∷ [])
+    ∷ filled (done 1) (3 * 2 ^ 61 ∷ [])
     ∷ came (done (settledAfter 1)) (1 * 2 ^ 61 ∷ [])
     ∷ came (done (settledAfter 0)) (2 * 2 ^ 61 ∷ [])
     ∷ figured (done 8947)
@@ -116,6 +117,6 @@ unfolding
     rowsOf cut plainOf isName isRow demands isFormed different total keyBy numbers rightKeys wellFormed standingOf afterComments wordsIn sameBytes fourWords sizesOf problemIn problemOf scanFrom literalsIn endsFrom clausesFrom bodyOf formulaOf openedBy notNumber
     badNameAfter badName badValueAfter namesOn valuesOn statedBy imageAmong rowStated within sameSet imageOf clauseImage hasOpposites judged hasImage missingFrom ifRoom ifSymmetry ifMoving staysFrom offeredBy
     efficiencySays hasEfficiency efficiencyOf nearestOf descendSays descendLeaves descended descendFrom stepBy lowers moved less literalValue heldRows bitsOf wordsOf binary
-    wordCount bitAt bitIn spareBits isAssignment fillSays fillLeaves filledWords variablesOf madeVariables allAuxiliaries auxiliaries pairsOf pairsFrom filledIn settings
-    rowSettings settingsAfter agrees
+    wordCount bitAt bitIn spareBits isAssignment fillSays fillLeaves filledWords variablesOf madeVariables allAuxiliaries auxiliaries pairsOf pairsBut leftOut isLargest turnsOdd cycleOf metFrom sentTo turns oddly filledIn settings
+    rowSettings settingsAfter
 starred = refl

@@ -9,3 +9,4 @@ pub mod Keys
 pub mod Signs
 pub mod AlwaysTrue
 pub mod NoIdleLines
+pub mod ShorterClauses

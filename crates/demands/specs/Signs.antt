@@ -42,7 +42,7 @@ pub record TurnsSigns : Type 0 where
   -- "and A moved takes the negated value"
   pub plain : (row : List ℕ) (a : List Bool) (i j : ℕ) → 1 ≤ i → i ≤ length row → imageAt row i ≡ 2 * j → valueOf (moved row a) i ≡ valueOf a j
   pub negated : (row : List ℕ) (a : List Bool) (i j : ℕ) → 1 ≤ i → i ≤ length row → imageAt row i ≡ 2 * j + 1 → valueOf (moved row a) i ≡ not (valueOf a j)
-  -- "a variable sent to its own negation counts as moved"
+  -- "a variable sent to its own negation counts as moved", and is one of the row's x: alone in its cycle, it turns the sign once
   pub own : (row : List ℕ) (i : ℕ) → 1 ≤ i → i ≤ length row → imageAt row i ≡ 2 * i + 1 → List·Memᴰ (record { x = 2 * i; y = 2 * i + 1 }) (pairsOf row)
   -- "A row with k = 1 adds the single clause -x1 y1 and no auxiliary"
   pub single : (e : ℕ) (row : List ℕ) (q : Pair) → pairsOf row ≡ q ∷ [] → (rowClauses e row ≡ (oppositeOf (q .x) ∷ q .y ∷ []) ∷ []) × (auxiliaries row ≡ 0)

@@ -1,6 +1,6 @@
 -- Document 02, CR 9, sentence by sentence: "Shorter clauses for each cycle". `shorter-clauses` (proofs/ShorterClauses.antt) says that it holds. What is left out is `leftOut` (cycles,
 -- specs/Cycles.antt), "the rest", with their images, is `pairsOf` (lexleader, specs/Rows.antt): N, M, the clauses, the text, filling in and checking are said by it alone, and so are
--- `Demand3` and, "by the table and by CR 6's rule for k = 1", `TurnsSigns`. The listing's example is computed (Starred.antt; session, Examples.antt). Assumes nothing.
+-- `Demand3` and, "by the table and by CR 6's rule for k = 1", `TurnsSigns`. The listing's example is computed (lexleader, proofs/Examples.antt; proofs/Starred.antt). Assumes nothing.
 use mathlib.Core.Path.{_≡_}
 use mathlib.Core.Bool.{Bool, true}
 use mathlib.Core.List.{List, []}

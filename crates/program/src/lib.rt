@@ -107,9 +107,12 @@ fn header(counts: Record, literals: &[u16], ends: &[u16], images: &[u16], out: &
 {
     let total = lexleader::counting::totals_of(counts, images);
     let bytes = render::put_header(out, 0, total.variables as u64, total.clauses as u64);
+    let mut marks = [false; Record::MAX_VARIABLES];
+    let n = counts.variables;
+    let first = cursor::start(counts, images, &mut marks[..n]);
     Printed {
         bytes: bytes,
-        stage: Stage::Clauses(cursor::start(counts, images)),
+        stage: Stage::Clauses(first),
     }
 }
 

@@ -46,6 +46,7 @@ static struct world {
 static uint8_t text[1 << 18], names[1 << 12], values[OFFERS][1 << 12]; /* a line of values for each offer; most jobs make one */
 static size_t text_len, names_len, values_len[OFFERS];
 static uint64_t step, last; /* of the clauses written: from one to the next, and the last */
+static uint64_t auxiliaries; /* of the full rows, as said where they are made */
 
 #define SLICE(array) array, sizeof(array) / sizeof *(array)
 #define STORE w.n, w.m, w.rows, 1, SLICE(w.literals), SLICE(w.ends), SLICE(w.keys), SLICE(w.images)
@@ -78,6 +79,8 @@ static void start_up(const calls *c)
 
 static void withdraw(const calls *c) { say_stored(c->withdraw(STORE)); }
 
+static void header(const calls *c) { say_answer(c->header(STORE, SLICE(w.out))); }
+
 /* One line behind the other. */
 static void write(const calls *c)
 {
@@ -92,7 +95,7 @@ static void write(const calls *c)
 
 static void clause(const calls *c) { say_answer(c->clause(STORE, last, SLICE(w.out))); }
 static void fill_in(const calls *c) { say_answer(c->fill_in(STORE, w.a, (w.n + 63) / 64, SLICE(w.b))); }
-static void check(const calls *c) { say_answer(c->check(STORE, w.b, (w.n + w.rows * (w.n - 1) + 63) / 64)); }
+static void check(const calls *c) { say_answer(c->check(STORE, w.b, (w.n + auxiliaries + 63) / 64)); }
 
 static void descend_by(__typeof__(symbreak_descend) *call)
 {
@@ -182,20 +185,30 @@ static void closed_formula(unsigned n, unsigned m)
     write_keys();
 }
 
-/* Rows that move all variables and leave the assignment 00110011.. as it is: shifts by 4, 8, .. */
+static unsigned common_divisor(unsigned a, unsigned b) { return b ? common_divisor(b, a % b) : a; }
+
+/* Rows that move all variables and leave the assignment 00110011.. as it is: shifts by 4, 8, .. The cycles of a shift are as many as the greatest common divisor
+   with n, and each leaves one variable out. */
 static void full_rows(unsigned rows)
 {
     w.rows = rows;
-    for (unsigned r = 0; r < rows; r++)
+    auxiliaries = 0;
+    for (unsigned r = 0; r < rows; r++) {
         for (unsigned i = 0; i < w.n; i++) w.images[r * w.n + i] = (uint16_t)shifted(2 * (i + 1), 4 * (r + 1));
+        auxiliaries += w.n - common_divisor((unsigned)w.n, 4 * (r + 1)) - 1;
+    }
 }
 
-/* The same, but that every other variable is shifted two less, to a negation. */
+/* The same, but that every other variable is shifted two less, to a negation: these are one cycle, which turns the sign n / 2 times and leaves one out, and the
+   others half as many cycles as before. */
 static void full_turning_rows(unsigned rows)
 {
     w.rows = rows;
-    for (unsigned r = 0; r < rows; r++)
+    auxiliaries = 0;
+    for (unsigned r = 0; r < rows; r++) {
         for (unsigned i = 0; i < w.n; i++) w.images[r * w.n + i] = (uint16_t)shifted(2 * (i + 1) + i % 2, 4 * (r + 1) - 2 * (i % 2));
+        auxiliaries += w.n - common_divisor((unsigned)w.n, 4 * (r + 1)) / 2 - 2;
+    }
 }
 
 /* Offers of the shifts by one, by two and so on. */
@@ -273,7 +286,7 @@ static void to_write(unsigned n, unsigned m, unsigned rows)
     closed_formula(n, m);
     full_rows(rows);
     step = rows > 1 ? 500 : 1;
-    last = m + 6 * rows * (n - 1);
+    last = m + 6 * auxiliaries;
 }
 
 /* One clause of as many literals as there can be, and nothing else. */
@@ -338,7 +351,7 @@ static void to_write_turning(unsigned n, unsigned m, unsigned rows)
 {
     to_turn(n, m, rows);
     step = 30;
-    last = 1 + 6 * (rows * (rows - 1) / 2); /* the first row moves one variable and has one clause */
+    last = 1 + 6 * (rows * (rows - 1) / 2); /* each variable turned is a cycle of its own, and none is left out; the first row has one and so one clause */
 }
 
 /* One true variable, number `rows`. Row r shifts all to the left by r + 1, which is no smaller, but the last row to the right by one: n - rows moves, at each of
@@ -398,11 +411,12 @@ static const job jobs[] = {
     {"offer accepted, one such clause of 12,288 literals, row 64", to_offer_long_pair, offer, 512, 1, 64, 0, 64},
     {"start-up: forty offers accepted, the same formula, rows 1 to 40", to_start_up, start_up, 512, 4096, OFFERS, 0, OFFERS},
     {"withdraw, the same formula, 64 full rows", to_write, withdraw, 512, 4096, 64, 0, 63},
-    {"header and every 500th clause of 200,320, 64 full rows", to_write, write, 512, 4096, 64, 0, 25},
-    {"header and 3,066 clauses, 1 full row, no plain clauses", to_write, write, 512, 0, 1, 0, 15},
+    {"header, the same formula, 64 full rows", to_write, header, 512, 4096, 64, 0, 19},
+    {"header and every 500th clause of 194,176, 64 full rows", to_write, write, 512, 4096, 64, 0, 25},
+    {"header and 3,042 clauses, 1 full row, no plain clauses", to_write, write, 512, 0, 1, 0, 17},
     {"header and every 30th clause of 12,097, 64 rows that turn 1 to 64 signs", to_write_turning, write, 512, 0, 64, 0, 18},
     {"one clause of 12,288 literals, no rows", to_write_long, clause, 512, 1, 0, 0, 52701},
-    {"fill in, 64 full rows", to_write, fill_in, 512, 4096, 64, 0, 519},
+    {"fill in, 64 full rows", to_write, fill_in, 512, 4096, 64, 0, 503},
     {"check, 64 full rows, all clauses true", to_check, check, 512, 4096, 64, 0, 0},
     {"check, 64 full rows that turn every other sign, all clauses true", to_check_turning, check, 512, 4096, 64, 0, 0},
     {"descend, 1,056 moves, 64 exchanges of neighbours", to_exchange, descend, 512, 0, 64, 0, 1056},

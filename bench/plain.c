@@ -13,7 +13,8 @@ enum { CODES = 2 * MAX_N + 2 }; /* codes are below this */
 #define RECORD uint64_t n, uint64_t m, uint64_t rows, uint64_t is_open
 #define FORMULA const uint16_t *literals, size_t literals_len, const uint16_t *ends, size_t ends_len, const uint64_t *keys, size_t keys_len
 #define IMAGES const uint16_t *images, size_t images_len
-#define LENT n, m, rows, is_open, literals, literals_len, ends, ends_len, keys, keys_len, images, images_len
+#define LENT_FORMULA n, m, rows, is_open, literals, literals_len, ends, ends_len, keys, keys_len
+#define LENT LENT_FORMULA, images, images_len
 
 /* From a call that may change the store: with the record as it was lent. */
 #define REFUSE(number, where) return (symbreak_stored){number, where, n, m, rows, is_open != 0}
@@ -21,13 +22,11 @@ enum { CODES = 2 * MAX_N + 2 }; /* codes are below this */
 static symbreak_answer answer(uint64_t value) { return (symbreak_answer){0, 0, value}; }
 static symbreak_answer refused(uint32_t refusal, uint64_t place) { return (symbreak_answer){refusal, place, 0}; }
 
-/* Refusal 20 or 21, or 0; then moved[r] is the count of variables that row r moves, and an index that is lent is made. A clause's literals are marked with its
-   number, so that one that comes twice counts once and marks need not be cleared between clauses. A row is well formed if no variable comes twice, of either
-   sign: seen has, for each variable, how many rows had it, so that it need not be cleared either; 0 and those over n have a count that no row has. */
-static inline __attribute__((always_inline)) uint32_t tested(RECORD, FORMULA, IMAGES, uint16_t moved[MAX_ROWS], plain_index *index)
+/* Refusal 20, or 21 for all but the rows, or 0; an index that is lent is made. A clause's literals are marked with its number, so that one that comes twice counts
+   once and marks need not be cleared between clauses. */
+static inline __attribute__((always_inline)) uint32_t tested(RECORD, FORMULA, size_t images_len, plain_index *index)
 {
     uint16_t marks[CODES] = {0};
-    uint8_t seen[MAX_N + 1];
     size_t i = 0;
     if (!is_open) return SYMBREAK_NOT_OPEN;
     if (n > MAX_N || m > MAX_M || rows > MAX_ROWS || ends_len < m || keys_len < m || images_len < rows * n) return SYMBREAK_BADLY_FORMED;
@@ -52,50 +51,80 @@ static inline __attribute__((always_inline)) uint32_t tested(RECORD, FORMULA, IM
             *head = number;
         }
     }
-    memset(seen, 255, sizeof seen);
-    memset(seen + 1, 0, n);
-    for (size_t r = 0; r < rows; r++, images += n) {
-        const uint16_t *image = images;
-        uint8_t before = (uint8_t)r;
-        size_t k = 0;
-        for (size_t own = 2; own <= 2 * n; own += 2) {
-            size_t code = *image++, v = code / 2;
-            if (v > MAX_N || seen[v] != before) return SYMBREAK_BADLY_FORMED;
-            seen[v] = (uint8_t)(before + 1);
-            k += code != own;
-        }
-        moved[r] = (uint16_t)k;
-    }
     return 0;
 }
 
 /* It is compiled twice: for calls that need no index, and for those that do. */
-static uint32_t fault(RECORD, FORMULA, IMAGES, uint16_t moved[MAX_ROWS]) { return tested(LENT, moved, 0); }
+static uint32_t formula_fault(RECORD, FORMULA, size_t images_len) { return tested(LENT_FORMULA, images_len, 0); }
+
+/* Refusal 21 for the rows, or 0. A row is well formed if no variable comes twice, of either sign: seen has, for each variable, how many rows had it, so that it
+   need not be cleared between rows; 0 and those over n have a count that no row has. */
+static uint32_t rows_fault(const uint16_t *images, uint64_t n, uint64_t rows)
+{
+    uint8_t seen[MAX_N + 1];
+    memset(seen, 255, sizeof seen);
+    memset(seen + 1, 0, n);
+    for (size_t r = 0; r < rows; r++) {
+        for (size_t i = 0; i < n; i++) {
+            size_t v = *images++ / 2;
+            if (v > MAX_N || seen[v] != r) return SYMBREAK_BADLY_FORMED;
+            seen[v] = (uint8_t)(r + 1);
+        }
+    }
+    return 0;
+}
+
+/* Refusal 20 or 21, or 0. */
+static uint32_t fault(RECORD, FORMULA, IMAGES)
+{
+    uint32_t refusal = formula_fault(LENT_FORMULA, images_len);
+    return refusal ? refusal : rows_fault(images, n, rows);
+}
 
 uint32_t plain_make_index(RECORD, FORMULA, IMAGES, plain_index *index)
 {
-    uint16_t moved[MAX_ROWS];
-    return tested(LENT, moved, index);
+    uint32_t refusal = tested(LENT_FORMULA, images_len, index);
+    return refusal ? refusal : rows_fault(images, n, rows);
 }
 
-unsigned plain_moved(const uint16_t *row, uint64_t n)
+/* All are left out at first, and variables are visited from the largest down. One that is still left out is the largest of its cycle, as going round from a larger
+   one would have met it; going round from it meets the others. Where a row is badly formed that comes to 0, to one over n or to one met before. */
+int plain_cycles(const uint16_t *row, uint64_t n, uint8_t is_x[MAX_N + 1])
 {
-    unsigned k = 0;
-    for (size_t i = 0; i < n; i++) k += row[i] != 2 * (i + 1);
+    int k = (int)n;
+    is_x[0] = 1;
+    memset(is_x + 1, 0, n);
+    for (size_t v = n; v; v--) {
+        if (is_x[v]) continue;
+        unsigned code = row[v - 1], turns = code;
+        if (code == 2 * v) {
+            k--;
+            continue;
+        }
+        for (size_t u; (u = code / 2) != v; turns ^= code) {
+            if (u > n || is_x[u]) return -1;
+            is_x[u] = 1;
+            code = row[u - 1];
+        }
+        is_x[v] = turns % 2;
+        k -= !is_x[v];
+    }
     return k;
 }
 
-static unsigned all_auxiliaries(const uint16_t *moved, uint64_t rows)
+/* The same with the cycles of each row: is_x[r] and k[r] are those of row r. */
+static uint32_t fault_noting(RECORD, FORMULA, IMAGES, uint8_t is_x[MAX_ROWS][MAX_N + 1], int k[MAX_ROWS])
 {
-    unsigned sum = 0;
-    for (size_t r = 0; r < rows; r++) sum += plain_auxiliaries(moved[r]);
-    return sum;
+    uint32_t refusal = formula_fault(LENT_FORMULA, images_len);
+    for (size_t r = 0; r < rows && !refusal; r++, images += n)
+        if ((k[r] = plain_cycles(images, n, is_x[r])) < 0) refusal = SYMBREAK_BADLY_FORMED;
+    return refusal;
 }
 
-static unsigned all_clauses(const uint16_t *moved, uint64_t rows)
+static unsigned all_auxiliaries(const int *k, uint64_t rows)
 {
     unsigned sum = 0;
-    for (size_t r = 0; r < rows; r++) sum += plain_clauses(moved[r]);
+    for (size_t r = 0; r < rows; r++) sum += plain_auxiliaries(k[r]);
     return sum;
 }
 
@@ -295,8 +324,7 @@ symbreak_stored plain_offer(RECORD, FORMULA, uint16_t *images, size_t images_len
 
 symbreak_stored plain_withdraw(RECORD, FORMULA, IMAGES)
 {
-    uint16_t moved[MAX_ROWS];
-    uint32_t refusal = fault(LENT, moved);
+    uint32_t refusal = fault(LENT);
     if (refusal) REFUSE(refusal, 0);
     if (rows == 0) REFUSE(SYMBREAK_NO_ROW, 0);
     return (symbreak_stored){0, 0, n, m, rows - 1, 1};
@@ -314,45 +342,60 @@ static symbreak_answer hand_over(const uint8_t *line, const uint8_t *end, uint8_
 
 symbreak_answer plain_header(RECORD, FORMULA, IMAGES, uint8_t *out, size_t out_len)
 {
-    uint16_t moved[MAX_ROWS];
-    uint8_t line[32] = "p cnf ", *end = line + 6;
-    uint32_t refusal = fault(LENT, moved);
+    uint8_t is_x[MAX_N + 1], line[32] = "p cnf ", *end = line + 6;
+    unsigned variables = (unsigned)n, clauses = (unsigned)m;
+    uint32_t refusal = formula_fault(LENT_FORMULA, images_len);
     if (refusal) return refused(refusal, 0);
-    end = plain_put(end, (int)(n + all_auxiliaries(moved, rows)), ' ');
-    end = plain_put(end, (int)(m + all_clauses(moved, rows)), '\n');
+    for (size_t r = 0; r < rows; r++, images += n) {
+        int k = plain_cycles(images, n, is_x);
+        if (k < 0) return refused(SYMBREAK_BADLY_FORMED, 0);
+        variables += plain_auxiliaries(k);
+        clauses += plain_clauses(k);
+    }
+    end = plain_put(end, (int)variables, ' ');
+    end = plain_put(end, (int)clauses, '\n');
     return hand_over(line, end, out, out_len);
 }
 
-/* The moved variable of a row after x; the first one after 0. */
-static unsigned after(const uint16_t *row, unsigned x)
+/* The variable among x1 .. xk after x; the first one after 0. */
+static unsigned after(const uint8_t *is_x, unsigned x)
 {
-    while (row[x] == 2 * (x + 1)) x++;
-    return x + 1;
+    do x++;
+    while (!is_x[x]);
+    return x;
 }
 
+/* Rows are passed by what they add, up to the one that has the clause; those after it are only tested. */
 symbreak_answer plain_clause(RECORD, FORMULA, IMAGES, uint64_t q, uint8_t *out, size_t out_len)
 {
-    uint16_t moved[MAX_ROWS];
-    uint8_t line[5 * MAX_L + 2], *end = line; /* a plain literal has at most four bytes, an added one six */
-    uint32_t refusal = fault(LENT, moved);
+    uint8_t is_x[MAX_N + 1], line[5 * MAX_L + 2], *end = line; /* a plain literal has at most four bytes, an added one six */
+    const uint16_t *row = 0;
+    uint64_t left = q - m - 1; /* of the added clauses from row on, those before clause q */
+    unsigned last = (unsigned)n;
+    int k = 0;
+    uint32_t refusal = formula_fault(LENT_FORMULA, images_len);
     if (refusal) return refused(refusal, 0);
-    if (q == 0) return refused(SYMBREAK_NO_SUCH_CLAUSE, 0);
+    for (; q > m && !row && rows; images += n, rows--) {
+        k = plain_cycles(images, n, is_x);
+        if (k < 0) return refused(SYMBREAK_BADLY_FORMED, 0);
+        if (left < plain_clauses(k)) {
+            row = images;
+        } else {
+            left -= plain_clauses(k);
+            last += plain_auxiliaries(k);
+        }
+    }
+    refusal = rows_fault(images, n, rows);
+    if (refusal) return refused(refusal, 0);
+    if (q == 0 || (q > m && !row)) return refused(SYMBREAK_NO_SUCH_CLAUSE, 0);
     if (q <= m) {
         for (size_t i = q > 1 ? ends[q - 2] : 0; i < ends[q - 1]; i++) end = plain_put(end, plain_literal(literals[i]), ' ');
     } else {
-        uint64_t left = q - m - 1, r = 0;
-        unsigned last = (unsigned)n, x = 0, next, j;
+        unsigned j = (unsigned)(left / 6) + 1, x = 0, next;
         int literal[4], count;
-        for (; r < rows && left >= plain_clauses(moved[r]); r++) {
-            left -= plain_clauses(moved[r]);
-            last += plain_auxiliaries(moved[r]);
-        }
-        if (r == rows) return refused(SYMBREAK_NO_SUCH_CLAUSE, 0);
-        images += r * n;
-        for (j = 0; j <= left / 6; j++) x = after(images, x);
-        next = moved[r] > 1 ? after(images, x) : x;
-        count = plain_added((int)j, (int)(left % 6) + 1, (int)x, plain_literal(images[x - 1]), (int)next, plain_literal(images[next - 1]), (int)(last + j),
-                            literal);
+        for (unsigned passed = 0; passed < j; passed += is_x[x]) x++;
+        next = k > 1 ? after(is_x, x) : x;
+        count = plain_added((int)j, (int)(left % 6) + 1, (int)x, plain_literal(row[x - 1]), (int)next, plain_literal(row[next - 1]), (int)(last + j), literal);
         for (int i = 0; i < count; i++) end = plain_put(end, literal[i], ' ');
     }
     end = plain_put(end, 0, '\n');
@@ -386,22 +429,23 @@ static void set(uint64_t *a, size_t first, size_t count)
     }
 }
 
-/* A row's auxiliaries are true up to the first moved variable at which a and a moved differ, so each row is one run of ones. */
+/* A row's auxiliaries are true up to the first x at which a and a moved differ, so each row is one run of ones. Variables left out are looked at too: where all
+   before them agree, so do they. */
 symbreak_answer plain_fill_in(RECORD, FORMULA, IMAGES, const uint64_t *a, size_t a_len, uint64_t *out, size_t out_len)
 {
-    uint16_t moved[MAX_ROWS];
-    uint8_t value[CODES];
-    uint32_t refusal = fault(LENT, moved);
+    uint8_t value[CODES], is_x[MAX_ROWS][MAX_N + 1];
+    int k[MAX_ROWS];
+    uint32_t refusal = fault_noting(LENT, is_x, k);
     if (refusal) return refused(refusal, 0);
     if (!is_assignment(a, a_len, n)) return refused(SYMBREAK_BAD_ASSIGNMENT, 0);
-    size_t count = words(n + all_auxiliaries(moved, rows)), first = n;
+    size_t count = words(n + all_auxiliaries(k, rows)), first = n;
     if (out_len < count) return refused(SYMBREAK_TOO_SHORT, count);
     unpack(a, n, value);
     memset(out, 0, count * sizeof *out);
     if (n) memcpy(out, a, a_len * sizeof *a);
     for (size_t r = 0; r < rows; r++, images += n) {
-        unsigned agree = 0, most = plain_auxiliaries(moved[r]);
-        for (size_t i = 0; i < n && value[2 * (i + 1)] == value[images[i]]; i++) agree += images[i] != 2 * (i + 1);
+        unsigned agree = 0, most = plain_auxiliaries(k[r]);
+        for (size_t i = 0; i < n && value[2 * (i + 1)] == value[images[i]]; i++) agree += is_x[r][i + 1];
         set(out, first, agree < most ? agree : most);
         first += most;
     }
@@ -410,11 +454,11 @@ symbreak_answer plain_fill_in(RECORD, FORMULA, IMAGES, const uint64_t *a, size_t
 
 symbreak_answer plain_check(RECORD, FORMULA, IMAGES, const uint64_t *a, size_t a_len)
 {
-    uint16_t moved[MAX_ROWS];
-    uint8_t value[CODES];
-    uint32_t refusal = fault(LENT, moved);
+    uint8_t value[CODES], is_x[MAX_ROWS][MAX_N + 1];
+    int k[MAX_ROWS];
+    uint32_t refusal = fault_noting(LENT, is_x, k);
     if (refusal) return refused(refusal, 0);
-    if (!is_assignment(a, a_len, n + all_auxiliaries(moved, rows))) return refused(SYMBREAK_BAD_ASSIGNMENT, 0);
+    if (!is_assignment(a, a_len, n + all_auxiliaries(k, rows))) return refused(SYMBREAK_BAD_ASSIGNMENT, 0);
     unpack(a, n, value);
     for (size_t c = 0, i = 0; c < m; i = ends[c++]) {
         while (i < ends[c] && !value[literals[i]]) i++;
@@ -423,16 +467,17 @@ symbreak_answer plain_check(RECORD, FORMULA, IMAGES, const uint64_t *a, size_t a
     uint64_t clause = m; /* the number of the last clause looked at */
     size_t e_at = n;
     for (size_t r = 0; r < rows; r++, images += n) {
-        unsigned x = 0, most = plain_auxiliaries(moved[r]);
+        if (k[r] == 0) continue;
+        unsigned x = after(is_x[r], 0), most = plain_auxiliaries(k[r]);
         int before = 1; /* e(j-1); with 1 for it, the clauses of j = 1 read like the others, but for the first */
-        if (moved[r]) x = after(images, x);
-        if (moved[r] == 1) {
+        int u = value[2 * x], v = value[images[x - 1]];
+        if (k[r] == 1) {
             clause++;
-            if (value[2 * x] && !value[images[x - 1]]) return answer(clause);
+            if (u && !v) return answer(clause);
         }
         for (unsigned j = 1; j <= most; j++, clause += 6) {
-            unsigned next = after(images, x);
-            int e = bit(a, e_at++), u = value[2 * x], v = value[images[x - 1]], p = value[2 * next], q = value[images[next - 1]];
+            unsigned next = after(is_x[r], x);
+            int e = bit(a, e_at++), p = value[2 * next], q = value[images[next - 1]];
             if (j == 1 ? u && !v : e && !before) return answer(clause + 1);
             if (e && u && !v) return answer(clause + 2);
             if (e && !u && v) return answer(clause + 3);
@@ -440,7 +485,7 @@ symbreak_answer plain_check(RECORD, FORMULA, IMAGES, const uint64_t *a, size_t a
             if (!e && before && u && v) return answer(clause + 5);
             if (e && p && !q) return answer(clause + 6);
             before = e;
-            x = next;
+            x = next, u = p, v = q;
         }
     }
     return answer(0);
@@ -455,10 +500,9 @@ static void pack(const uint8_t *value, uint64_t n, uint64_t *a, size_t a_len)
 /* A row is walked from variable 1 to the first at which a and a moved differ, over variables that it does not move as well. */
 symbreak_descent plain_descend(RECORD, FORMULA, IMAGES, uint64_t *a, size_t a_len, uint64_t limit)
 {
-    uint16_t moved[MAX_ROWS];
     uint8_t first[CODES], second[CODES], *value = first, *other = second, *kept;
     uint64_t moves = 0, settled = 1;
-    uint32_t refusal = fault(LENT, moved);
+    uint32_t refusal = fault(LENT);
     if (!refusal && !is_assignment(a, a_len, n)) refusal = SYMBREAK_BAD_ASSIGNMENT;
     if (refusal) return (symbreak_descent){refusal, 0, 0, 0};
     unpack(a, n, value);
@@ -486,10 +530,10 @@ symbreak_descent plain_descend(RECORD, FORMULA, IMAGES, uint64_t *a, size_t a_le
 /* The same, with a note of where each row's moved variables are: from first[r] up to end[r]. Only these are walked and moved. */
 symbreak_descent plain_descend_noting(RECORD, FORMULA, IMAGES, uint64_t *a, size_t a_len, uint64_t limit)
 {
-    uint16_t moved[MAX_ROWS], first[MAX_ROWS], end[MAX_ROWS];
+    uint16_t first[MAX_ROWS], end[MAX_ROWS];
     uint8_t value[CODES], other[CODES];
     uint64_t moves = 0, settled = 1;
-    uint32_t refusal = fault(LENT, moved);
+    uint32_t refusal = fault(LENT);
     if (!refusal && !is_assignment(a, a_len, n)) refusal = SYMBREAK_BAD_ASSIGNMENT;
     if (refusal) return (symbreak_descent){refusal, 0, 0, 0};
     unpack(a, n, value);

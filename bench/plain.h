@@ -39,18 +39,19 @@ symbreak_stored plain_offer_indexed(uint64_t n, uint64_t m, uint64_t rows, uint6
                                     const uint16_t *ends, size_t ends_len, const uint64_t *keys, size_t keys_len, uint16_t *images, size_t images_len,
                                     const uint8_t *names, size_t names_len, const uint8_t *values, size_t values_len, const plain_index *index);
 
-/* The count of variables that a row of n codes moves. */
-unsigned plain_moved(const uint16_t *row, uint64_t n);
+/* Which variables of a row of n codes are x1 .. xk: all but, of each cycle round which the sign is turned an even number of times, the largest; is_x[v] is 1 for
+   these and 0 for the others, for v from 1 to n. Gives k, or -1 for a row that is badly formed. */
+int plain_cycles(const uint16_t *row, uint64_t n, uint8_t is_x[SYMBREAK_MAX_VARIABLES + 1]);
 
-/* The auxiliaries and the clauses of a row that moves k variables. */
-static inline unsigned plain_auxiliaries(unsigned k) { return k ? k - 1 : 0; }
-static inline unsigned plain_clauses(unsigned k) { return k == 1 ? 1 : 6 * plain_auxiliaries(k); }
+/* The auxiliaries and the clauses of a row with x1 .. xk. */
+static inline unsigned plain_auxiliaries(int k) { return k ? (unsigned)k - 1 : 0; }
+static inline unsigned plain_clauses(int k) { return k == 1 ? 1 : 6 * plain_auxiliaries(k); }
 
 /* The literal of a code. */
 static inline int plain_literal(unsigned code) { return code % 2 ? -(int)(code / 2) : (int)(code / 2); }
 
 /* Clause r, from 1 to 6, of auxiliary j: x and y are xj and yj, p and q the next pair, e is ej. Gives the count of its literals, 2 to 4. Clause 1 of j = 1 is
-   also the clause of a row that moves one variable. */
+   also the clause of a row with x1 alone. */
 static inline int plain_added(int j, int r, int x, int y, int p, int q, int e, int literal[4])
 {
     int k = 0;

@@ -12,6 +12,7 @@ static uint8_t in[MAX_IN + 1], out[1 << 16], *end = out;
 static uint16_t literals[SYMBREAK_MAX_LITERALS], ends[SYMBREAK_MAX_CLAUSES], images[SYMBREAK_MAX_ROWS * MAX_N];
 static uint64_t keys[SYMBREAK_MAX_CLAUSES];
 static plain_index by_key;
+static uint8_t is_x[SYMBREAK_MAX_ROWS][MAX_N + 1];
 
 #define SLICE(array) array, sizeof(array) / sizeof *(array)
 
@@ -46,11 +47,11 @@ static inline void print(int j, int r, int x, int y, int p, int q, int e)
     put(0);
 }
 
-static void print_row(const uint16_t *row, int n, int *last)
+static void print_row(const uint16_t *row, const uint8_t *is_x, int n, int *last)
 {
     int x[MAX_N], k = 0;
     for (int i = 1; i <= n; i++)
-        if (row[i - 1] != 2 * i) x[k++] = i;
+        if (is_x[i]) x[k++] = i;
     if (k == 1) print(1, 1, x[0], plain_literal(row[x[0] - 1]), 0, 0, 0);
     for (int j = 1; j < k; j++) {
         int u = x[j - 1], v = plain_literal(row[u - 1]), p = x[j], q = plain_literal(row[p - 1]), e = *last + j;
@@ -88,7 +89,7 @@ int main(void)
     }
     int n = (int)store.variables, m = (int)store.clauses, auxiliaries = 0, added = 0, last = n;
     for (size_t r = 0; r < store.rows; r++) {
-        unsigned k = plain_moved(images + r * store.variables, store.variables);
+        int k = plain_cycles(images + r * store.variables, store.variables, is_x[r]);
         auxiliaries += (int)plain_auxiliaries(k);
         added += (int)plain_clauses(k);
     }
@@ -97,7 +98,7 @@ int main(void)
         for (; i < ends[c]; i++) put(plain_literal(literals[i]));
         put(0);
     }
-    for (size_t r = 0; r < store.rows; r++) print_row(images + r * store.variables, n, &last);
+    for (size_t r = 0; r < store.rows; r++) print_row(images + r * store.variables, is_x[r], n, &last);
     flush();
     return 0;
 }

@@ -187,8 +187,8 @@ static void closed_formula(unsigned n, unsigned m)
 
 static unsigned common_divisor(unsigned a, unsigned b) { return b ? common_divisor(b, a % b) : a; }
 
-/* Rows that move all variables and leave the assignment 00110011.. as it is: shifts by 4, 8, .. The cycles of a shift are as many as the greatest common divisor
-   with n, and each leaves one variable out. */
+/* Rows that move all variables and leave the assignment 00110011.. as it is: shifts by 4, 8, .. A shift has as many cycles as its greatest common divisor with
+   n, and each leaves one variable out. */
 static void full_rows(unsigned rows)
 {
     w.rows = rows;

@@ -22,8 +22,8 @@ enum { CODES = 2 * MAX_N + 2 }; /* codes are below this */
 static symbreak_answer answer(uint64_t value) { return (symbreak_answer){0, 0, value}; }
 static symbreak_answer refused(uint32_t refusal, uint64_t place) { return (symbreak_answer){refusal, place, 0}; }
 
-/* Refusal 20, or 21 for all but the rows, or 0; an index that is lent is made. A clause's literals are marked with its number, so that one that comes twice counts
-   once and marks need not be cleared between clauses. */
+/* Refusal 20, or 21 for all but the rows, or 0; an index that is lent is made. A clause's literals are marked with its number, so that one that comes twice
+   counts once and marks need not be cleared between clauses. */
 static inline __attribute__((always_inline)) uint32_t tested(RECORD, FORMULA, size_t images_len, plain_index *index)
 {
     uint16_t marks[CODES] = {0};
@@ -87,8 +87,8 @@ uint32_t plain_make_index(RECORD, FORMULA, IMAGES, plain_index *index)
     return refusal ? refusal : rows_fault(images, n, rows);
 }
 
-/* All are left out at first, and variables are visited from the largest down. One that is still left out is the largest of its cycle, as going round from a larger
-   one would have met it; going round from it meets the others. Where a row is badly formed that comes to 0, to one over n or to one met before. */
+/* All are left out at first, and variables are visited from the largest down. One that is still left out is the largest of its cycle, as going round from a
+   larger one would have met it; going round from it meets the others. Where a row is badly formed that comes to 0, to one over n or to one met before. */
 int plain_cycles(const uint16_t *row, uint64_t n, uint8_t is_x[MAX_N + 1])
 {
     int k = (int)n;

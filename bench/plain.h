@@ -39,8 +39,8 @@ symbreak_stored plain_offer_indexed(uint64_t n, uint64_t m, uint64_t rows, uint6
                                     const uint16_t *ends, size_t ends_len, const uint64_t *keys, size_t keys_len, uint16_t *images, size_t images_len,
                                     const uint8_t *names, size_t names_len, const uint8_t *values, size_t values_len, const plain_index *index);
 
-/* Which variables of a row of n codes are x1 .. xk: all but, of each cycle round which the sign is turned an even number of times, the largest; is_x[v] is 1 for
-   these and 0 for the others, for v from 1 to n. Gives k, or -1 for a row that is badly formed. */
+/* Which variables of a row of n codes are x1 .. xk: all but, of each cycle round which the sign is turned an even number of times, the largest. For v from 1 to
+   n, is_x[v] is 1 where v is one of them and 0 otherwise. Gives k, or -1 for a row that is badly formed. */
 int plain_cycles(const uint16_t *row, uint64_t n, uint8_t is_x[SYMBREAK_MAX_VARIABLES + 1]);
 
 /* The auxiliaries and the clauses of a row with x1 .. xk. */

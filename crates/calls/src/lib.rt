@@ -234,7 +234,8 @@ pub fn clause(
 
 // ---- models
 
-// Writes the assignment of 1..N that an assignment of 1..n fills in as.
+// Writes the assignment of 1..N that an assignment of 1..n fills in as. A slice as long as any assignment needs is long enough, whatever N
+// is, and N is then counted as the words are written.
 pub fn fill_in(
     counts: Record,
     literals: &[u16],
@@ -254,6 +255,9 @@ pub fn fill_in(
     }
     if !packed::is_assignment(a, counts.variables) {
         return Answer::Refused(Refusal::BadAssignment);
+    }
+    if packed::MAX_WORDS <= out.len() {
+        return Answer::Value(filling::fill(images, counts.rows, counts.variables, a, out) as u64);
     }
     let total = lexleader::counting::totals_of(counts, images);
     let needed = packed::word_count(total.variables);

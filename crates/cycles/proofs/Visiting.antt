@@ -3,7 +3,7 @@ use mathlib.Core.Path.{_≡_, refl, sym, ap, _∙_}
 use mathlib.Core.Bool.{Bool, true, false, not, cond, _&&_, _||_, Bool·beq, and-true, and-false}
 use mathlib.Core.List.{List, [], _∷_}
 use mathlib.Core.Logic.{_⊎_, inl, inr}
-use Prim.Native.Nat.{ℕ, _-_, _≤_}
+use Prim.Native.Nat.{ℕ, _-_, _*_, _%_, _≤_}
 use native.Mathlib.Omega.{arith}
 use borrow.Author.Tests.{eq-eqb, ne-eqb}
 use lib.ListN.{length, getD, set, length-set}
@@ -111,3 +111,16 @@ module _ (row : List ℕ) (z : ℕ) (signed : isRow (length row) row ≡ true) (
     own = λ q. never (sym h ∙ q);
     others = λ q. never (sym h ∙ q);
   }
+
+  -- a variable that is its own image
+  pub visited-unmoved : getD row (z - 1) 0 ≡ 2 * z → Visited row z before before
+  unfolding turnsOdd cycleOf oddly turns sentTo anyOf
+  visited-unmoved image =
+      let own : sentTo row z ≡ z = rw image (omega arith) in
+      let alone : met row z (sentTo row z) ≡ [] = met-end row z (sentTo row z) own in
+      record {
+        room = refl;
+        idle = λ h. refl;
+        own = λ h. h ∙ rw (alone, image, ne-eqb (2 * z % 2) 1 (omega arith));
+        others = λ h x a b ne. rw (alone, ne-eqb z x (λ q. ne (sym q))) (sym (and-true (getD before (x - 1) false)));
+      }

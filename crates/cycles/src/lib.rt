@@ -10,13 +10,13 @@ ghost use mathlib.Core.Path.{_≡_};
 ghost use mathlib.Core.Bool.{true};
 ghost use Prim.Native.Nat.{_≤_};
 ghost use lib.ListN.{length, replicate};
-ghost use Rattle.store.specs.Stores.{isRow};
+ghost use Rattle.store.specs.Stores.{maxVariables, isRow};
 ghost use Rattle.cycles.specs.Cycles.{sentTo, turns, marksOf};
 ghost use Rattle.cycles.specs.Marks.{Visited};
 
 // Marks the variables of a row that are left out.
 pub fn leave_out(row: &[u16], marks: &mut [bool])
-    requires { ⌜ (isRow (length (now row)) (now row) ≡ true) × (length (now marks) ≡ length (now row)) ⌝ }
+    requires { let n = length (now row) in ⌜ (n ≤ maxVariables) × (isRow n (now row) ≡ true) × (length (now marks) ≡ n) ⌝ }
     ensures { λ _. ⌜ now (marks .exit) ≡ marksOf (now (row .entry)) ⌝ }
 {
     mark_all(marks);
@@ -37,11 +37,15 @@ fn mark_all(marks: &mut [bool])
     }
 }
 
-// Goes once round the cycle of a variable that still has its mark.
+// Goes once round the cycle of a variable that still has its mark. One that is its own image is alone in its cycle, and keeps its mark.
 fn visit(row: &[u16], z: usize, marks: &mut [bool])
-    requires { ⌜ (isRow (length (now row)) (now row) ≡ true) × (1 ≤ z) × (z ≤ length (now row)) × (length (now row) ≤ length (now marks)) ⌝ }
+    requires { let n = length (now row) in
+        ⌜ (isRow n (now row) ≡ true) × (1 ≤ z) × (z ≤ n) × (n ≤ length (now marks)) × (n ≤ maxVariables) ⌝ }
     ensures { λ _. ⌜ Visited (now (row .entry)) z (now (marks .entry)) (now (marks .exit)) ⌝ }
 {
+    if row[z - 1] as usize == 2 * z {
+        return;
+    }
     if !marks[z - 1] {
         return;
     }

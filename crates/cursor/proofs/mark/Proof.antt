@@ -17,7 +17,7 @@ leave-out-requires c κs =
     let s = t .before .before .before .before .before in
     let f = s .pre .0 .rows in
     let size = part-size f (s .args .cursor .row) (t .if1 .taken) _ (p .row .ensures) in
-    (part-row f (s .args .cursor .row) (t .if1 .taken) _ (p .row .ensures), s .pre .1 ∙ sym size)
+    (omega (arith, size, f .small), part-row f (s .args .cursor .row) (t .if1 .taken) _ (p .row .ensures), s .pre .1 ∙ sym size)
 
 same-length : tie.Need-same-length
 same-length c = c .before .before .leave-out .kept .1 .0

@@ -56,7 +56,7 @@ leave-out-requires : tie.Need-leave-out-requires Inv-loop μ-loop
 leave-out-requires c κs =
     let p = c .before in
     let l = loop p in
-    (part-row (start l .pre .0) (l .loop .r) (p .before .if1 .taken) _ (p .row .ensures), l .loop .inv .4 ∙ sym (size-there p))
+    (omega (arith, size-there p, start l .pre .0 .small), part-row (start l .pre .0) (l .loop .r) (p .before .if1 .taken) _ (p .row .ensures), l .loop .inv .4 ∙ sym (size-there p))
 
 first-place-requires : tie.Need-first-place-requires Inv-loop μ-loop
 first-place-requires c κs =

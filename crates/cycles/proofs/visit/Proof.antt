@@ -1,11 +1,12 @@
 -- `cycles::visit` meets its contract. The invariant: what was gone round and what is left of the cycle (`Rounding`). Assumes nothing.
 use mathlib.Core.Path.{ap}
+use Prim.Native.Nat.{_-_}
 use native.Mathlib.Omega.{arith}
 use borrow.Author.Needs.{needs}
 use borrow.Author.Tests.{not-true, not-false}
 use lib.ListN.{length, length-set}
 use Rattle.cycles.proofs.Walks.{met, met-step}
-use Rattle.cycles.proofs.Visiting.{Rounding, rounding-begun, rounding-more, rounding-done, visited-none}
+use Rattle.cycles.proofs.Visiting.{Rounding, rounding-begun, rounding-more, rounding-done, visited-none, visited-unmoved}
 use Rattle.cycles.proofs.visit.Statement.{statement}
 use Rattle.cycles.proofs.visit.Tie as tie
 
@@ -15,18 +16,28 @@ Inv-loop row z marks₀ odd₀ v₀ marks odd v = Rounding row z marks₀ marks 
 abbrev μ-loop : tie.MeasureT-loop
 μ-loop row z marks₀ odd₀ v₀ marks odd v = length (met row z v)
 
-sub-if1 : tie.Need-sub-if1 Inv-loop μ-loop
-sub-if1 c = omega arith
+-- where the function began
+abbrev start : tie.At-loop Inv-loop μ-loop → tie.Start Inv-loop μ-loop
+start l = l .before .before .before .before .before .before .before .before .before
 
-slice-read-if1 : tie.Need-slice-read-if1 Inv-loop μ-loop
-slice-read-if1 c = omega arith
+cast-if1 : tie.Need-cast-if1 Inv-loop μ-loop
+cast-if1 c = let s = c .before .before .before in omega (arith, c .shared-slice-known2 .given (s .args .z - 1))
 
 returns : tie.Need-returns Inv-loop μ-loop
-returns c = let s = c .before .before .before .before in visited-none _ _ (s .pre .0) (s .pre .1) (s .pre .2) _ (not-true _ (c .if1 .taken))
+returns c = let s = c .before .before .before .before in visited-unmoved _ _ (s .pre .0) (s .pre .1) (s .pre .2) _ (c .if1 .taken)
+
+sub-if2 : tie.Need-sub-if2 Inv-loop μ-loop
+sub-if2 c = omega arith
+
+slice-read-if2 : tie.Need-slice-read-if2 Inv-loop μ-loop
+slice-read-if2 c = omega arith
+
+returns-2 : tie.Need-returns-2 Inv-loop μ-loop
+returns-2 c = let s = c .before .before .before .before .before .before in visited-none _ _ (s .pre .0) (s .pre .1) (s .pre .2) _ (not-true _ (c .if2 .taken))
 
 loop-holds : tie.Need-loop-holds Inv-loop μ-loop
 loop-holds c =
-    let s = c .before .before .before .before .before .before in
+    let s = c .before .before .before .before .before .before .before .before in
     rw (c .sent-to .ensures, c .before .turned .ensures) (rounding-begun _ _ (s .pre .0) (s .pre .1) (s .pre .2) _ (s .pre .3))
 
 sub-marks : tie.Need-sub-marks Inv-loop μ-loop
@@ -45,7 +56,7 @@ loop-again : tie.Need-loop-again Inv-loop μ-loop
 loop-again c =
     let t = c .before .before in
     let l = t .before in
-    let s = l .before .before .before .before .before .before .before in
+    let s = start l in
     rw (c .sent-to2 .ensures, c .before .turned2 .ensures)
     (rounding-more _ _ (s .pre .0) (s .pre .1) (s .pre .2) _ _ _ _ (l .loop .inv) (t .loop-test .taken))
 
@@ -58,14 +69,15 @@ slice-write-marks-2 c = omega arith
 same-length : tie.Need-same-length Inv-loop μ-loop
 same-length c = simp length-set (c .before .loop .inv .room)
 
-returns-2 : tie.Need-returns-2 Inv-loop μ-loop
-returns-2 c =
+returns-3 : tie.Need-returns-3 Inv-loop μ-loop
+returns-3 c =
     let l = c .before in
-    let s = l .before .before .before .before .before .before .before in
-    rounding-done _ _ (s .pre .0) (s .pre .1) (s .pre .2) _ _ _ _ (not-false _ (l .before .before .before .if1 .left)) (l .loop .inv) (omega arith)
+    let s = start l in
+    rounding-done _ _ (s .pre .0) (s .pre .1) (s .pre .2) _ _ _ _ (not-false _ (l .before .before .before .if2 .left)) (l .loop .inv) (omega arith)
 
 pub visit-spec : {M : Type 1} → statement M
 visit-spec =
     tie.close
-    (tie.spec Inv-loop μ-loop sub-if1 slice-read-if1 returns (search needs) (search needs) loop-holds sub-marks slice-write-marks (search needs)
-    (search needs) loop-less loop-again sub-marks-2 slice-write-marks-2 same-length returns-2)
+    (tie.spec Inv-loop μ-loop (search needs) (search needs) (search needs) cast-if1 (search needs) returns sub-if2 slice-read-if2 returns-2 (search needs)
+    (search needs) loop-holds sub-marks slice-write-marks (search needs) (search needs) loop-less loop-again sub-marks-2 slice-write-marks-2 same-length
+    returns-3)

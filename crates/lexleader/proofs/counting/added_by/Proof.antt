@@ -12,7 +12,7 @@ use Rattle.lexleader.proofs.counting.added_by.Statement.{statement}
 use Rattle.lexleader.proofs.counting.added_by.Tie as tie
 
 leave-out-requires : tie.Need-leave-out-requires
-leave-out-requires c κs = let s = c .before .before .before in (s .pre .1, s .pre .2)
+leave-out-requires c κs = let s = c .before .before .before in (s .pre .0, s .pre .1, s .pre .2)
 
 pair-count-requires : tie.Need-pair-count-requires
 pair-count-requires c κs =

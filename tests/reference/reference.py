@@ -1,4 +1,4 @@
-"""Reference symmetry breaker: document 01 with CR 1 to CR 8 of document 02, written from the papers, naive on purpose.
+"""Reference symmetry breaker: document 01 with CR 1 to CR 9 of document 02, written from the papers, naive on purpose.
 
 A call answers ('refused', number, place) or ('done', value...).  A call that may write lent memory returns that
 answer followed by the new contents of each thing it may write; nothing lent is ever changed in place.
@@ -318,19 +318,45 @@ def withdraw(record, literals, ends, keys, images):
 
 
 def moved_variables(row: Row) -> List[int]:
-    """"An accepted row has moved variables x1 < .. < xk"; CR 6: "a variable sent to its own negation counts as moved"."""
+    """"An accepted row has moved variables x1 < .. < xk"; CR 6: "a variable sent to its own negation counts as moved". They are the x of the longer form, as it
+    was before CR 9."""
     return [i for i in sorted(row) if row[i] != i]
 
 
-def auxiliaries(row: Row) -> int:
+def cycles(row: Row) -> List[List[int]]:
+    """CR 9: "each cycle of a row": from i to the size of p(i), and so on until i comes again. A variable that stays is a cycle of its own."""
+    found, seen = [], set()
+    for i in sorted(row):
+        if i not in seen:
+            cycle = [i]
+            while abs(row[cycle[-1]]) != i:
+                cycle.append(abs(row[cycle[-1]]))
+            found.append(cycle)
+            seen.update(cycle)
+    return found
+
+
+def turns_sign(row: Row, cycle: List[int]) -> bool:
+    """CR 9: "going once round the cycle turns the sign an odd number of times"."""
+    return sum(row[i] < 0 for i in cycle) % 2 == 1
+
+
+def remaining_variables(row: Row) -> List[int]:
+    """CR 9: "Leave out, for each cycle of a row, its largest variable, unless going once round the cycle turns the sign an odd number of times. The rest are
+    x1 .. xk"."""
+    left_out = {max(cycle) for cycle in cycles(row) if not turns_sign(row, cycle)}
+    return [i for i in sorted(row) if i not in left_out]
+
+
+def auxiliaries(xs: List[int]) -> int:
     """"It adds k-1 auxiliaries"; "The identity adds nothing"; CR 8: "Rows of that sort in an existing store remain well formed, add no clauses and count
     towards 64"."""
-    return max(len(moved_variables(row)) - 1, 0)
+    return max(len(xs) - 1, 0)
 
 
-def row_clauses(row: Row, last: int) -> Iterator[Clause]:
+def row_clauses(row: Row, xs: List[int], last: int) -> Iterator[Clause]:
     """"six clauses for each auxiliary j, written in this order", numbered on from `last`; CR 6: "A row with k = 1 adds the single clause -x1 y1"."""
-    xs = [0, *moved_variables(row)]
+    xs = [0, *xs]
     if len(xs) == 2:
         yield [-xs[1], row[xs[1]]]
     for j in range(1, len(xs) - 1):
@@ -344,20 +370,41 @@ def row_clauses(row: Row, last: int) -> Iterator[Clause]:
         yield [-e, -x_next, y_next]
 
 
-def made_formula(record, literals, ends, _keys, images) -> Iterator[Clause]:
-    """"The first m clauses are the plain ones, then each row's in order of acceptance"."""
+def formula_by(xs_of, record, literals, ends, images) -> Iterator[Clause]:
+    """"The first m clauses are the plain ones, then each row's in order of acceptance", a row's by the x that `xs_of` finds."""
     yield from plain_clauses(record, literals, ends)
     last = record.variables
     for row in rows_of(record, images):
-        yield from row_clauses(row, last)
-        last += auxiliaries(row)
+        xs = xs_of(row)
+        yield from row_clauses(row, xs, last)
+        last += auxiliaries(xs)
+
+
+def counts_by(xs_of, record, images) -> Tuple[int, int]:
+    """"N = n + the sum of (k-1) over the rows that move something, and M = m + 6 times that sum"; CR 6: k = 1 adds a clause, "and M counts it"."""
+    counts = [len(xs_of(row)) for row in rows_of(record, images)]
+    added = sum(k - 1 for k in counts if k > 0)
+    return record.variables + added, record.clauses + 6 * added + counts.count(1)
+
+
+def made_formula(record, literals, ends, _keys, images) -> Iterator[Clause]:
+    """The made formula: its x are those that CR 9 leaves."""
+    return formula_by(remaining_variables, record, literals, ends, images)
 
 
 def made_counts(record, images) -> Tuple[int, int]:
-    """"N = n + the sum of (k-1) over the rows that move something, and M = m + 6 times that sum"; CR 6: k = 1 adds a clause, "and M counts it"."""
-    counts = [len(moved_variables(row)) for row in rows_of(record, images)]
-    added = sum(k - 1 for k in counts if k > 0)
-    return record.variables + added, record.clauses + 6 * added + counts.count(1)
+    """N and M of the made formula."""
+    return counts_by(remaining_variables, record, images)
+
+
+def longer_formula(record, literals, ends, _keys, images) -> Iterator[Clause]:
+    """CR 9: "the longer form", with all moved variables; "the kept models are exactly those of the longer form", and nothing else here speaks of it."""
+    return formula_by(moved_variables, record, literals, ends, images)
+
+
+def longer_counts(record, images) -> Tuple[int, int]:
+    """N and M of the longer form."""
+    return counts_by(moved_variables, record, images)
 
 
 def header_line(record, images) -> bytes:
@@ -476,13 +523,13 @@ def true_clause(clause_: Clause, a: Assignment) -> bool:
 
 
 def filled_in(record, images, a: Assignment) -> Assignment:
-    """"A itself, and ej true exactly when A agrees with A moved by p on x1 .. xj"."""
+    """"A itself, and ej true exactly when A agrees with A moved by p on x1 .. xj"; CR 9: "filling in speaks of the x that are left"."""
     full, last = dict(a), record.variables
     for row in rows_of(record, images):
-        xs, carried = moved_variables(row), moved(row, a)
+        xs, carried = remaining_variables(row), moved(row, a)
         for j in range(1, len(xs)):
             full[last + j] = all(a[x] == carried[x] for x in xs[:j])
-        last += auxiliaries(row)
+        last += auxiliaries(xs)
     return full
 
 

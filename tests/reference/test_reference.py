@@ -1,4 +1,4 @@
-"""Tests of the reference: the worked cases of 01, the examples of the readings A-I, the tables of 000, demand 3 by brute force."""
+"""Tests of the reference: the worked cases of 01, the examples of the readings A-I, the tables of 000, demand 3 and CR 9's statement by brute force."""
 import copy
 import itertools
 import operator
@@ -8,6 +8,7 @@ from collections import Counter
 
 import reference as ref
 import tables
+import truth
 
 LISTING = b"p cnf 3 2\n1 2 0\n2 3 0\n"
 TOP = 2 ** 64 - 1
@@ -101,9 +102,9 @@ class WorkedCases(unittest.TestCase):
         self.assertEqual(descend(host, "110"), (("done", "settled", 1), "011"))
         self.assertEqual(descend(host, "110", 0), (("done", "spent", 0), "110"))
         self.assertEqual(descend(host, "011", 0), (("done", "settled", 0), "011"))
-        for a, full in ("101", "1011"), ("011", "0110"):
+        for a in "101", "011":
             answer, out = fill_in(host, a, 3)
-            self.assertEqual((answer, out), (("done", 1), [*words(full), TOP, TOP]))
+            self.assertEqual((answer, out), (("done", 1), [*words(a), TOP, TOP]))
         self.assertEqual(fill_in(host, "011", 0), (("refused", 23, 1), []))
         turned = Host(b"p cnf 3 1\n1 2 3 0\n")
         self.assertEqual(turned.offer(b"1 2 3", b"2 3 1"), ("done",))
@@ -141,10 +142,10 @@ class WorkedCases(unittest.TestCase):
         for _ in range(64):
             self.assertEqual(host.offer(b"3 1", b"1 3"), ("done",))
         self.assertEqual(host.offer(b"x", b"y"), ("refused", 22, 0))
-        self.assertEqual(ref.made_counts(host.record, host.images), (67, 2 + 6 * 64))
+        self.assertEqual(ref.made_counts(host.record, host.images), (3, 2 + 64))
 
     def test_listing(self):
-        made = (b"p cnf 4 8\n1 2 0\n2 3 0\n-1 3 0\n-4 -1 3 0\n-4 1 -3 0\n4 1 3 0\n4 -1 -3 0\n-4 -3 1 0\n")
+        made = b"p cnf 3 3\n1 2 0\n2 3 0\n-1 3 0\n"
         self.assertEqual(ref.program(LISTING + b"%\n1 3\n3 1\n"), made)
         self.assertEqual(ref.program(LISTING + b"%\n1 3\n3 1"), made)
 
@@ -157,12 +158,12 @@ class Withdrawing(unittest.TestCase):
         self.assertEqual(host.withdraw(), ("refused", 30, 0))
         self.assertEqual((host.offer(b"1 2 3", b"2 3 1"), host.offer(b"1 3", b"3 1")), (("done",), ("done",)))
         images = list(host.images)
-        self.assertEqual(ref.made_counts(host.record, host.images), (6, 1 + 6 * 3))
+        self.assertEqual(ref.made_counts(host.record, host.images), (4, 1 + 6 + 1))  # 3 is left out of either, so that k is 2, then 1
         self.assertEqual((host.withdraw(), host.record.rows, host.images), (("done",), 1, images))
-        self.assertEqual(ref.made_counts(host.record, host.images), (5, 1 + 6 * 2))
+        self.assertEqual(ref.made_counts(host.record, host.images), (4, 1 + 6))
         self.assertEqual((host.withdraw(), host.withdraw(), host.images), (("done",), ("refused", 30, 0), images))
-        self.assertEqual(host.offer(b"1 3", b"3 1"), ("done",))
-        self.assertEqual(ref.made_text(*host.store).splitlines()[-1], b"-4 -3 1 0")
+        self.assertEqual(host.offer(b"1 2 3", b"3 1 2"), ("done",))
+        self.assertEqual(ref.made_text(*host.store).splitlines()[-1], b"-4 -2 1 0")
         host.record = host.record._replace(rows=0, variables=2)
         self.assertEqual(host.withdraw(), ("refused", 21, 0))
         host.record = host.record._replace(open=False)
@@ -291,8 +292,8 @@ class OfferReadings(unittest.TestCase):
         for _ in range(2):
             self.assertEqual(host.offer(b"1 3", b"3 1"), ("done",))
         self.assertEqual(host.offer(b"1 2", b"2 1"), ("refused", 11, 1))
-        self.assertEqual([c for c in ref.made_formula(*host.store)][5::6], [[-1, 3], [-1, 3]])
-        self.assertEqual(ref.made_counts(host.record, host.images), (5, 17))
+        self.assertEqual(list(ref.made_formula(*host.store))[5:], [[-1, 3], [-1, 3]])
+        self.assertEqual(ref.made_counts(host.record, host.images), (3, 7))
         self.assertEqual(Host(b"p cnf 2 3\n2 1 0 1 0 1 1 0").offer(b"1 2", b"2 1"), ("refused", 11, 2))
 
     def test_room(self):
@@ -355,14 +356,16 @@ class Signs(unittest.TestCase):
         self.assertEqual(ref.program(SQUARE + b"%\n1 2\n-1 2\n-2 1\n"),
                          SQUARE.replace(b"3 4", b"4 11") + b"-1 -1 0\n-1 -2 0\n-4 -1 -2 0\n-4 1 2 0\n4 1 -2 0\n4 -1 2 0\n-4 -2 1 0\n")
         self.assertEqual(ref.program(b"p cnf 3 0\n%\n1 2 3\n3 -2 1\n"),
+                         b"p cnf 4 6\n-1 3 0\n-4 -1 3 0\n-4 1 -3 0\n4 1 3 0\n4 -1 -3 0\n-4 -2 -2 0\n")
+        self.assertEqual(ref.program(b"p cnf 3 0\n%\n1 2 3\n3 -2 -1\n"),
                          b"p cnf 5 12\n-1 3 0\n-4 -1 3 0\n-4 1 -3 0\n4 1 3 0\n4 -1 -3 0\n-4 -2 -2 0\n"
-                         b"-5 4 0\n-5 -2 -2 0\n-5 2 2 0\n5 -4 2 -2 0\n5 -4 -2 2 0\n-5 -3 1 0\n")
+                         b"-5 4 0\n-5 -2 -2 0\n-5 2 2 0\n5 -4 2 -2 0\n5 -4 -2 2 0\n-5 -3 -1 0\n")
 
     def test_assignments(self):
         """Each A with what it fills in as, the first clause that is false then, the moves of its descent and its end."""
         cases = {(-2, 1): [("00", "0", 0, 0, "00"), ("01", "1", 6, 1, "00"), ("10", "1", 0, 0, "10"), ("11", "0", 1, 2, "00")],
-                 (3, -2, 1): [("000", "10", 0, 0, "000"), ("001", "00", 0, 0, "001"), ("010", "10", 6, 1, "000"), ("011", "00", 0, 0, "011"),
-                              ("100", "00", 1, 1, "011"), ("101", "10", 0, 0, "101"), ("110", "00", 1, 1, "001"), ("111", "10", 6, 1, "101")]}
+                 (3, -2, 1): [("000", "1", 0, 0, "000"), ("001", "0", 0, 0, "001"), ("010", "1", 6, 1, "000"), ("011", "0", 0, 0, "011"),
+                              ("100", "0", 1, 1, "011"), ("101", "1", 0, 0, "101"), ("110", "0", 1, 1, "001"), ("111", "1", 6, 1, "101")]}
         for row, table in cases.items():
             host = Host(b"p cnf %d 0" % len(row)).with_rows(row)
             for a, setting, false, moves, end in table:
@@ -379,7 +382,8 @@ class Signs(unittest.TestCase):
         for images, row in ([6, 4, 3], (3, 2, -1)), ([7, 5, 3], (-3, -2, -1)), ([2, 5, 6], (1, -2, 3)):
             store = ref.Record(3, 2, 1, True), [2, 4, 4, 6], [2, 4], LISTING_KEYS, images
             self.assertEqual((ref.badly_formed(*store), ref.rows_of(store[0], images)), (False, [dict(enumerate(row, 1))]))
-        self.assertEqual(ref.made_counts(ref.Record(3, 2, 3, True), [6, 4, 3, 7, 5, 3, 2, 5, 6]), (3 + 1 + 2, 2 + 6 + 12 + 1))
+        # x are 1 and 3, an odd cycle; then 1 and 2, of which only the first is in an even one; then 2
+        self.assertEqual(ref.made_counts(ref.Record(3, 2, 3, True), [6, 4, 3, 7, 5, 3, 2, 5, 6]), (3 + 1 + 1, 2 + 6 + 6 + 1))
 
 
 EXCHANGED, NEGATED = (b"1 2", b"2 1"), (b"2", b"-2")
@@ -477,9 +481,8 @@ class AlwaysTrue(unittest.TestCase):
 
     def test_written(self):
         """Such clauses are written out as they were read, and counted."""
-        added = b"-1 3 0\n-4 -1 3 0\n-4 1 -3 0\n4 1 3 0\n4 -1 -3 0\n-4 -3 1 0\n"
         for count, clauses in (3, b"1 2 0\n1 -1 2 0\n2 3 0\n"), (5, b"3 -3 3 0\n1 2 0\n-1 -1 1 2 0\n2 3 0\n-2 1 2 0\n"):
-            self.assertEqual(ref.program(b"p cnf 3 %d\n%b%%\n1 3\n3 1\n" % (count, clauses)), b"p cnf 4 %d\n%b%b" % (count + 6, clauses, added))
+            self.assertEqual(ref.program(b"p cnf 3 %d\n%b%%\n1 3\n3 1\n" % (count, clauses)), b"p cnf 3 %d\n%b-1 3 0\n" % (count + 1, clauses))
         self.assertEqual(ref.program(b"p cnf 2 1\n2 -2 0\n%\n1\n-1\n"), b"p cnf 2 2\n2 -2 0\n-1 -1 0\n")
         self.assertEqual(ref.program(b"p cnf 3 2\n1 -1 0\n1 3 0\n%\n1 2\n2 1\n"), b"refused 11 2\n")
 
@@ -487,10 +490,10 @@ class AlwaysTrue(unittest.TestCase):
         """The checking call counts such clauses, and says of none that it is false."""
         host = Host(b"p cnf 3 4\n1 -1 0\n2 3 0\n-2 3 2 0\n1 3 0\n")
         self.assertEqual(host.offer(b"1 2", b"2 1"), ("done",))
-        self.assertEqual(ref.made_counts(host.record, host.images), (4, 10))
-        for full, answer in ("0001", 2), ("0101", 4), ("1000", 2), ("0011", 0), ("1010", 5), ("1011", 5), ("0010", 8), ("1111", 0), ("1110", 9):
-            self.assertEqual(ref.check(*host.store, words(full)), ("done", answer), full)
-        self.assertEqual(fill_in(host, "011"), (("done", 1), words("0110")))
+        self.assertEqual(ref.made_counts(host.record, host.images), (3, 5))
+        for a, answer in ("000", 2), ("001", 0), ("010", 4), ("011", 0), ("100", 2), ("101", 5), ("110", 0), ("111", 0):
+            self.assertEqual(ref.check(*host.store, words(a)), ("done", answer), a)
+        self.assertEqual(fill_in(host, "011"), (("done", 1), words("011")))
         self.assertEqual(descend(host, "101"), (("done", "settled", 1), "011"))
 
     def test_keys(self):
@@ -626,8 +629,8 @@ class Idle(unittest.TestCase):
 
     def test_lent(self):
         """Identities in a lent store are well formed, add nothing and lower nothing; offers and withdrawals go on beside them."""
-        still, swap, all_ = (1, 2, 3), (3, 2, 1), [format(a, "03b") for a in range(8)]
-        for rows in [still], [still, swap], [swap, still], [still, swap, still, still], [swap, still, swap]:
+        still, swap, turn, all_ = (1, 2, 3), (3, 2, 1), (2, 3, 1), [format(a, "03b") for a in range(8)]
+        for rows in [still], [still, swap], [swap, still], [still, turn], [still, swap, still, still, turn], [turn, still, swap, still, turn]:
             host, without = Host().with_rows(*rows), Host().with_rows(*(row for row in rows if row != still))
             self.assertEqual((ref.badly_formed(*host.store), ref.made_text(*host.store)), (False, ref.made_text(*without.store)))
             for a in all_:
@@ -644,7 +647,7 @@ class Idle(unittest.TestCase):
             for values in b"3 1", b"1 3", b"x":
                 self.assertEqual(host.offer(b"1 3", values), ("refused", 22, 0))
             self.assertEqual((host.withdraw(), host.offer(b"1 3", b"1 3"), host.offer(b"1 3", b"3 1")), (("done",), ("refused", 31, 0), ("done",)))
-            self.assertEqual((host.record.rows, ref.made_counts(host.record, host.images)), (64, (3 + 65 - identities, 2 + 6 * (65 - identities))))
+            self.assertEqual((host.record.rows, ref.made_counts(host.record, host.images)), (64, (3, 2 + 65 - identities)))
 
 
 class StoreReadings(unittest.TestCase):
@@ -691,10 +694,11 @@ class WritingAndAssignments(unittest.TestCase):
     def test_calls_write_the_text(self):
         host = Host(b"p cnf 4 4\n3 1 1 0 0 -2 2 0 2 4 0").with_rows((3, 4, 1, 2), (1, 2, 3, 4), (2, 3, 4, 1))
         lines = ref.made_text(*host.store).splitlines(keepends=True)
-        self.assertEqual(lines[:6], [b"p cnf 10 40\n", b"3 1 1 0\n", b"0\n", b"-2 2 0\n", b"2 4 0\n", b"-1 3 0\n"])
-        self.assertEqual(lines[5 + 18:][:12:6], [b"-1 2 0\n", b"-9 8 0\n"])
-        self.assertEqual(lines[11:17], [b"-6 5 0\n", b"-6 -2 4 0\n", b"-6 2 -4 0\n", b"6 -5 2 4 0\n", b"6 -5 -2 -4 0\n",
-                                        b"-6 -3 1 0\n"])
+        # two exchanges leave 1 and 2, with the auxiliary 5; the turn of four leaves 1, 2 and 3, with 6 and 7
+        self.assertEqual(lines[:6], [b"p cnf 7 22\n", b"3 1 1 0\n", b"0\n", b"-2 2 0\n", b"2 4 0\n", b"-1 3 0\n"])
+        self.assertEqual(lines[6:11], [b"-5 -1 3 0\n", b"-5 1 -3 0\n", b"5 1 3 0\n", b"5 -1 -3 0\n", b"-5 -2 4 0\n"])
+        self.assertEqual(lines[11:17], [b"-1 2 0\n", b"-6 -1 2 0\n", b"-6 1 -2 0\n", b"6 1 2 0\n", b"6 -1 -2 0\n", b"-6 -2 3 0\n"])
+        self.assertEqual(lines[17:], [b"-7 6 0\n", b"-7 -2 3 0\n", b"-7 2 -3 0\n", b"7 -6 2 3 0\n", b"7 -6 -2 -3 0\n", b"-7 -3 4 0\n"])
         for q, line in enumerate(lines):
             for room in len(line) - 1, len(line), len(line) + 2:
                 out, tail = bytearray(b"#" * room), (q,) if q else ()
@@ -702,7 +706,7 @@ class WritingAndAssignments(unittest.TestCase):
                 enough = room >= len(line)
                 self.assertEqual(answer, ("done", len(line)) if enough else ("refused", 23, len(line)))
                 self.assertEqual(after, line + b"#" * (room - len(line)) if enough else out)
-        for q in 0, 41, TOP:
+        for q in 0, 23, TOP:
             self.assertEqual(ref.clause(*host.store, q, [])[0], ("refused", 13, 0))
 
     def test_comparison(self):
@@ -728,26 +732,44 @@ class WritingAndAssignments(unittest.TestCase):
         for a in [], [0, 0], [1], [1 << 60]:
             self.assertEqual(ref.descend(*host.store, a, 0), (("refused", 12, 0), a))
             self.assertEqual(ref.fill_in(*host.store, a, []), (("refused", 12, 0), []))
-        self.assertEqual(ref.check(*host.store, [1 << 59]), ("refused", 12, 0))
-        for full, answer in ("0110", 0), ("0010", 1), ("0111", 5), ("1011", 0), ("1010", 7), ("1100", 3):
-            self.assertEqual(ref.check(*host.store, words(full)), ("done", answer), full)
+        self.assertEqual(ref.check(*host.store, [1 << 60]), ("refused", 12, 0))
+        for a, answer in ("000", 1), ("001", 1), ("010", 0), ("011", 0), ("100", 2), ("101", 0), ("110", 3), ("111", 0):
+            self.assertEqual(ref.check(*host.store, words(a)), ("done", answer), a)
+        turned = Host().with_rows((2, 3, 1))  # with the auxiliary 4: 1 and 2 agree
+        self.assertEqual(ref.check(*turned.store, [1 << 59]), ("refused", 12, 0))
+        for full, answer in ("0110", 0), ("0010", 1), ("0111", 5), ("1010", 3), ("1111", 0), ("1110", 7), ("1101", 8):
+            self.assertEqual(ref.check(*turned.store, words(full)), ("done", answer), full)
 
     def test_limits(self):
+        """64 rows, each one cycle of all variables that turns the sign once: none is left out, and N and M are as large as they can be."""
         n = 512
         text = b"p cnf 512 4096\n" + b"".join(b"%d %d %d 0\n" % (i, -i, i) for i in range(1, n + 1)) * 8
         host = Host(text, 12288, 4096, 4096, 64 * n)
         names = b" ".join(b"%d" % i for i in range(1, n + 1))
-        for turn in range(1, 65):
-            row = [(i + turn) % n + 1 for i in range(n)]
-            row[-1] *= -1 if turn % 2 else 1
-            self.assertEqual(host.offer(names, b" ".join(b"%d" % value for value in row)), ("done",))
+        for by in range(1, 128, 2):
+            self.assertEqual(host.offer(names, b" ".join(b"%d" % value for value in shifted(n, by, (n,)))), ("done",))
         self.assertEqual(call(ref.header, *host.store, [0] * 19, written=(5,))[1], list(b"p cnf 33216 200320\n"))
         self.assertEqual(sum(1 for _ in ref.made_formula(*host.store)), 200320)
-        self.assertEqual(call(ref.clause, *host.store, 200320, [0] * 18, written=(6,))[0], ("done", 17))
+        answer, line = call(ref.clause, *host.store, 200320, [0] * 20, written=(6,))
+        self.assertEqual((answer, bytes(line)), (("done", 19), b"-33216 -512 -127 0\n\0"))
         for a, false in ("0" * n, 0), ("1" * n, 4096 + 6 * 511), ("0" * 256 + "1" * 256, 0):
             answer, out = fill_in(host, a, 519)
             self.assertEqual((answer, ref.check(*host.store, out)), (("done", 519), ("done", false)))
         self.assertEqual(descend(host, "1" + "0" * 511), (("done", "settled", 1), "0" * n))
+
+    def test_even_limits(self):
+        """64 rows that send i to i + 1, to i + 2, .., to i + 64. Each has as many cycles as the largest power of two that divides the number, all even, and k
+        is so many less than 512. The powers add up to 6 times 32, and 64, which is 256."""
+        n = 512
+        host = Host(b"p cnf 512 0").with_rows(*(shifted(n, by) for by in range(1, 65)))
+        self.assertEqual(ref.made_counts(host.record, host.images), (33216 - 256, 6 * (64 * 511 - 256)))
+        self.assertEqual(sum(1 for _ in ref.made_formula(*host.store)), 194688)
+        # the last row's x are 1 .. 448, and its last clause is about 448 and 512, which is left out
+        self.assertEqual(bytes(call(ref.clause, *host.store, 194688, [0] * 20, written=(6,))[1]), b"-32960 -448 512 0\n\0\0")
+        for a, false in ("0" * 256 + "1" * 256, 0), ("1" * 511 + "0", 6 * 510):
+            answer, out = fill_in(host, a, 516)
+            self.assertEqual((answer, out[515], ref.check(*host.store, out[:515])), (("done", 515), TOP, ("done", false)))
+        self.assertEqual(descend(host, "1" + "0" * 511), (("done", "settled", 1), "0" * 511 + "1"))
 
 
 class ProgramReadings(unittest.TestCase):
@@ -795,6 +817,11 @@ def signed_rows(n):
     for sizes in itertools.permutations(range(1, n + 1)):
         for signs in itertools.product((1, -1), repeat=n):
             yield tuple(map(operator.mul, sizes, signs))
+
+
+def shifted(n, by, negated=()):
+    """The row that sends i to i + by, from n on to 1; negated are the values of these."""
+    return tuple(((i - 1 + by) % n + 1) * (-1 if i in negated else 1) for i in range(1, n + 1))
 
 
 def random_row(rng, n):
@@ -846,6 +873,216 @@ def random_formula(rng, n):
     return "\n".join([f"p cnf {n} {len(clauses)}", *lines]).encode(), clauses, row
 
 
+# Rows, and the variables that are left, by hand: which cycles there are, the signs of each counted.
+REMAINING = [
+    ("no variable", (), []),
+    ("the identity", (1, 2, 3), []),
+    ("i to -i", (-1,), [1]),
+    ("i to -i beside others", (1, -2, 3), [2]),
+    ("all to their negations", (-1, -2, -3), [1, 2, 3]),
+    ("an exchange", (2, 1), [1]),
+    ("the listing's", (3, 2, 1), [1]),
+    ("an exchange after others", (1, 2, 4, 3), [3]),
+    ("an exchange with two signs", (-2, -1), [1]),
+    ("an exchange with one sign", (-2, 1), [1, 2]),
+    ("an exchange with the other sign", (2, -1), [1, 2]),
+    ("an exchange and i to -i between", (3, -2, 1), [1, 2]),
+    ("an exchange and i to -i after it", (2, 1, -3), [1, 3]),
+    ("an odd exchange and i to -i", (3, -2, -1), [1, 2, 3]),
+    ("three on", (2, 3, 1), [1, 2]),
+    ("three back", (3, 1, 2), [1, 2]),
+    ("three, the first sign", (-2, 3, 1), [1, 2, 3]),
+    ("three, the second sign", (2, -3, 1), [1, 2, 3]),
+    ("three, the last sign", (2, 3, -1), [1, 2, 3]),
+    ("three, all signs but the first", (2, -3, -1), [1, 2]),
+    ("three, all signs but the last", (-2, -3, 1), [1, 2]),
+    ("three, all signs", (-2, -3, -1), [1, 2, 3]),
+    ("four on", (2, 3, 4, 1), [1, 2, 3]),
+    ("four, the largest in the middle", (3, 4, 2, 1), [1, 2, 3]),
+    ("four, one sign", (3, 4, -2, 1), [1, 2, 3, 4]),
+    ("four, two signs", (-2, 3, -4, 1), [1, 2, 3]),
+    ("four, three signs", (-2, -3, 4, -1), [1, 2, 3, 4]),
+    ("four, four signs", (-2, -3, -4, -1), [1, 2, 3]),
+    ("five", (3, 1, 5, 2, 4), [1, 2, 3, 4]),
+    ("five, one sign", (3, 1, 5, -2, 4), [1, 2, 3, 4, 5]),
+    ("five, four signs", (-3, -1, 5, -2, -4), [1, 2, 3, 4]),
+    ("five, five signs", (-3, -1, -5, -2, -4), [1, 2, 3, 4, 5]),
+    ("six", (4, 6, 5, 2, 1, 3), [1, 2, 3, 4, 5]),
+    ("six, one sign", (4, 6, 5, 2, 1, -3), [1, 2, 3, 4, 5, 6]),
+    ("six, five signs", (-4, -6, -5, -2, 1, -3), [1, 2, 3, 4, 5, 6]),
+    ("six, six signs", (-4, -6, -5, -2, -1, -3), [1, 2, 3, 4, 5]),
+    ("two exchanges", (2, 1, 4, 3), [1, 3]),
+    ("two exchanges, one inside the other", (4, 3, 2, 1), [1, 2]),
+    ("two exchanges that cross", (3, 4, 1, 2), [1, 2]),
+    ("the first of them odd", (2, -1, 4, 3), [1, 2, 3]),
+    ("the second odd", (2, 1, -4, 3), [1, 3, 4]),
+    ("the outer odd", (-4, 3, 2, 1), [1, 2, 4]),
+    ("the inner odd", (4, 3, -2, 1), [1, 2, 3]),
+    ("both odd, so that the row has two signs", (-2, 1, 4, -3), [1, 2, 3, 4]),
+    ("one with two signs, one odd", (-2, -1, 4, -3), [1, 3, 4]),
+    ("three exchanges without signs", (6, 5, 4, 3, 2, 1), [1, 2, 3]),
+    ("three exchanges with all signs", (-6, -5, -4, -3, -2, -1), [1, 2, 3]),
+    ("two of three", (2, 3, 1, 6, 4, 5), [1, 2, 4, 5]),
+    ("two of three, the first odd", (2, 3, -1, 6, 4, 5), [1, 2, 3, 4, 5]),
+    ("two of three, the second odd", (2, 3, 1, 6, -4, 5), [1, 2, 4, 5, 6]),
+    ("an odd exchange, three on, one that stays", (5, 3, 6, 4, -1, 2), [1, 2, 3, 5]),
+    ("two exchanges and i to -i", (3, 5, 1, -4, 2), [1, 2, 4]),
+]
+
+# Rows without clauses, and the made formula's text.
+SHORTER = [
+    ((2, 1), b"p cnf 2 1\n-1 2 0\n"),
+    ((-2, -1), b"p cnf 2 1\n-1 -2 0\n"),
+    ((-1, 2), b"p cnf 2 1\n-1 -1 0\n"),
+    ((2, -1), b"p cnf 3 6\n-1 2 0\n-3 -1 2 0\n-3 1 -2 0\n3 1 2 0\n3 -1 -2 0\n-3 -2 -1 0\n"),
+    ((2, 3, 1), b"p cnf 4 6\n-1 2 0\n-4 -1 2 0\n-4 1 -2 0\n4 1 2 0\n4 -1 -2 0\n-4 -2 3 0\n"),
+    ((3, 1, 2), b"p cnf 4 6\n-1 3 0\n-4 -1 3 0\n-4 1 -3 0\n4 1 3 0\n4 -1 -3 0\n-4 -2 1 0\n"),
+    ((-2, 3, -1), b"p cnf 4 6\n-1 -2 0\n-4 -1 -2 0\n-4 1 2 0\n4 1 -2 0\n4 -1 2 0\n-4 -2 3 0\n"),
+    ((2, 3, -1), b"p cnf 5 12\n-1 2 0\n-4 -1 2 0\n-4 1 -2 0\n4 1 2 0\n4 -1 -2 0\n-4 -2 3 0\n"
+                 b"-5 4 0\n-5 -2 3 0\n-5 2 -3 0\n5 -4 2 3 0\n5 -4 -2 -3 0\n-5 -3 -1 0\n"),
+    ((2, 1, 4, 3), b"p cnf 5 6\n-1 2 0\n-5 -1 2 0\n-5 1 -2 0\n5 1 2 0\n5 -1 -2 0\n-5 -3 4 0\n"),
+    ((-2, -1, 4, -3), b"p cnf 6 12\n-1 -2 0\n-5 -1 -2 0\n-5 1 2 0\n5 1 -2 0\n5 -1 2 0\n-5 -3 4 0\n"
+                      b"-6 5 0\n-6 -3 4 0\n-6 3 -4 0\n6 -5 3 4 0\n6 -5 -3 -4 0\n-6 -4 -3 0\n"),
+]
+
+# A row, then each A with what it fills in as and the first clause that is false then.
+FILLED = {
+    (2, 3, 1): [("000", "1", 0), ("001", "1", 0), ("010", "0", 0), ("011", "0", 0), ("100", "0", 1), ("101", "0", 1), ("110", "1", 6), ("111", "1", 0)],
+    (2, 1, -3): [("000", "1", 0), ("001", "1", 6), ("010", "0", 0), ("011", "0", 0), ("100", "0", 1), ("101", "0", 1), ("110", "1", 0), ("111", "1", 6)],
+    (-2, 1, -3): [("000", "00", 0), ("001", "00", 0), ("010", "10", 6), ("011", "10", 6), ("100", "10", 0), ("101", "10", 0), ("110", "00", 1),
+                  ("111", "00", 1)],
+    (2, 1, 4, 3): [("0000", "1", 0), ("0001", "1", 0), ("0010", "1", 6), ("0110", "0", 0), ("1010", "0", 1), ("1101", "1", 0), ("1110", "1", 6)],
+    (4, 3, 2, -1): [("0000", "11", 0), ("0001", "00", 0), ("0010", "10", 0), ("0100", "10", 6), ("0110", "11", 0), ("1001", "11", 12), ("1011", "10", 0),
+                    ("1101", "10", 6), ("1111", "11", 12), ("1000", "00", 1)],
+}
+
+
+def remains(row, i):
+    """Whether CR 9 leaves i among the x, by a rule of the test's own: the literals that p goes through from i on end at -i, or one of them is of a larger
+    variable."""
+    literal, larger = row[i], False
+    while abs(literal) != i:
+        literal, larger = applied(row, literal), larger or abs(literal) > i
+    return literal == -i or larger
+
+
+class Cycles(unittest.TestCase):
+    """CR 9 and readings E3 to E5 and O3."""
+
+    def both_forms(self, host):
+        """The kept models, found by all settings of the auxiliaries, are those of the longer form; each has one setting, and filling in writes it. How many of
+        all assignments are not kept."""
+        n, (last, count) = host.record.variables, ref.made_counts(host.record, host.images)
+        made, longer = list(ref.made_formula(*host.store)), list(ref.longer_formula(*host.store))
+        self.assertEqual((len(made), len(longer)), (count, ref.longer_counts(host.record, host.images)[1]))
+        found = truth.models(last, made)
+        kept = truth.beginnings(n, ref.longer_counts(host.record, host.images)[0], longer)
+        for number in range(1 << n):
+            a = {i: bool(number >> n - i & 1) for i in range(1, n + 1)}
+            full = ref.filled_in(host.record, host.images, a)
+            setting = sum(full[i] << last - i for i in range(n + 1, last + 1))
+            self.assertEqual(truth.members(truth.settings(found, number, last - n)), [setting] if number in kept else [], (host.store, number))
+        return (1 << n) - len(kept)
+
+    def test_remaining(self):
+        for name, row, xs in REMAINING:
+            with self.subTest(name):
+                self.assertEqual(ref.remaining_variables(dict(enumerate(row, 1))), xs)
+
+    def test_every_row(self):
+        """Every small row, and many larger ones, beside the test's own rule. Then how many rows of n variables leave k: where t counts even cycles, these are
+        the coefficients of (t + 1)(t + 3) .. (t + 2n - 1). The last factor has t for n staying, 1 for n to -n, and 2n - 2 for n put in after one of the others,
+        with signs that leave that cycle even or odd as it was."""
+        rng = random.Random(19)
+        for row in (dict(enumerate(p, 1)) for _, rows in small_rows() for p in rows):
+            self.assertEqual(ref.remaining_variables(row), [i for i in row if remains(row, i)], row)
+        for row in (random_row(rng, rng.randint(6, 60)) for _ in range(300)):
+            self.assertEqual(ref.remaining_variables(row), [i for i in row if remains(row, i)], row)
+        for n, counts in (1, [1, 1]), (2, [1, 4, 3]), (3, [1, 9, 23, 15]), (4, [1, 16, 86, 176, 105]):
+            found = Counter(len(ref.remaining_variables(dict(enumerate(p, 1)))) for p in signed_rows(n))
+            self.assertEqual([found[k] for k in range(n + 1)], counts)
+
+    def test_longer(self):
+        """The longer form is that of 01's listing, where the row has both moved variables."""
+        host = Host().with_rows((3, 2, 1))
+        self.assertEqual(list(ref.longer_formula(*host.store)), [[1, 2], [2, 3], [-1, 3], [-4, -1, 3], [-4, 1, -3], [4, 1, 3], [4, -1, -3], [-4, -3, 1]])
+        self.assertEqual((ref.longer_counts(host.record, host.images), ref.made_counts(host.record, host.images)), ((4, 8), (3, 3)))
+
+    def test_text(self):
+        for row, text in SHORTER:
+            self.assertEqual(ref.made_text(*Host(b"p cnf %d 0" % len(row)).with_rows(row).store), text, row)
+
+    def test_rows_on(self):
+        """Auxiliaries are numbered on from those that are left, past rows with one clause or none; each row loses variables of its own cycles."""
+        host = Host(b"p cnf 4 1\n1 2 3 4 0").with_rows((2, 3, 1, 4), (2, 1, 3, 4), (1, 2, 3, 4), (4, 2, 3, -1), (1, 2, -3, 4), (1, 3, 4, 2))
+        self.assertEqual(ref.made_counts(host.record, host.images), (4 + 1 + 1 + 1, 1 + 6 + 1 + 6 + 1 + 6))
+        self.assertEqual([ref.clause_line(c) for c in ref.made_formula(*host.store)][1:], [line + b" 0\n" for line in (
+            b"-1 2", b"-5 -1 2", b"-5 1 -2", b"5 1 2", b"5 -1 -2", b"-5 -2 3", b"-1 2", b"-1 4", b"-6 -1 4", b"-6 1 -4", b"6 1 4", b"6 -1 -4", b"-6 -4 -1",
+            b"-3 -3", b"-2 3", b"-7 -2 3", b"-7 2 -3", b"7 2 3", b"7 -2 -3", b"-7 -3 4")])
+        for a, setting in (("0000", "111"), ("0110", "011"), ("0010", "110"), ("0111", "001"), ("1010", "000"), ("1110", "101"), ("1100", "100"),
+                           ("0100", "010")):
+            self.assertEqual(fill_in(host, a), (("done", 1), words(a + setting)), a)
+
+    def test_filling_in(self):
+        for row, table in FILLED.items():
+            host = Host(b"p cnf %d 0" % len(row)).with_rows(row)
+            for a, setting, false in table:
+                self.assertEqual(fill_in(host, a), (("done", 1), words(a + setting)), (row, a))
+                self.assertEqual(ref.check(*host.store, words(a + setting)), ("done", false), (row, a))
+
+    def test_words(self):
+        """The made formula's words: 64 variables and no auxiliary, then one."""
+        for values, count, a in ((2, 1, 3), 1, "0" * 64), ((2, 3, 1), 2, "0" * 64 + "1"), ((2, -1, 3), 2, "0" * 64 + "1"), ((2, 1, -3), 2, "0" * 64 + "1"):
+            host = Host(b"p cnf 64 0").with_rows((*values, *range(4, 65)))
+            self.assertEqual(fill_in(host, "0" * 64, 2), (("done", count), [*words(a), TOP][:2]))
+            self.assertEqual(fill_in(host, "0" * 64, count - 1)[0], ("refused", 23, count))
+            self.assertEqual((ref.check(*host.store, words(a)), ref.check(*host.store, [0] * (3 - count))), (("done", 0), ("refused", 12, 0)))
+
+    def test_long(self):
+        """One cycle through 512 variables, on or back, even or odd: 511 are left, or all. The last clause is about the last x; from 511 it goes on to 512,
+        which is left out of an even one."""
+        for row, k, last in ((shifted(512, 1), 511, b"-1022 -511 512 0"), (shifted(512, -1), 511, b"-1022 -511 510 0"),
+                             (shifted(512, 1, (512,)), 512, b"-1023 -512 -1 0"), (shifted(512, -1, (1,)), 512, b"-1023 -512 511 0"),
+                             (shifted(512, -1, (1, 512)), 511, b"-1022 -511 510 0"), (shifted(512, 1, range(1, 513)), 511, b"-1022 -511 -512 0"),
+                             (shifted(512, 1, range(2, 513)), 512, b"-1023 -512 -1 0")):
+            host = Host(b"p cnf 512 0").with_rows(row)
+            lines = ref.made_text(*host.store).splitlines()
+            self.assertEqual((lines[0], len(lines), lines[-1]), (b"p cnf %d %d" % (511 + k, 6 * (k - 1)), 1 + 6 * (k - 1), last))
+        for by in 1, -1:
+            host = Host(b"p cnf 512 0").with_rows(shifted(512, by))
+            for a, kept in (("1" * 512, True), ("0" * 511 + "1", True), ("1" + "0" * 511, False), ("1" * 511 + "0", False), ("011" + "0" * 509, by > 0),
+                            ("10" * 255 + "11", by < 0)):
+                answer, out = fill_in(host, a, 16)
+                self.assertEqual((answer, ref.check(*host.store, out)[1] == 0), (("done", 16), kept))
+
+    def test_every_pair(self):
+        """Every two rows of three variables with signs, first without a formula, then some of them with one."""
+        rng, dropped, plain = random.Random(20), 0, Counter()
+        for pair in itertools.product(signed_rows(3), repeat=2):
+            dropped += self.both_forms(Host(b"p cnf 3 0").with_rows(*pair))
+            if rng.random() < .3:
+                text, clauses, _ = random_formula(rng, 3)
+                self.both_forms(Host(text).with_rows(*pair))
+                plain[all(place_of_11(clauses, dict(enumerate(row, 1))) == 0 for row in pair)] += clauses != []
+        self.assertGreater(dropped, 5000)
+        self.assertGreater(min(plain[symmetries] for symmetries in (False, True)), 20)
+
+    def test_lists(self):
+        """Lists of rows of up to five variables, with formulas; some of the rows are symmetries, and some of them have cycles of both sorts."""
+        rng, seen = random.Random(21), Counter()
+        for _ in range(600):
+            n = rng.choice((1, 2, 3, 4, 4, 5, 5))
+            text, clauses, row = random_formula(rng, n)
+            rows = [row if rng.random() < .3 else random_row(rng, n) for _ in range(rng.randint(1, 3))]
+            seen["dropped"] += self.both_forms(Host(text).with_rows(*(tuple(row.values()) for row in rows)))
+            for row in rows:
+                turns = {ref.turns_sign(row, cycle) for cycle in ref.cycles(row) if len(cycle) > 1 or row[cycle[0]] < 0}
+                seen.update([("symmetry", place_of_11(clauses, row) == 0), ("turns", len(turns))])
+                seen["left out"] += len(ref.moved_variables(row)) - len(ref.remaining_variables(row))
+        for sort, least in ("dropped", 2000), (("symmetry", True), 100), (("symmetry", False), 100), (("turns", 2), 50), ("left out", 500):
+            self.assertGreater(seen[sort], least, sort)
+
+
 class Demands(unittest.TestCase):
     """Demands 2 and 3 of the brief, brute force over all assignments of random small formulas."""
 
@@ -879,6 +1116,7 @@ class Demands(unittest.TestCase):
     def demand_3(self, rng, host, clauses, accepted):
         n = host.record.variables
         made, (total, count) = list(ref.made_formula(*host.store)), ref.made_counts(host.record, host.images)
+        longer, (longest, _) = list(ref.longer_formula(*host.store)), ref.longer_counts(host.record, host.images)
         self.assertEqual((made[:len(clauses)], len(made)), (clauses, count))
         plain = list(models(clauses, {}, list(range(1, n + 1))))
         as_tuple = lambda a: tuple(a[i] for i in range(1, n + 1))
@@ -886,7 +1124,7 @@ class Demands(unittest.TestCase):
         for a in plain:
             full = list(models(made, a, list(range(n + 1, total + 1))))
             lowered = any(as_tuple(carried(p, a)) < as_tuple(a) for p in accepted)
-            self.assertEqual(len(full), 0 if lowered else 1)
+            self.assertEqual((len(full), len(list(models(longer, a, list(range(n + 1, longest + 1)))))), (0, 0) if lowered else (1, 1))
             answer, out = fill_in(host, "".join("01"[a[i]] for i in sorted(a)), 4)
             self.assertEqual(answer, ("done", ref.word_count(total)))
             self.assertEqual(out[answer[1]:], [TOP] * (4 - answer[1]))
@@ -925,11 +1163,12 @@ class Demands(unittest.TestCase):
                 accepted = self.lent_identities(rng, host, accepted)
             self.demand_3(rng, host, clauses, accepted)
             for p in accepted:
-                moving = [i for i in p if p[i] != i]
-                seen.update(["held", "moving one" if len(moving) == 1 else "moving more" if moving else "identity"])
+                moving, k = [i for i in p if p[i] != i], len(ref.remaining_variables(p))
+                seen.update(["held", "moving one" if len(moving) == 1 else "moving more" if moving else "identity", ("k", min(k, 3), len(moving) - k)])
                 seen.update({"signed" for i in moving if p[i] < 0} | {"own negation" for i in moving if p[i] == -i})
         for sort, least in ("held", 500), ("moving one", 30), ("moving more", 300), ("identity", 100), ("idle", 100), ("signed", 200), ("own negation", 100), \
-                ("accepted over a pair", 100), ("refused after a pair", 50):
+                ("accepted over a pair", 100), ("refused after a pair", 50), (("k", 1, 1), 30), (("k", 2, 0), 30), (("k", 2, 1), 30), (("k", 2, 2), 10), \
+                (("k", 3, 0), 30), (("k", 3, 1), 30), (("k", 3, 2), 10):
             self.assertGreater(seen[sort], least, sort)
 
     def test_every_row_fills_in_uniquely(self):
@@ -947,7 +1186,7 @@ class Demands(unittest.TestCase):
                     self.assertEqual(full, [] if lowered else [ref.filled_in(host.record, host.images, a)])
 
     def test_trial_is_comparison(self):
-        """CR 2 and reading F9: every small row on every assignment."""
+        """CR 2 and reading F9: every small row on every assignment. A variable that CR 9 leaves out never decides."""
         for n, rows in small_rows():
             for p in rows:
                 row = dict(enumerate(p, 1))
@@ -955,7 +1194,7 @@ class Demands(unittest.TestCase):
                     a = dict(enumerate(bits, 1))
                     lowered, decided = ref.trial(row, a)
                     self.assertEqual((lowered, decided), (ref.lowers(row, a), ref.first_difference(a, ref.moved(row, a))))
-                    self.assertTrue(decided == 0 or row[decided] != decided)
+                    self.assertIn(decided, [0, *ref.remaining_variables(row)])
 
 
 if __name__ == "__main__":

@@ -16,7 +16,9 @@ def turned(chance, values):
 
 
 def permutation(chance, n):
-    """A permutation of 1..n as a list of images, half the time with signs, more often one that moves little."""
+    """A permutation of 1..n as a list of images, half the time with signs, more often one that moves little, at times a cycle or some."""
+    if chance.random() < 0.3:
+        return cycle(chance, n, chance.randint(0, n))
     images = list(range(1, n + 1))
     moving = chance.sample(range(n), chance.randint(0, n)) if chance.random() < 0.5 else chance.sample(range(n), min(n, 2))
     values = [images[i] for i in moving]
@@ -37,13 +39,39 @@ def moved(row, digits):
 
 
 SORTS = ["unsigned", "signed", "moves one", "own negation"]
+SHAPES = ["exchange", "even with signs", "odd", "both parities", "left out between"]
+CYCLES = [(size, odd) for size in range(1, 7) for odd in (False, True) if odd or size > 1]
+
+
+def remaining(row):
+    """The variables of a permutation that are left for its clauses."""
+    return reference.remaining_variables(dict(enumerate(row, 1)))
+
+
+def moving_cycles(row):
+    """The cycles of a permutation that move something, each with whether going round it turns the sign an odd number of times."""
+    images = dict(enumerate(row, 1))
+    return [(cycle, reference.turns_sign(images, cycle)) for cycle in reference.cycles(images) if len(cycle) > 1 or row[cycle[0] - 1] < 0]
 
 
 def sorts(row):
-    """Of which sorts a permutation is: it moves something and turns no sign, it turns signs, it moves one variable, it negates a variable and moves another."""
+    """Of which sorts a permutation is: it moves something and turns no sign, it turns signs, it moves one variable, it negates a variable and moves another.
+    Then its SHAPES, and the size of each of its cycles and whether it is odd, as in CYCLES."""
     moved = [(i, value) for i, value in enumerate(row, 1) if value != i]
     signed, negated = any(value < 0 for _, value in moved), any(value == -i for i, value in moved)
-    return [sort for sort, holds in zip(SORTS, [moved and not signed, signed, len(moved) == 1, negated and len(moved) > 1]) if holds]
+    found = [sort for sort, holds in zip(SORTS, [moved and not signed, signed, len(moved) == 1, negated and len(moved) > 1]) if holds]
+    return found + shapes(row) + [(len(cycle), odd) for cycle, odd in moving_cycles(row)]
+
+
+def shapes(row):
+    """Of which shapes a permutation is: it exchanges two variables, of which one is left; a cycle has signs and is even, a cycle of more than one variable is
+    odd, one is even and another odd; a variable is left out before one that is moved."""
+    cycles, left = moving_cycles(row), remaining(row)
+    moved = sorted(i for cycle, _ in cycles for i in cycle)
+    signed = any(not odd and any(row[i - 1] < 0 for i in cycle) for cycle, odd in cycles)
+    holds = [(len(moved), len(left)) == (2, 1), signed, any(odd and len(cycle) > 1 for cycle, odd in cycles), len({odd for _, odd in cycles}) == 2,
+             any(i not in left for i in moved[:-1])]
+    return [shape for shape, each in zip(SHAPES, holds) if each]
 
 
 def identity(row):
@@ -232,17 +260,40 @@ def damaged(chance, data):
     return bytes(data)
 
 
-def cycle(chance, n, size):
-    """A permutation of 1..n that moves so many variables: by a cycle through them, half the time with signs, at times with some of them negated instead."""
-    order = chance.sample(range(1, n + 1), size)
-    at = chance.choice([size, size, size, chance.randint(0, size)])
-    ring, negated = (order[:at], order[at:]) if at != 1 else ([], order)
-    after = dict(zip(ring, turned(chance, ring[1:] + ring[:1]))) | {i: -i for i in negated}
+def pieces(chance, order):
+    """A list in pieces: half the time whole; else cut at up to three places, in pairs, or all but a first piece alone."""
+    size = len(order)
+    if size < 2:
+        return [order] * size
+    some = sorted(chance.sample(range(1, size), min(size - 1, chance.randint(1, 3))))
+    cuts = chance.choice([[]] * 3 + [some, range(2, size, 2), range(chance.randint(1, size), size)])
+    return [order[start:end] for start, end in zip([0, *cuts], [*cuts, size])]
+
+
+def ring(chance, order, odd):
+    """The images of a cycle through these variables in this order. Going round it turns the sign an even or an odd number of times: mostly as seldom as can be,
+    else any number of times, or as often as can be."""
+    counts = range(odd, len(order) + 1, 2)
+    negative = chance.sample(order, chance.choice([counts[0], counts[0], chance.choice(counts), counts[-1]]))
+    return {i: -after if i in negative else after for i, after in zip(order, order[1:] + order[:1])}
+
+
+def cycle(chance, n, size, parities=(False, True)):
+    """A permutation of 1..n that moves so many variables, by one cycle or by several. Each is odd or even, as one of `parities`; a variable alone goes to its
+    negation, which is odd."""
+    after = {}
+    for piece in pieces(chance, chance.sample(range(1, n + 1), size)):
+        after |= ring(chance, piece, len(piece) == 1 or chance.choice(parities))
     return [after.get(i, i) for i in range(1, n + 1)]
 
 
+def shifted(n, by, negated=()):
+    """The permutation of 1..n that sends i to i + by, and past n to 1 again; negated are the images of these. By 1 and by -1 it is one cycle."""
+    return [((i - 1 + by) % n + 1) * (-1 if i in negated else 1) for i in range(1, n + 1)]
+
+
 def swaps(n):
-    """The permutation of 1..n, n even, that exchanges 1 and 2, 3 and -4, 5 and 6, 7 and -8, and so on."""
+    """The permutation of 1..n, n even, that exchanges 1 and 2, 3 and -4, 5 and 6, 7 and -8, and so on: cycles of two, all even, and none stays."""
     return [(-1 if i % 4 in (0, 3) else 1) * (i + 1 if i % 2 else i - 1) for i in range(1, n + 1)]
 
 
@@ -414,9 +465,11 @@ def edged(chance, n):
     last = chance.choice([edge for edge in (63, 64, 65, 127, 128, 129, 191, 192, 193) if edge >= n])
     rows = []
     while n > 1 and last > n:
-        size = min(n, last - n + 1, chance.randint(2, n))
-        rows.append(cycle(chance, n, size))
-        last -= size - 1
+        row = cycle(chance, n, min(n, last - n + 1, chance.randint(2, n)))
+        added = len(remaining(row)) - 1
+        if added > 0 or chance.random() < 0.1:
+            rows.append(row)
+            last -= added
     for _ in range(chance.randrange(3)):
         rows.insert(chance.randint(0, len(rows)), cycle(chance, n, min(n, 1)))
     return with_pairs(chance, n, [], rows), rows

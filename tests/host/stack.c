@@ -69,16 +69,20 @@ static void take_stored(void) {
     record = (symbreak_record){stored.variables, stored.clauses, stored.rows, stored.is_open};
 }
 
-/* A formula with all the limits reached that turning its variables by one keeps, and that turn's two lines. */
+/* The literals one after the other: 1, .., N, -1, .., -N, and from the start again. */
+static int literal(int at) { return at % (2 * N) < N ? at % N + 1 : -(at % N + 1); }
+
+/* A formula with all the limits reached that sending each literal to the next keeps, and the two lines of that. It is one cycle that turns the sign once, so no
+ * variable is left out. Of any N literals one after the other each clause has one, so all variables false is a model, and no row makes that smaller. */
 static void write_input(void) {
     char *at = text + sprintf(text, "p cnf %d %d\n", N, M);
-    for (int kind = 0; kind < M / N; kind++)
-        for (int i = 0; i < N; i++)
-            at += sprintf(at, "%d %d %d 0\n", i + 1, (i + 1 + kind) % N + 1, -((i + 100) % N + 1));
+    for (int kind = 0; kind < M / (2 * N); kind++)
+        for (int i = 0; i < 2 * N; i++)
+            at += sprintf(at, "%d %d %d 0\n", literal(i), literal(i + 2 * N / 3 + kind), literal(i + 4 * N / 3));
     char *name = names, *value = values;
     for (int i = 0; i < N; i++) {
-        name += sprintf(name, "%d ", i + 1);
-        value += sprintf(value, "%d ", (i + 1) % N + 1);
+        name += sprintf(name, "%d ", literal(i));
+        value += sprintf(value, "%d ", literal(i + 1));
     }
 }
 
@@ -100,7 +104,6 @@ int main(void) {
     assert(answer.refusal == 0 && memcmp(out, "p cnf 33216 200320\n", 19) == 0);
     measure("symbreak_clause", call_clause);
     assert(answer.refusal == 0);
-    memset(plain, 0xff, sizeof plain);
     measure("symbreak_fill_in", call_fill_in);
     assert(answer.refusal == 0 && answer.value == W);
     measure("symbreak_check", call_check);

@@ -90,8 +90,10 @@ class Random(Agree):
     """Every export on random stores, many of them damaged, with slices that are just long enough, or nearly."""
 
     def lent(self, chance, n, clauses, rows):
-        """A store with some of these rows, at times with identities, damaged or not. Where a call may only look at entries in use, more are said to follow."""
-        chosen = chance.choices(rows, k=chance.choice([0, 1, 1, 2, 2, 3, 64] if n < 10 else [0, 1, 2])) if rows else []
+        """A store with some of these rows and others, at times with identities, damaged or not. Where a call may only look at entries in use, more are said to
+        follow."""
+        rows = rows + [generate.cycle(chance, n, chance.randint(min(n, 1), n)) for _ in range(2)]
+        chosen = chance.choices(rows, k=chance.choice([0, 1, 1, 2, 2, 3, 64] if n < 10 else [0, 1, 2]))
         if chance.random() < 0.2:
             chosen = generate.with_identities(chance, n, chosen)
         numbers, *slices = generate.store(chance, n, clauses, chosen, chance.choice([1, 1, 1, 2, 2 ** 32, TOP]))
@@ -163,6 +165,8 @@ class Random(Agree):
             self.assertGreater(seen[sort], 5, sort)
         for sort in generate.SORTS:
             self.assertGreater(seen[sort], 200, sort)
+        for sort in [*generate.SHAPES, *generate.CYCLES]:
+            self.assertGreater(seen[sort], 20, sort)
         for sort in [*generate.JUDGED, *generate.IDLE, "idle without room", "idle beside 64 rows", "identity among 64"]:
             self.assertGreater(seen[sort], 5, sort)
         self.assertGreater(seen["identity held"], 50)
@@ -174,6 +178,10 @@ class Stores(test_host.Stores):
 
 class Withdrawals(test_host.Withdrawals):
     test_lists = test_damaged = None
+
+
+class Shorter(test_host.Shorter):
+    test_random = None
 
 
 class AlwaysTrue(test_host.AlwaysTrue):
@@ -196,7 +204,7 @@ def load_tests(loader, *_):
     """The guards, then all cases at the end of a page and again at the start of one."""
     suite = loader.loadTestsFromTestCase(Guards)
     for name, memory in [("AtEnd", END), ("AtStart", START)]:
-        for case in [Random, Stores, Withdrawals, test_host.Signs, AlwaysTrue, Idle, Keys, Compare, test_models.Worked, test_models.Refusals]:
+        for case in [Random, Stores, Withdrawals, test_host.Signs, Shorter, AlwaysTrue, Idle, Keys, Compare, test_models.Worked, test_models.Refusals]:
             placed = type(case.__name__ + name, (case,), {"setUp": lambda self, memory=memory: setattr(library, "memory", memory)})
             suite.addTests(loader.loadTestsFromTestCase(placed))
     return suite

@@ -113,8 +113,8 @@ class Stores(Agree):
             self.assertGreater(answers.get(refusal, 0), 5, refusal)
         for refusal in [None, 13, 20, 21, 23]:
             self.assertGreater(lines.get(refusal, 0), 5, refusal)
-        for sort, least in [*((sort, 50) for sort in generate.SORTS), *((sort, 30) for sort in generate.JUDGED), *((sort, 30) for sort in generate.IDLE),
-                            ("idle without room", 30), ("beside an identity", 200)]:
+        for sort, least in [*((sort, 50) for sort in generate.SORTS), *((sort, 30) for sort in [*generate.SHAPES, *generate.JUDGED, *generate.IDLE]),
+                            *((sort, 5) for sort in generate.CYCLES[:7]), ("idle without room", 20), ("beside an identity", 200)]:
             self.assertGreater(accepted[sort], least, sort)
 
     def count(self, answers, answer):
@@ -132,14 +132,14 @@ class Withdrawals(Agree):
         self.open(host, b"p cnf 3 1\n1 2 3 0\n")
         self.assertEqual(self.withdraw(host), ("refused", 30, 0))
         self.assertEqual(self.offer(host, b"1 2 3", b"2 3 1"), ("done",))
-        self.assertEqual(host.header(bytes(12))[1], b"p cnf 5 13\n\0")
-        self.assertEqual(self.offer(host, b"1 3", b"3 1"), ("refused", 23, 6))
+        self.assertEqual((host.header(bytes(12))[1], host.clause(7, bytes(12))[1]), (b"p cnf 4 7\n\0\0", b"-4 -2 3 0\n\0\0"))
+        self.assertEqual(self.offer(host, b"1 2 3", b"3 1 2"), ("refused", 23, 6))
         self.assertEqual(self.withdraw(host), ("done",))
         self.assertEqual((host.record.rows, host.images[:]), (0, [4, 6, 2, 7]))
         self.assertEqual(self.withdraw(host), ("refused", 30, 0))
-        self.assertEqual(self.offer(host, b"1 3", b"3 1"), ("done",))
-        self.assertEqual((host.record.rows, host.images[:]), (1, [6, 4, 2, 7]))
-        self.assertEqual((host.header(bytes(12))[1], host.clause(7, bytes(12))[1]), (b"p cnf 4 7\n\0\0", b"-4 -3 1 0\n\0\0"))
+        self.assertEqual(self.offer(host, b"1 2 3", b"3 1 2"), ("done",))
+        self.assertEqual((host.record.rows, host.images[:]), (1, [6, 2, 4, 7]))
+        self.assertEqual((host.header(bytes(12))[1], host.clause(7, bytes(12))[1]), (b"p cnf 4 7\n\0\0", b"-4 -2 1 0\n\0\0"))
 
     def test_order(self):
         """20 before 21 before 30, with every choice of reasons."""
@@ -218,6 +218,8 @@ class Withdrawals(Agree):
         for sort in ["done", 11, 23, 30, 31, "lent", ("left", 0), ("left", 1), ("left", 2), *generate.SORTS, *generate.JUDGED, *generate.IDLE,
                      *(("left after an idle line", some) for some in (False, True))]:
             self.assertGreater(seen[sort], 20, sort)
+        for sort in [*generate.SHAPES, *generate.CYCLES[:5]]:
+            self.assertGreater(seen[sort], 5, sort)
 
     def test_damaged(self):
         """Lists on stores that are damaged between two calls, at times after identities were put in."""
@@ -301,20 +303,22 @@ class Signs(Offers):
             self.assertEqual(self.offer(host, names, values), expected, text)
 
     def test_lines(self):
-        """The clauses of a row that moves one variable, of one that exchanges two with a sign, and of one that sends a variable to its own negation."""
+        """The clauses of a row that moves one variable, of one that exchanges two with a sign, and of two that send a variable to its own negation and exchange
+        the others, without a sign and with one."""
         host = fresh()
         self.open(host, b"p cnf 3 0")
-        for values in [b"-1 2 3", b"-2 1 3", b"3 -2 1"]:
+        for values in [b"-1 2 3", b"-2 1 3", b"3 -2 1", b"3 -2 -1"]:
             self.assertEqual(self.offer(host, b"1 2 3", values), ("done",))
-        expected = [b"p cnf 6 19", b"-1 -1 0", b"-1 -2 0", b"-4 -1 -2 0", b"-4 1 2 0", b"4 1 -2 0", b"4 -1 2 0", b"-4 -2 1 0",
+        expected = [b"p cnf 7 25", b"-1 -1 0", b"-1 -2 0", b"-4 -1 -2 0", b"-4 1 2 0", b"4 1 -2 0", b"4 -1 2 0", b"-4 -2 1 0",
                     b"-1 3 0", b"-5 -1 3 0", b"-5 1 -3 0", b"5 1 3 0", b"5 -1 -3 0", b"-5 -2 -2 0",
-                    b"-6 5 0", b"-6 -2 -2 0", b"-6 2 2 0", b"6 -5 2 -2 0", b"6 -5 -2 2 0", b"-6 -3 1 0"]
+                    b"-1 3 0", b"-6 -1 3 0", b"-6 1 -3 0", b"6 1 3 0", b"6 -1 -3 0", b"-6 -2 -2 0",
+                    b"-7 6 0", b"-7 -2 -2 0", b"-7 2 2 0", b"7 -6 2 -2 0", b"7 -6 -2 2 0", b"-7 -3 -1 0"]
         for q, line in enumerate(expected):
             for room in [len(line), len(line) + 1, 20]:
                 answer = self.clause(host, q, bytes(room)) if q else self.header(host, bytes(room))
                 self.assertEqual(answer, ("done", len(line) + 1) if room > len(line) else ("refused", 23, len(line) + 1), line)
             self.assertEqual((host.clause(q, bytes(20)) if q else host.header(bytes(20)))[1].rstrip(b"\0"), line + b"\n")
-        self.assertEqual(self.clause(host, 20, bytes(20)), ("refused", 13, 0))
+        self.assertEqual(self.clause(host, 26, bytes(20)), ("refused", 13, 0))
 
     def test_single_clauses(self):
         """64 rows that move one variable each: 64 clauses, and no auxiliary. A withdrawal takes one clause."""
@@ -326,6 +330,116 @@ class Signs(Offers):
         self.assertEqual((host.header(bytes(12))[1], host.clause(64, bytes(9))[1]), (b"p cnf 2 64\n\0", b"-2 -2 0\n\0"))
         self.assertEqual((self.withdraw(host), host.header(bytes(12))[1]), (("done",), b"p cnf 2 63\n\0"))
         self.assertEqual((self.clause(host, 63, bytes(9)), self.clause(host, 64, bytes(9))), (("done", 8), ("refused", 13, 0)))
+
+
+# Rows of a store without clauses, and the lines of its made formula without their zeros, worked out by hand.
+SHORTER = [
+    ("the identity", [[1, 2, 3]], [b"p cnf 3 0"]),
+    ("an exchange", [[2, 1]], [b"p cnf 2 1", b"-1 2"]),
+    ("an exchange with two signs", [[1, -3, -2]], [b"p cnf 3 1", b"-2 -3"]),
+    ("an exchange with one sign", [[2, -1]], [b"p cnf 3 6", b"-1 2", b"-3 -1 2", b"-3 1 -2", b"3 1 2", b"3 -1 -2", b"-3 -2 -1"]),
+    ("a variable to its negation", [[1, -2]], [b"p cnf 2 1", b"-2 -2"]),
+    ("three on", [[2, 3, 1]], [b"p cnf 4 6", b"-1 2", b"-4 -1 2", b"-4 1 -2", b"4 1 2", b"4 -1 -2", b"-4 -2 3"]),
+    ("three back", [[3, 1, 2]], [b"p cnf 4 6", b"-1 3", b"-4 -1 3", b"-4 1 -3", b"4 1 3", b"4 -1 -3", b"-4 -2 1"]),
+    ("three with two signs", [[-2, 3, -1]], [b"p cnf 4 6", b"-1 -2", b"-4 -1 -2", b"-4 1 2", b"4 1 -2", b"4 -1 2", b"-4 -2 3"]),
+    ("three with one sign", [[2, 3, -1]], [b"p cnf 5 12", b"-1 2", b"-4 -1 2", b"-4 1 -2", b"4 1 2", b"4 -1 -2", b"-4 -2 3",
+                                           b"-5 4", b"-5 -2 3", b"-5 2 -3", b"5 -4 2 3", b"5 -4 -2 -3", b"-5 -3 -1"]),
+    ("four, the largest in the middle", [[3, 4, 2, 1]], [b"p cnf 6 12", b"-1 3", b"-5 -1 3", b"-5 1 -3", b"5 1 3", b"5 -1 -3", b"-5 -2 4",
+                                                         b"-6 5", b"-6 -2 4", b"-6 2 -4", b"6 -5 2 4", b"6 -5 -2 -4", b"-6 -3 2"]),
+    ("two exchanges", [[2, 1, 4, 3]], [b"p cnf 5 6", b"-1 2", b"-5 -1 2", b"-5 1 -2", b"5 1 2", b"5 -1 -2", b"-5 -3 4"]),
+    ("two exchanges, the outer odd", [[4, 3, 2, -1]], [b"p cnf 6 12", b"-1 4", b"-5 -1 4", b"-5 1 -4", b"5 1 4", b"5 -1 -4", b"-5 -2 3",
+                                                       b"-6 5", b"-6 -2 3", b"-6 2 -3", b"6 -5 2 3", b"6 -5 -2 -3", b"-6 -4 -1"]),
+    ("two odd exchanges", [[-2, 1, 4, -3]], [b"p cnf 7 18", b"-1 -2", b"-5 -1 -2", b"-5 1 2", b"5 1 -2", b"5 -1 2", b"-5 -2 1",
+                                             b"-6 5", b"-6 -2 1", b"-6 2 -1", b"6 -5 2 1", b"6 -5 -2 -1", b"-6 -3 4",
+                                             b"-7 6", b"-7 -3 4", b"-7 3 -4", b"7 -6 3 4", b"7 -6 -3 -4", b"-7 -4 -3"]),
+    ("rows one after the other", [[2, 3, 1, 4], [2, 1, 3, 4], [1, 2, 3, 4], [4, 2, 3, -1], [1, 2, -3, 4], [1, 3, 4, 2]],
+     [b"p cnf 7 20", b"-1 2", b"-5 -1 2", b"-5 1 -2", b"5 1 2", b"5 -1 -2", b"-5 -2 3", b"-1 2",
+      b"-1 4", b"-6 -1 4", b"-6 1 -4", b"6 1 4", b"6 -1 -4", b"-6 -4 -1", b"-3 -3", b"-2 3", b"-7 -2 3", b"-7 2 -3", b"7 2 3", b"7 -2 -3", b"-7 -3 4"]),
+]
+
+
+def holding(n, clauses, rows):
+    """A lent store of these clauses and rows, which need be no symmetries."""
+    chance = random.Random(n)
+    numbers, *slices = generate.store(chance, n, clauses, rows, 1)
+    return library.Host(LIBRARY, reference.Record(*numbers), *slices)
+
+
+class Shorter(Agree):
+    """CR 9: of each even cycle the largest variable is left out."""
+
+    def lines(self, host, header, lines):
+        """The exports write this header and these lines into room that is just enough, and refuse less; there is no clause after the last."""
+        for q, line in enumerate([header, *lines]):
+            for room in [len(line), len(line) + 1]:
+                answer, out = host.clause(q, bytes(room)) if q else host.header(bytes(room))
+                self.assertEqual((answer, out), (("done", room), line + b"\n") if room > len(line) else (("refused", 23, room + 1), bytes(room)))
+        self.assertEqual(self.clause(host, len(lines) + 1, bytes(64)), ("refused", 13, 0))
+
+    def as_reference(self, chance, host, most=100):
+        """The header, the first and last clauses and some others are those of the reference."""
+        header, *lines = reference.made_text(*host.parts()).splitlines(True)
+        numbers = range(1, len(lines) + 1)
+        self.assertEqual(host.header(bytes(64))[1].rstrip(b"\0"), header)
+        for q in {*numbers[:12], *numbers[-12:], *chance.sample(numbers, min(most, len(lines)))}:
+            self.assertEqual(host.clause(q, bytes(64))[1].rstrip(b"\0"), lines[q - 1], (host.parts(), q))
+        self.assertEqual(host.clause(len(lines) + 1, bytes(64))[0], ("refused", 13, 0))
+        return [header, *lines]
+
+    def test_lines(self):
+        for name, rows, (header, *lines) in SHORTER:
+            with self.subTest(name):
+                self.lines(holding(len(rows[0]), [], rows), header, [line + b" 0" for line in lines])
+
+    def test_random(self):
+        """Made formulas with rows that are symmetries or not."""
+        chance, seen = random.Random(15), Counter()
+        for n in [*range(1, 13)] * 30 + [63, 64, 65, 130]:
+            rows = [generate.cycle(chance, n, chance.randint(1, n)) for _ in range(chance.randint(0, 3))] + [generate.permutation(chance, n)]
+            self.as_reference(chance, holding(n, generate.drawn(chance, n, 3)[0], rows))
+            seen.update(sort for row in rows for sort in generate.sorts(row))
+        for sort, least in [*((sort, 20) for sort in [*generate.SORTS, *generate.SHAPES]), *((sort, 10) for sort in generate.CYCLES)]:
+            self.assertGreater(seen[sort], least, sort)
+
+    def test_exchanges(self):
+        """64 exchanges: 64 clauses, and no auxiliary. A withdrawal takes one clause; in its place an exchange with a sign adds six, and an auxiliary."""
+        host = fresh(images=128)
+        self.open(host, b"p cnf 2 0")
+        for _ in range(64):
+            self.assertEqual(self.offer(host, b"1 2", b"2 1"), ("done",))
+        self.assertEqual((host.header(bytes(12))[1], host.clause(64, bytes(8))[1]), (b"p cnf 2 64\n\0", b"-1 2 0\n\0"))
+        self.assertEqual((self.withdraw(host), host.header(bytes(12))[1]), (("done",), b"p cnf 2 63\n\0"))
+        self.assertEqual((self.clause(host, 63, bytes(8)), self.clause(host, 64, bytes(8))), (("done", 7), ("refused", 13, 0)))
+        self.assertEqual((self.offer(host, b"1 2", b"2 -1"), host.header(bytes(12))[1]), (("done",), b"p cnf 3 69\n\0"))
+        self.assertEqual(host.clause(69, bytes(11))[1], b"-3 -2 -1 0\n")
+
+    def test_pairs(self):
+        """All variables exchanged in pairs: neighbours, the first and the last and so on, or each with the one half way on, also with all signs."""
+        for n in [2, 4, 6, 64, 128, 512]:
+            for row in [generate.swaps(n), list(range(n, 0, -1)), generate.shifted(n, n // 2), generate.shifted(n, n // 2, range(1, n + 1))]:
+                header = self.as_reference(random.Random(n), holding(n, [], [row]))[0]
+                self.assertEqual(header, b"p cnf %d %d\n" % ((n + n // 2 - 1, 6 * (n // 2 - 1)) if n > 2 else (2, 1)))
+
+    def test_long(self):
+        """One cycle through 512 variables, on or back, even or odd, with few signs or many: 511 are left, or all."""
+        for row, k, line in [(generate.shifted(512, 1), 511, b"-1022 -511 512 0\n"), (generate.shifted(512, -1), 511, b"-1022 -511 510 0\n"),
+                             (generate.shifted(512, 1, [512]), 512, b"-1023 -512 -1 0\n"), (generate.shifted(512, -1, [1]), 512, b"-1023 -512 511 0\n"),
+                             (generate.shifted(512, -1, [1, 512]), 511, b"-1022 -511 510 0\n"),
+                             (generate.shifted(512, 1, range(1, 513)), 511, b"-1022 -511 -512 0\n"),
+                             (generate.shifted(512, 1, range(2, 513)), 512, b"-1023 -512 -1 0\n")]:
+            self.assertEqual(self.as_reference(random.Random(k), holding(512, [], [row]))[::6 * (k - 1)], [b"p cnf %d %d\n" % (511 + k, 6 * (k - 1)), line])
+
+    def test_limits(self):
+        """64 rows of one cycle of 512 variables each: all odd, which gives the largest N and M, all even, or in turn. An odd row adds 511 auxiliaries, an even
+        one 510."""
+        odd, even = [generate.shifted(512, by, [512]) for by in range(1, 128, 2)], [generate.shifted(512, -by) for by in range(1, 128, 2)]
+        mixed = [each for pair in zip(odd[:32], even) for each in pair]
+        for rows, added, line in [(odd, 64 * 511, b"-33216 -512 -127 0\n"), (even, 64 * 510, b"-33152 -511 384 0\n"),
+                                  (mixed, 32 * 511 + 32 * 510, b"-33184 -511 448 0\n")]:
+            host, count = holding(512, [[1, -1, 512]] * 4096, rows), 4096 + 6 * added
+            self.assertEqual((self.header(host, bytes(19)), host.header(bytes(19))[1]), (("done", 19), b"p cnf %d %d\n" % (512 + added, count)))
+            self.assertEqual((self.clause(host, count, bytes(len(line))), host.clause(count, bytes(len(line)))[1]), (("done", len(line)), line))
+            self.assertEqual(self.clause(host, count + 1, bytes(20)), ("refused", 13, 0))
 
 
 EXCHANGED, NEGATED = (b"1 2", b"2 1"), (b"2", b"-2")
@@ -378,12 +492,12 @@ class AlwaysTrue(Agree):
         host = fresh()
         self.open(host, b"p cnf 3 5\n3 -3 3 0 1 2 0 -1 -1 1 2 0 2 3 0 -2 1 2 0")
         self.assertEqual(self.offer(host, b"1 3", b"3 1"), ("done",))
-        lines = [b"p cnf 4 11", b"3 -3 3 0", b"1 2 0", b"-1 -1 1 2 0", b"2 3 0", b"-2 1 2 0", b"-1 3 0", b"-4 -1 3 0", b"-4 1 -3 0", b"4 1 3 0"]
+        lines = [b"p cnf 3 6", b"3 -3 3 0", b"1 2 0", b"-1 -1 1 2 0", b"2 3 0", b"-2 1 2 0", b"-1 3 0"]
         for q, line in enumerate(lines):
             self.assertEqual(self.clause(host, q, bytes(20)) if q else self.header(host, bytes(20)), ("done", len(line) + 1))
             self.assertEqual((host.clause(q, bytes(20)) if q else host.header(bytes(20)))[1].rstrip(b"\0"), line + b"\n")
-        for digits, clause in [("0000", 2), ("1000", 4), ("0100", 9), ("0101", 0), ("0110", 0), ("1100", 6), ("1111", 0), ("0111", 8)]:
-            self.assertEqual(self.check(host, [int(digits, 2) << 60]), ("done", clause), digits)
+        for digits, clause in [("000", 2), ("001", 2), ("010", 0), ("011", 0), ("100", 4), ("101", 0), ("110", 6), ("111", 0)]:
+            self.assertEqual(self.check(host, [int(digits, 2) << 61]), ("done", clause), digits)
 
     def test_wrong_keys(self):
         """A wrong key of such a clause is 21 in an offer, though the clause is not judged, and in a withdrawal."""
@@ -476,7 +590,7 @@ IDLE_LINES = [
     ("a value more, negated", b"1 2", b"1 2 -1", ("refused", 10, 4)),
 ]
 
-STILL, SWAP = [2, 4, 6], [6, 4, 2]
+STILL, SWAP, TURN = [2, 4, 6], [6, 4, 2], [4, 6, 2]
 
 
 def lent(rows, is_open=True, literals=(2, 4, 4, 6), past=3):
@@ -533,10 +647,10 @@ class Idle(Offers):
 
     def test_lent(self):
         """Identities in a lent store are well formed and add nothing; offers and withdrawals go on beside them."""
-        for rows in [[STILL], [STILL, SWAP], [SWAP, STILL], [STILL, SWAP, STILL, STILL], [SWAP, STILL, SWAP]]:
+        for rows in [[STILL], [STILL, SWAP], [SWAP, STILL], [STILL, TURN], [STILL, SWAP, STILL, STILL, TURN], [TURN, STILL, SWAP, STILL, TURN]]:
             host, without = lent(rows), lent([row for row in rows if row != STILL])
             self.assertEqual(host.header(bytes(20)), without.header(bytes(20)))
-            for q in range(1, 16):
+            for q in range(1, 17):
                 self.assertEqual(host.clause(q, bytes(20)), without.clause(q, bytes(20)))
             self.assertEqual((self.offer(host, b"1 3", b"1 3"), self.offer(host, b"1 3", b"3 1")), (("refused", 31, 0), ("done",)))
             self.assertEqual((host.record.rows, host.images[:]), (len(rows) + 1, sum(rows, []) + SWAP))
@@ -550,7 +664,7 @@ class Idle(Offers):
                 self.assertEqual(self.offer(host, b"1 3", values), ("refused", 22, 0))
             self.assertEqual((self.withdraw(host), self.offer(host, b"1 3", b"1 3")), (("done",), ("refused", 31, 0)))
             self.assertEqual((self.offer(host, b"1 3", b"3 1"), self.offer(host, b"1 3", b"1 3")), (("done",), ("refused", 22, 0)))
-            self.assertEqual((host.record.rows, host.header(bytes(13))[1].rstrip(b"\0")), (64, b"p cnf %d %d\n" % (68 - identities, 392 - 6 * identities)))
+            self.assertEqual((host.record.rows, host.header(bytes(13))[1].rstrip(b"\0")), (64, b"p cnf 3 %d\n" % (67 - identities)))
         empty = library.Host(LIBRARY, reference.Record(0, 0, 64, True), [], [], [], [])
         self.assertEqual((self.offer(empty, b"1", b"1"), self.withdraw(empty)), (("refused", 22, 0), ("done",)))
         self.assertEqual((self.offer(empty, b"1", b"1"), empty.record.rows), (("refused", 8, 0), 63))

@@ -81,7 +81,7 @@ class Manual(unittest.TestCase):
             "`symbreak_descend` with two words": lambda: host.descend([0, 0], 5)[0],
             "`symbreak_fill_in` of the word 1": lambda: host.fill_in([1], [0] * 9)[0],
             "`symbreak_compare` of one word and two": lambda: library.compare(library.load(), [0], [0, 0]),
-            "`symbreak_clause` with q = 9, where M is 8": lambda: host.clause(9, zeros)[0],
+            "`symbreak_clause` with q = 4, where M is 3": lambda: host.clause(4, zeros)[0],
             "`symbreak_efficiency` of 5, 4, 3": lambda: library.said(library.load().symbreak_efficiency(5, 4, 3)),
             "`symbreak_efficiency` of 4, 4, 4": lambda: library.said(library.load().symbreak_efficiency(4, 4, 4)),
             "`symbreak_header` with `symbreak_new_record()`": lambda: self.header(host, record=CLOSED),

@@ -1,5 +1,4 @@
 """Filling in, checking and descent against the reference, and demand 3 by brute force: fixed seeds. Run by tests/run."""
-import functools
 import itertools
 import operator
 import random
@@ -9,6 +8,7 @@ from collections import Counter
 import generate
 import library
 import reference
+import truth
 from agree import LIBRARY, Agree, held, idle, judged, lend_identities
 from library import TOP
 
@@ -45,9 +45,11 @@ class Worked(Agree):
 
     def test_identities(self):
         """Beside identities in a lent store all is as it is without them; where only they are held, nothing is lowered and nothing added."""
-        still, swap = [2, 4, 6], [6, 4, 2]
+        still, swap, turn = [2, 4, 6], [6, 4, 2], [4, 6, 2]
         for rows in [still + swap, swap + still, still * 31 + swap + still * 32]:
             self.listing(stored(record=reference.Record(3, 2, len(rows) // 3, True), images=rows))
+        for rows in [still + turn, turn + still, still * 31 + turn + still * 32]:
+            self.turn(stored(record=reference.Record(3, 2, len(rows) // 3, True), images=rows))
         for count in [1, 2, 64]:
             host = stored(record=reference.Record(3, 2, count, True), images=still * count)
             for digits, clause in [("110", 0), ("011", 0), ("101", 0), ("001", 1), ("100", 2)]:
@@ -60,14 +62,22 @@ class Worked(Agree):
         for start, limit, expected, end in [("110", TOP, ("done", "settled", 1), "011"), ("110", 1, ("done", "settled", 1), "011"),
                                             ("110", 0, ("done", "spent", 0), "110"), ("011", 0, ("done", "settled", 0), "011")]:
             self.assertEqual(self.descend(host, packed(start), limit), (expected, packed(end)), (start, limit))
-        for plain, filled in [("101", "1011"), ("011", "0110")]:
-            self.assertEqual(self.fill_in(host, packed(plain), [5]), (("done", 1), packed(filled)))
-            self.assertEqual(self.fill_in(host, packed(plain), [5, 6, 7]), (("done", 1), packed(filled) + [6, 7]))
-        for full, clause in [("1011", 0), ("0110", 0), ("0010", 1), ("0100", 6), ("1111", 0), ("1100", 3), ("0111", 5), ("1010", 7)]:
+        for plain in ["101", "011"]:
+            self.assertEqual(self.fill_in(host, packed(plain), [5]), (("done", 1), packed(plain)))
+            self.assertEqual(self.fill_in(host, packed(plain), [5, 6, 7]), (("done", 1), packed(plain) + [6, 7]))
+        for a, clause in [("000", 1), ("001", 1), ("010", 0), ("011", 0), ("100", 2), ("101", 0), ("110", 3), ("111", 0)]:
+            self.assertEqual(self.check(host, packed(a)), ("done", clause), a)
+
+    def turn(self, host):
+        """The listing's formula with the row `2 3 1`, which leaves 1 and 2 and is no symmetry: an auxiliary says whether they agree."""
+        for plain, filled in [("000", "0001"), ("001", "0011"), ("010", "0100"), ("011", "0110"), ("100", "1000"), ("110", "1101"), ("111", "1111")]:
+            self.assertEqual(self.fill_in(host, packed(plain), [5, 6]), (("done", 1), packed(filled) + [6]))
+        for full, clause in [("0110", 0), ("0010", 1), ("1000", 2), ("1010", 3), ("0111", 5), ("0101", 5), ("1110", 7), ("1101", 8), ("1111", 0)]:
             self.assertEqual(self.check(host, packed(full)), ("done", clause), full)
 
     def test_turn(self):
         """A moved by p has, at variable i, the value A(p(i)): not moved by the inverse, and not once only."""
+        self.turn(stored(images=[4, 6, 2]))
         host = offered(b"p cnf 3 1\n1 2 3 0\n", b"1 2 3", b"2 3 1")
         for start, limit, expected, end in [("100", TOP, ("done", "settled", 1), "001"), ("010", TOP, ("done", "settled", 0), "010"),
                                             ("010", 0, ("done", "settled", 0), "010"), ("000", TOP, ("done", "settled", 0), "000")]:
@@ -77,8 +87,10 @@ class Worked(Agree):
         """Each A with what it fills in as, the first clause that is false then, the moves of its descent and its end."""
         for values, table in [(b"-1 2 3", [("000", "", 0, 0, "000"), ("011", "", 0, 0, "011"), ("100", "", 1, 1, "000"), ("111", "", 1, 1, "011")]),
                               (b"-2 1 3", [("000", "0", 0, 0, "000"), ("010", "1", 6, 1, "000"), ("100", "1", 0, 0, "100"), ("110", "0", 1, 2, "000")]),
-                              (b"3 -2 1", [("000", "10", 0, 0, "000"), ("001", "00", 0, 0, "001"), ("010", "10", 6, 1, "000"), ("011", "00", 0, 0, "011"),
-                                           ("100", "00", 1, 1, "011"), ("101", "10", 0, 0, "101"), ("110", "00", 1, 1, "001"), ("111", "10", 6, 1, "101")])]:
+                              (b"3 -2 1", [("000", "1", 0, 0, "000"), ("001", "0", 0, 0, "001"), ("010", "1", 6, 1, "000"), ("011", "0", 0, 0, "011"),
+                                           ("100", "0", 1, 1, "011"), ("101", "1", 0, 0, "101"), ("110", "0", 1, 1, "001"), ("111", "1", 6, 1, "101")]),
+                              (b"3 -2 -1", [("000", "10", 0, 0, "000"), ("001", "00", 0, 0, "001"), ("010", "10", 6, 1, "001"), ("011", "00", 0, 0, "011"),
+                                            ("100", "00", 1, 2, "001"), ("101", "10", 0, 0, "101"), ("110", "00", 1, 1, "000"), ("111", "10", 6, 3, "001")])]:
             host = offered(b"p cnf 3 0", b"1 2 3", values)
             for a, setting, false, moves, end in table:
                 self.assertEqual(self.fill_in(host, packed(a), [5, 6]), (("done", 1), packed(a + setting) + [6]))
@@ -88,6 +100,33 @@ class Worked(Agree):
         self.assertEqual(self.descend(turned, packed("11"), 1), (("done", "spent", 1), packed("01")))
         for full, clause in [("000", 0), ("001", 3), ("010", 4), ("011", 6), ("100", 5), ("101", 0), ("110", 1), ("111", 1)]:
             self.assertEqual(self.check(turned, packed(full)), ("done", clause), full)
+
+    def test_cycles(self):
+        """Rows, then each A with what it fills in as and the first clause that is false then: only the variables that are left count."""
+        for row, table in [([2, 1, -3], [("000", "1", 0), ("001", "1", 6), ("010", "0", 0), ("100", "0", 1), ("110", "1", 0), ("111", "1", 6)]),
+                           ([-2, 1, -3], [("000", "00", 0), ("001", "00", 0), ("010", "10", 6), ("011", "10", 6), ("100", "10", 0), ("101", "10", 0),
+                                          ("110", "00", 1)]),
+                           ([2, 1, 4, 3], [("0000", "1", 0), ("0001", "1", 0), ("0010", "1", 6), ("0110", "0", 0), ("1010", "0", 1), ("1101", "1", 0),
+                                           ("1110", "1", 6)]),
+                           ([4, 3, 2, -1], [("0000", "11", 0), ("0001", "00", 0), ("0010", "10", 0), ("0100", "10", 6), ("0110", "11", 0), ("1001", "11", 12),
+                                            ("1011", "10", 0), ("1101", "10", 6), ("1111", "11", 12), ("1000", "00", 1)])]:
+            host = lent(len(row), [], [row])
+            for a, setting, false in table:
+                self.assertEqual(self.fill_in(host, packed(a), [5, 6]), (("done", 1), packed(a + setting) + [6]), (row, a))
+                self.assertEqual(self.check(host, packed(a + setting)), ("done", false), (row, a))
+
+    def test_long(self):
+        """One cycle through 512 variables, on or back, even or odd: 1,022 variables in 16 words, or 1,023. Each A with the first clause that is false then."""
+        on, back, odd = generate.shifted(512, 1), generate.shifted(512, -1), generate.shifted(512, 1, [512])
+        for row, cases in [(on, [("1" * 512, 0), ("0" * 511 + "1", 0), ("1" + "0" * 511, 1), ("1" * 511 + "0", 6 * 510), ("0" + "1" * 511, 0)]),
+                           (back, [("1" * 512, 0), ("0" * 511 + "1", 0), ("1" * 511 + "0", 1), ("0" * 510 + "10", 6 * 510), ("011" + "0" * 509, 6)]),
+                           (odd, [("0" * 512, 0), ("1" * 512, 6 * 511), ("0" * 511 + "1", 0), ("1" * 511 + "0", 6 * 510), ("1" + "0" * 511, 1)])]:
+            host, n = lent(512, [], [row]), 1023 if row is odd else 1022
+            for a, false in cases:
+                answer, filled = self.fill_in(host, packed(a), [3] * 17)
+                self.assertEqual((answer, filled[16]), (("done", 16), 3))
+                self.assertEqual(self.check(host, filled[:16]), ("done", false), (row[:2], a))
+                self.assertEqual(self.check(host, flipped(filled[:16], n + 1)), ("refused", 12, 0))
 
     def test_no_symmetry(self):
         """A lent row that is no symmetry: the plain formula has a model, and the made one none."""
@@ -103,13 +142,13 @@ class Worked(Agree):
         self.assertEqual(self.check(opened(b"p cnf 0 1\n0"), []), ("done", 1))
 
     def test_largest(self):
-        """64 rows that move all of 512 variables, many with signs: assignments of 519 words, the last one full."""
+        """64 rows of 512 variables in odd cycles, so that none is left out: assignments of 519 words, the last one full."""
         chance = random.Random(9)
         host = opened(b"p cnf 512 1\n" + b" ".join(b"%d -%d" % (i, i) for i in range(1, 513)) + b" 0", 1024, 1, 64 * 512)
         names = b" ".join(b"%d" % i for i in range(1, 513))
-        for _ in range(64):
-            self.assertEqual(host.offer(names, b" ".join(b"%d" % i for i in generate.cycle(chance, 512, 512))), ("done",))
-        self.assertGreater(sum(min(row) < 0 for row in held(host)), 20)
+        for row in [generate.shifted(512, 1, [512])] + [generate.cycle(chance, 512, 512, (True,)) for _ in range(63)]:
+            self.assertEqual(host.offer(names, b" ".join(b"%d" % i for i in row)), ("done",))
+        self.assertGreater(sum(len(generate.moving_cycles(row)) == 1 for row in held(host)), 20)
         kept = packed("0" * 504 + "1" * 8)
         self.assertEqual(self.fill_in(host, kept, [3] * 518), (("refused", 23, 519), [3] * 518))
         answer, filled = self.fill_in(host, kept, [3] * 520)
@@ -118,7 +157,7 @@ class Worked(Agree):
         self.assertEqual(self.check(host, filled[:519]), ("done", 0))
         self.assertEqual(self.check(host, flipped(filled[:519], 33216)), ("done", 1 + 6 * 32704 - 5))
         self.assertEqual(self.descend(host, kept, 0), (("done", "settled", 0), kept))
-        self.assertEqual(self.descend(host, packed("1" * 8 + "0" * 504), 3)[0], ("done", "spent", 3))
+        self.assertEqual(self.descend(host, packed("1" * 512), 3), (("done", "spent", 3), packed("1" * 509 + "000")))  # by the first row
 
 
 STORE = {"record": reference.Record(3, 2, 1, True), "literals": [2, 4, 4, 6], "ends": [2, 4], "images": [6, 4, 2]}
@@ -155,6 +194,12 @@ BADLY_FORMED = [
 ]
 
 
+def lent(n, clauses, rows):
+    """A store lent with these clauses and rows, which need be no symmetries, and something in entries past those in use."""
+    numbers, *slices = generate.store(random.Random(n), n, clauses, rows, 1)
+    return library.Host(LIBRARY, reference.Record(*numbers), *slices)
+
+
 def stored(**changed):
     """That store with parts changed, and with its clauses' keys if these are not among them."""
     parts = STORE | changed
@@ -176,7 +221,7 @@ class Refusals(Agree):
     def test_open(self):
         """Every other flag is open."""
         for flag in [True, 2, 2 ** 32, TOP]:
-            self.assertEqual(self.check(stored(record=reference.Record(3, 2, 1, flag)), packed("1011")), ("done", 0))
+            self.assertEqual(self.check(stored(record=reference.Record(3, 2, 1, flag)), packed("101")), ("done", 0))
 
     def test_badly_formed(self):
         for name, damage in BADLY_FORMED:
@@ -188,15 +233,18 @@ class Refusals(Agree):
         for reasons in itertools.product([False, True], repeat=4):
             closed, damaged, misfit, short = reasons
             host = stored(record=reference.Record(3, 2, 1, not closed), images=[6, 4, 4] if damaged else [6, 4, 2])
-            plain, full = ([], []) if misfit else (packed("110"), packed("1100"))
+            plain = [] if misfit else packed("110")
             numbers = [number for number, holds in zip([20, 21, 12], reasons) if holds]
-            self.assertEqual(refusal(self.check(host, full)), (numbers + [None])[0])
+            self.assertEqual(refusal(self.check(host, plain)), (numbers + [None])[0])
             self.assertEqual(refusal(self.descend(host, plain, 0)[0]), (numbers + [None])[0])
             self.assertEqual(refusal(self.fill_in(host, plain, [] if short else [9])[0]), (numbers + [23] * short + [None])[0])
 
     def test_form(self):
-        """Assignments of 64 variables, 65 with the auxiliary: the first for filling in and descent, the second for checking."""
+        """Assignments of 64 variables, 65 with the auxiliary: the first for filling in and descent, the second for checking. An exchange has no auxiliary."""
         host = offered(b"p cnf 64 0", b"1 2", b"2 1")
+        self.assertEqual(self.fill_in(host, [1], [4, 5]), (("done", 1), [1, 5]))
+        self.assertEqual((self.check(host, [1]), self.check(host, [1, 0])), (("done", 0), ("refused", 12, 0)))
+        host = offered(b"p cnf 64 0", b"1 2 3", b"2 3 1")
         plain, made = packed("0" * 63 + "1"), packed("0" * 63 + "11")
         self.assertEqual(self.fill_in(host, plain, [4, 5]), (("done", 2), made))
         self.assertEqual(self.check(host, made), ("done", 0))
@@ -259,7 +307,7 @@ def flipped(a, i):
 
 def places(row):
     """The place among six of each clause that a row adds."""
-    count = sum(image != i for i, image in enumerate(row, 1))
+    count = len(generate.remaining(row))
     return ["alone"] if count == 1 else [1, 2, 3, 4, 5, 6] * (count - 1)
 
 
@@ -316,7 +364,7 @@ class Random(Agree):
         return host, last
 
     def test_random(self):
-        chance = random.Random(14)
+        chance = random.Random(15)
         seen = Counter()
         for n in SIZES * 10:
             clauses, rows = generate.family(chance, n)
@@ -330,7 +378,8 @@ class Random(Agree):
                 self.checks(chance, host, n, last, filled, seen)
         for sort in WANTED:
             self.assertGreater(seen[sort], 5, sort)
-        for sort, least in [*((sort, 50) for sort in generate.SORTS), *((sort, 10) for sort in generate.JUDGED), ("idle", 50), ("identity held", 30)]:
+        for sort, least in [*((sort, 50) for sort in generate.SORTS), *((sort, 30) for sort in generate.SHAPES),
+                            *((sort, 5) for sort in generate.CYCLES), *((sort, 10) for sort in generate.JUDGED), ("idle", 50), ("identity held", 30)]:
             self.assertGreater(seen[sort], least, sort)
 
 
@@ -339,16 +388,6 @@ def made_formula(host):
     variables, count = map(int, host.header(bytes(32))[1].split()[2:4])
     lines = [host.clause(q, bytes(256))[1].split(b"\n")[0] for q in range(1, count + 1)]
     return variables, [[int(word) for word in line.split()][:-1] for line in lines]
-
-
-def models(n, clauses):
-    """The models of a formula over 1..n, as a number that has bit A set when A's binary digits are one."""
-    every = (1 << (1 << n)) - 1
-    without = [every // ((1 << (1 << n - i)) + 1) for i in range(1, n + 1)]
-    found = every
-    for clause in clauses:
-        found &= functools.reduce(operator.or_, (every ^ without[literal - 1] if literal > 0 else without[-literal - 1] for literal in clause), 0)
-    return found
 
 
 def first_false(clauses, digits):
@@ -404,24 +443,27 @@ class Demand3(unittest.TestCase):
         self.assertEqual(host.check(full), ("done", 0), digits)
 
     def kept(self, host, n, rows, plain, full):
-        """The kept models: those that no row makes smaller, each with the one setting that filling in writes."""
+        """The kept models: those that no row makes smaller, each with the one setting that filling in writes; and they are those of the longer form."""
         auxiliaries = last_number(host) - n
         kept = set()
         for number in range(1 << n):
-            digits, settings = numbered(number, n), full >> (number << auxiliaries) & (1 << (1 << auxiliaries)) - 1
+            digits, settings = numbered(number, n), truth.settings(full, number, auxiliaries)
             smaller = any(generate.moved(row, digits) < digits for row in rows)
             self.assertEqual(settings != 0, plain >> number & 1 == 1 and not smaller, digits)
             if settings:
                 kept.add(digits)
                 self.assertEqual(settings & settings - 1, 0, digits)
                 self.filled(host, digits, numbered(settings.bit_length() - 1, auxiliaries))
+        longest, _ = reference.longer_counts(host.record, host.images[:])
+        longer = truth.beginnings(n, longest, reference.longer_formula(*host.parts()))
+        self.assertEqual(kept, {numbered(number, n) for number in longer})
         return kept
 
     def whole(self, host, n, clauses, rows, seen):
         """All of demand 3 for one store and the accepted permutations of its list."""
         last, made = made_formula(host)
         self.assertEqual(made[:len(clauses)], clauses)
-        plain, full = models(n, clauses), models(last, made)
+        plain, full = truth.models(n, clauses), truth.models(last, made)
         self.assertEqual(full != 0, plain != 0)
         kept = self.kept(host, n, rows, plain, full)
         for number in range(1 << n):
@@ -469,7 +511,26 @@ class Demand3(unittest.TestCase):
                             ("false added", 2000), (("moves", 0), 1000), (("moves", 1), 1000), (("moves", 2), 300), (("moves", 3), 100),
                             (("rows", 1, True), 20), (("rows", 2, True), 80), (("taken back", True), 100), (("taken back", False), 20),
                             (("idle line", True), 50), (("idle line", False), 30), ("identity held", 50), *((sort, 20) for sort in generate.IDLE),
-                            *((sort, 50) for sort in generate.SORTS), *((sort, 10) for sort in generate.JUDGED)]:
+                            *((sort, 50) for sort in generate.SORTS), *((sort, 20) for sort in generate.SHAPES),
+                            *((sort, 5) for sort in generate.CYCLES[:7]), *((sort, 10) for sort in generate.JUDGED)]:
+            self.assertGreater(seen[sort], least, sort)
+
+    def test_lent(self):
+        """Lent rows, most of them no symmetries, so that all models may be dropped: kept are those that no row makes smaller, as by the longer form."""
+        chance, seen = random.Random(16), Counter()
+        for _ in range(400):
+            n = chance.choice([1, 2, 3, 4, 4, 5, 5])
+            clauses = generate.drawn(chance, n, 6)[0]
+            rows = [generate.cycle(chance, n, chance.randint(1, n)) for _ in range(chance.randint(0, 2))] + [generate.permutation(chance, n)]
+            host = lent(n, clauses, rows)
+            (last, made), plain = made_formula(host), truth.models(n, clauses)
+            kept = self.kept(host, n, rows, plain, truth.models(last, made))
+            seen["kept"] += len(kept)
+            seen["dropped"] += bin(plain).count("1") - len(kept)
+            seen["all dropped"] += plain != 0 and not kept
+            seen.update(sort for row in rows for sort in [*generate.sorts(row), ("symmetry", is_symmetry(clauses, row))])
+        for sort, least in [("kept", 300), ("dropped", 500), ("all dropped", 5), (("symmetry", False), 100), (("symmetry", True), 50),
+                            *((sort, 15) for sort in [*generate.SORTS, *generate.SHAPES]), *((sort, 5) for sort in generate.CYCLES[:9])]:
             self.assertGreater(seen[sort], least, sort)
 
     def test_always_true(self):

@@ -26,15 +26,10 @@ LISTING = b"""p cnf 3 2
 1 3
 3 1
 """
-MADE = b"""p cnf 4 8
+MADE = b"""p cnf 3 3
 1 2 0
 2 3 0
 -1 3 0
--4 -1 3 0
--4 1 -3 0
-4 1 3 0
-4 -1 -3 0
--4 -3 1 0
 """
 PLAIN = b"p cnf 3 2\n1 2 0\n2 3 0\n"
 FULL = b"p cnf 1 1\n" + b"1 " * 12288
@@ -153,14 +148,14 @@ MISSING = [
 
 @functools.cache
 def most_rows():
-    """512 variables, clauses of those that stay, and 64 permutations that each move all names."""
+    """512 variables, clauses of those that stay, and 64 permutations that each move all names by one cycle, every second one with a sign."""
     chance = random.Random(8)
     names = [*range(1, 100), *range(338, 513)]
     clauses = [[chance.choice([-1, 1]) * chance.randint(100, 337) for _ in range(3)] for _ in range(20)]
     lines = [b"p cnf 512 20", *(b"%d %d %d 0" % tuple(clause) for clause in clauses), b"%", b" ".join(b"%d" % name for name in names)]
-    for _ in range(64):
+    for row in range(64):
         round = chance.sample(names, len(names))
-        values = dict(zip(round, round[1:] + round[:1]))
+        values = dict(zip(round, round[1:] + [-round[0] if row % 2 else round[0]]))
         lines.append(b" ".join(b"%d" % values[name] for name in names))
     return b"\n".join(lines)
 
@@ -233,38 +228,58 @@ class Program(unittest.TestCase):
         self.prints(b"c %\ncp cnf 9 9\r\np\tcnf  3 \t2 \n\n1\n2 0 2\t3 0\n \n%\n\t3  1 \n1\t3", MADE)
         self.prints(b"p cnf 3 2\nc\n1\nc % 0\n2 0 2\t3\ncnf 9 9\r\n0\nc 1\n%\n3 1\n1 3", MADE)
         self.prints(b"p cnf 2 6\n0 1 1 0 1 -1 0 0 2 2 2 0 -2 2 0\n%\n2 1\n1 2\n",
-                    b"p cnf 3 12\n0\n1 1 0\n1 -1 0\n0\n2 2 2 0\n-2 2 0\n-1 2 0\n-3 -1 2 0\n-3 1 -2 0\n3 1 2 0\n3 -1 -2 0\n-3 -2 1 0\n")
+                    b"p cnf 2 7\n0\n1 1 0\n1 -1 0\n0\n2 2 2 0\n-2 2 0\n-1 2 0\n")
         self.prints(b"p cnf 0 0\n%\n", b"p cnf 0 0\n")
 
     def test_two_rows(self):
-        """Each row's clauses from its own side, with auxiliaries numbered on."""
+        """Each row's clauses from its own side, with auxiliaries numbered on. The largest of three or four is left out, and is still the image of another."""
         self.prints(b"p cnf 3 1\n1 2 3 0\n%\n1 2 3\n2 3 1\n3 1 2\n",
-                    b"p cnf 7 25\n1 2 3 0\n"
+                    b"p cnf 5 13\n1 2 3 0\n"
                     b"-1 2 0\n-4 -1 2 0\n-4 1 -2 0\n4 1 2 0\n4 -1 -2 0\n-4 -2 3 0\n"
-                    b"-5 4 0\n-5 -2 3 0\n-5 2 -3 0\n5 -4 2 3 0\n5 -4 -2 -3 0\n-5 -3 1 0\n"
-                    b"-1 3 0\n-6 -1 3 0\n-6 1 -3 0\n6 1 3 0\n6 -1 -3 0\n-6 -2 1 0\n"
-                    b"-7 6 0\n-7 -2 1 0\n-7 2 -1 0\n7 -6 2 1 0\n7 -6 -2 -1 0\n-7 -3 2 0\n")
+                    b"-1 3 0\n-5 -1 3 0\n-5 1 -3 0\n5 1 3 0\n5 -1 -3 0\n-5 -2 1 0\n")
+        self.prints(b"p cnf 4 1\n1 2 3 4 0\n%\n1 2 3 4\n2 3 4 1\n4 1 2 3\n",
+                    b"p cnf 8 25\n1 2 3 4 0\n"
+                    b"-1 2 0\n-5 -1 2 0\n-5 1 -2 0\n5 1 2 0\n5 -1 -2 0\n-5 -2 3 0\n"
+                    b"-6 5 0\n-6 -2 3 0\n-6 2 -3 0\n6 -5 2 3 0\n6 -5 -2 -3 0\n-6 -3 4 0\n"
+                    b"-1 4 0\n-7 -1 4 0\n-7 1 -4 0\n7 1 4 0\n7 -1 -4 0\n-7 -2 1 0\n"
+                    b"-8 7 0\n-8 -2 1 0\n-8 2 -1 0\n8 -7 2 1 0\n8 -7 -2 -1 0\n-8 -3 2 0\n")
 
     def test_signs(self):
-        """A row that moves one variable adds one clause; then an exchange with a sign, and a variable that is sent to its own negation."""
+        """A row that moves one variable adds one clause; then an exchange with a sign, and a variable that is sent to its own negation beside an exchange,
+        without a sign and with one; and an exchange with two signs, which adds one clause."""
         square = b"1 2 3 0\n1 -2 3 0\n-1 -2 3 0\n-1 2 3 0\n"
         self.prints(b"p cnf 3 4\n" + square + b"%\n1 2\n-1 2\n-2 1\n",
                     b"p cnf 4 11\n" + square + b"-1 -1 0\n-1 -2 0\n-4 -1 -2 0\n-4 1 2 0\n4 1 -2 0\n4 -1 2 0\n-4 -2 1 0\n")
-        self.prints(b"p cnf 3 0\n%\n1 2 3\n3 -2 1\n",
-                    b"p cnf 5 12\n-1 3 0\n-4 -1 3 0\n-4 1 -3 0\n4 1 3 0\n4 -1 -3 0\n-4 -2 -2 0\n"
-                    b"-5 4 0\n-5 -2 -2 0\n-5 2 2 0\n5 -4 2 -2 0\n5 -4 -2 2 0\n-5 -3 1 0\n")
-        self.prints(b"p cnf 2 1\n-1 2 0\n%\n1 2\n-2 -1\n", b"p cnf 3 7\n-1 2 0\n-1 -2 0\n-3 -1 -2 0\n-3 1 2 0\n3 1 -2 0\n3 -1 2 0\n-3 -2 -1 0\n")
+        self.prints(b"p cnf 3 0\n%\n1 2 3\n3 -2 1\n3 -2 -1\n",
+                    b"p cnf 6 18\n-1 3 0\n-4 -1 3 0\n-4 1 -3 0\n4 1 3 0\n4 -1 -3 0\n-4 -2 -2 0\n"
+                    b"-1 3 0\n-5 -1 3 0\n-5 1 -3 0\n5 1 3 0\n5 -1 -3 0\n-5 -2 -2 0\n"
+                    b"-6 5 0\n-6 -2 -2 0\n-6 2 2 0\n6 -5 2 -2 0\n6 -5 -2 2 0\n-6 -3 -1 0\n")
+        self.prints(b"p cnf 2 1\n-1 2 0\n%\n1 2\n-2 -1\n", b"p cnf 2 2\n-1 2 0\n-1 -2 0\n")
+
+    def test_cycles(self):
+        """Rows of several cycles: two exchanges, then with the second odd, then the outer of two odd, so that 1, 2 and 4 are left."""
+        self.prints(b"p cnf 4 0\n%\n1 2 3 4\n2 1 4 3\n-2 -1 4 -3\n4 3 2 -1\n",
+                    b"p cnf 9 30\n-1 2 0\n-5 -1 2 0\n-5 1 -2 0\n5 1 2 0\n5 -1 -2 0\n-5 -3 4 0\n"
+                    b"-1 -2 0\n-6 -1 -2 0\n-6 1 2 0\n6 1 -2 0\n6 -1 2 0\n-6 -3 4 0\n-7 6 0\n-7 -3 4 0\n-7 3 -4 0\n7 -6 3 4 0\n7 -6 -3 -4 0\n-7 -4 -3 0\n"
+                    b"-1 4 0\n-8 -1 4 0\n-8 1 -4 0\n8 1 4 0\n8 -1 -4 0\n-8 -2 3 0\n-9 8 0\n-9 -2 3 0\n-9 2 -3 0\n9 -8 2 3 0\n9 -8 -2 -3 0\n-9 -4 -1 0\n")
+
+    def test_long(self):
+        """One cycle through 512 variables, on and back, even and odd: the even ones leave 511. Then all of them exchanged in pairs, which leaves 256."""
+        rows = [generate.shifted(512, by, negated) for by in (1, -1) for negated in ([], [1], [1, 512])] + [generate.swaps(512), list(range(512, 0, -1))]
+        printed = self.agree(b"p cnf 512 0\n%%\n%b\n" % b"\n".join(b" ".join(b"%d" % i for i in row) for row in [range(1, 513), *rows]))
+        added = 2 * (510 + 511 + 510) + 2 * 255
+        self.assertTrue(printed.startswith(b"p cnf %d %d\n" % (512 + added, 6 * added)))
 
     def test_always_true(self):
         """A clause with a pair is written out where it stands, and offers are judged without it: the listing with one more clause, and others."""
         self.prints(b"p cnf 3 3\n1 2 0\n1 -1 2 0\n2 3 0\n%\n1 3\n3 1\n",
-                    b"p cnf 4 9\n1 2 0\n1 -1 2 0\n2 3 0\n-1 3 0\n-4 -1 3 0\n-4 1 -3 0\n4 1 3 0\n4 -1 -3 0\n-4 -3 1 0\n")
-        plain, added = b"1 2 0\n2 3 0\n", b"-1 3 0\n-4 -1 3 0\n-4 1 -3 0\n4 1 3 0\n4 -1 -3 0\n-4 -3 1 0\n"
+                    b"p cnf 3 4\n1 2 0\n1 -1 2 0\n2 3 0\n-1 3 0\n")
+        plain = b"1 2 0\n2 3 0\n"
         for clauses in [b"1 -1 2 0\n" + plain, plain + b"2 1 -1 0\n", b"3 2 -3 3 0\n" + plain + b"-1 1 0\n", b"1 -1 0\n0\n3 1 -1 0\n", b"1 2 3 -1 0\n"]:
             count = clauses.count(b"\n")
-            self.prints(b"p cnf 3 %d\n%b%%\n1 3\n3 1\n" % (count, clauses), b"p cnf 4 %d\n%b%b" % (count + 6, clauses, added))
+            self.prints(b"p cnf 3 %d\n%b%%\n1 3\n3 1\n" % (count, clauses), b"p cnf 3 %d\n%b-1 3 0\n" % (count + 1, clauses))
         self.prints(b"p cnf 8 3\n5 -5 8 0\n5 6 0\n7 -8 -7 0\n%\n5 6 8\n6 5 8\n5 6 -8\n",
-                    b"p cnf 9 10\n5 -5 8 0\n5 6 0\n7 -8 -7 0\n-5 6 0\n-9 -5 6 0\n-9 5 -6 0\n9 5 6 0\n9 -5 -6 0\n-9 -6 5 0\n-8 -8 0\n")
+                    b"p cnf 8 5\n5 -5 8 0\n5 6 0\n7 -8 -7 0\n-5 6 0\n-8 -8 0\n")
 
     def test_over_pairs(self):
         """Clauses that a permutation keeps, but for some with a pair: all are written out, or the first of the others whose image is missing is told."""
@@ -286,12 +301,13 @@ class Program(unittest.TestCase):
     def test_rows_held(self):
         """Row 64 is held, the next offer is 22 and not looked at."""
         cycles = b"p cnf 3 1\n1 2 3 0\n%\n1 2 3\n" + b"2 3 1\n" * 63
-        self.assertTrue(self.agree(cycles + b"2 3 1\n").startswith(b"p cnf 131 769\n1 2 3 0\n"))
+        self.assertTrue(self.agree(cycles + b"2 3 1\n").startswith(b"p cnf 67 385\n1 2 3 0\n"))
         self.prints(cycles + b"x\n", b"refused 9 0\n")
         self.prints(cycles + b"1 2 3\n", b"refused 31 0\n")
         for line in [b"2 3 1", b"1 2 3", b"x", b""]:
             self.prints(cycles + b"2 3 1\n" + line + b"\n", b"refused 22 0\n")
         self.prints(b"p cnf 2 0\n%\n2\n" + b"-2\n" * 64, b"p cnf 2 64\n" + b"-2 -2 0\n" * 64)
+        self.prints(b"p cnf 2 0\n%\n2 1\n" + b"1 2\n" * 64, b"p cnf 2 64\n" + b"-1 2 0\n" * 64)
 
     def test_random(self):
         refused, accepted, sorts = Counter(), Counter(), Counter()
@@ -318,14 +334,15 @@ class Program(unittest.TestCase):
             self.assertGreater(refused[number], 5, number)
         self.assertGreater(sum(times for rows, times in accepted.items() if rows >= 1), 200)
         self.assertGreater(sum(times for rows, times in accepted.items() if rows >= 2), 100)
-        for sort, least in [*((sort, 50) for sort in generate.SORTS), *((sort, 10) for sort in [*generate.JUDGED, *generate.IDLE])]:
+        for sort, least in [*((sort, 50) for sort in generate.SORTS), *((sort, 10) for sort in [*generate.SHAPES, *generate.JUDGED, *generate.IDLE]),
+                            *((sort, 5) for sort in generate.CYCLES[:9])]:
             self.assertGreater(sorts[sort], least, sort)
 
     def test_many_rows(self):
-        """64 rows that move all of 256 variables, many with signs: 97,920 clauses."""
+        """64 rows that move all of 256 variables by odd cycles, so that none is left out: 97,920 clauses."""
         chance = random.Random(6)
-        rows = [list(range(1, 257))] + [generate.cycle(chance, 256, 256) for _ in range(64)]
-        data = b"p cnf 256 0\n%\n" + b"".join(b" ".join(b"%d" % i for i in row) + b"\n" for row in rows)
+        rows = [generate.cycle(chance, 256, 256, (True,)) for _ in range(32)] + [generate.shifted(256, by, [256]) for by in range(1, 65, 2)]
+        data = b"p cnf 256 0\n%\n" + b"".join(b" ".join(b"%d" % i for i in row) + b"\n" for row in [range(1, 257), *rows])
         self.assertLessEqual(len(data), 65536)
         self.assertTrue(self.agree(data).startswith(b"p cnf 16576 97920\n"))
 
@@ -334,7 +351,8 @@ class Program(unittest.TestCase):
         data = most_rows()
         self.assertLessEqual(len(data), 65536)
         self.assertEqual(len(generate.accepted_rows(data)), 64)
-        self.assertTrue(self.agree(data).startswith(b"p cnf 17984 104852\n"))
+        added = 32 * 272 + 32 * 273  # of 274 names the even rows leave 273
+        self.assertTrue(self.agree(data).startswith(b"p cnf %d %d\n" % (512 + added, 20 + 6 * added)))
 
     def test_many_clauses(self):
         """4,096 clauses over 512 variables with two rows that move all; only the last one's image missing; 12,288 literals."""
@@ -344,7 +362,7 @@ class Program(unittest.TestCase):
         clauses = [each for clause in halves for each in (clause, generate.image(clause, swaps))]
         names, values = (b" ".join(b"%d" % i for i in row) for row in (range(1, 513), swaps))
         text = b"p cnf 512 4096\n" + b"".join(b"%d %d 0\n" % tuple(clause) for clause in clauses)
-        self.assertTrue(self.agree(b"\n".join([text + b"%", names, values, values])).startswith(b"p cnf 1534 10228\n"))
+        self.assertTrue(self.agree(b"\n".join([text + b"%", names, values, values])).startswith(b"p cnf 1022 7156\n"))  # each row adds 255 auxiliaries
         self.prints(b"p cnf 2 4096\n" + b"1 2 0\n" * 4095 + b"1 0\n%\n1 2\n2 1\n", b"refused 11 4096\n")
         self.prints(b"p cnf 2 4096\n" + b"1 -1 0\n" * 4095 + b"1 0\n%\n1 2\n2 1\n", b"refused 11 4096\n")
         self.prints(FULL + b"0\n%\n", FULL + b"0\n")

@@ -3,10 +3,18 @@ import functools
 import operator
 
 
+def false(n, i):
+    """The assignments of 1..n in which variable i is false: as many ones as there are settings of what follows i, as many zeros, and so on."""
+    size = 1 << n - i
+    found = (1 << size) - 1
+    for doubled in range(1, i):
+        found |= found << (size << doubled)
+    return found
+
+
 def models(n, clauses):
     """The models of a formula over 1..n."""
-    every = (1 << (1 << n)) - 1
-    without = [every // ((1 << (1 << n - i)) + 1) for i in range(1, n + 1)]
+    every, without = (1 << (1 << n)) - 1, [false(n, i) for i in range(1, n + 1)]
     found = every
     for clause in clauses:
         found &= functools.reduce(operator.or_, (every ^ without[literal - 1] if literal > 0 else without[-literal - 1] for literal in clause), 0)

@@ -1,4 +1,5 @@
 """Each export beside the reference: the same answer, and the same in every entry of all that was lent."""
+import random
 import unittest
 
 import generate
@@ -16,6 +17,12 @@ def told(record):
 def held(host):
     """The rows of a well formed store, as lists of images."""
     return [list(row.values()) for row in reference.rows_of(host.record, host.images[:])]
+
+
+def holding(n, clauses, rows):
+    """A store lent with these clauses and rows, which need be no symmetries, at times with something past those in use."""
+    numbers, *slices = generate.store(random.Random(n), n, clauses, rows, 1)
+    return library.Host(LIBRARY, reference.Record(*numbers), *slices)
 
 
 def judged(host, names, values, answer):

@@ -292,6 +292,12 @@ def shifted(n, by, negated=()):
     return [((i - 1 + by) % n + 1) * (-1 if i in negated else 1) for i in range(1, n + 1)]
 
 
+def every_row(n):
+    """All permutations of 1..n, with every choice of signs."""
+    turns = list(itertools.product([1, -1], repeat=n))
+    return [list(map(operator.mul, sizes, turn)) for sizes in itertools.permutations(range(1, n + 1)) for turn in turns]
+
+
 def swaps(n):
     """The permutation of 1..n, n even, that exchanges 1 and 2, 3 and -4, 5 and 6, 7 and -8, and so on: cycles of two, all even, and none stays."""
     return [(-1 if i % 4 in (0, 3) else 1) * (i + 1 if i % 2 else i - 1) for i in range(1, n + 1)]

@@ -181,7 +181,7 @@ class Withdrawals(test_host.Withdrawals):
 
 
 class Shorter(test_host.Shorter):
-    test_random = None
+    test_every_row = test_random = None
 
 
 class AlwaysTrue(test_host.AlwaysTrue):

@@ -9,7 +9,7 @@ import generate
 import library
 import reference
 import tables
-from agree import LIBRARY, Agree, held, idle, judged, lend_identities
+from agree import LIBRARY, Agree, held, holding, idle, judged, lend_identities
 from library import TOP
 
 LISTING = b"p cnf 3 2\n1 2 0\n2 3 0\n"
@@ -358,13 +358,6 @@ SHORTER = [
 ]
 
 
-def holding(n, clauses, rows):
-    """A lent store of these clauses and rows, which need be no symmetries."""
-    chance = random.Random(n)
-    numbers, *slices = generate.store(chance, n, clauses, rows, 1)
-    return library.Host(LIBRARY, reference.Record(*numbers), *slices)
-
-
 class Shorter(Agree):
     """CR 9: of each even cycle the largest variable is left out."""
 
@@ -390,6 +383,12 @@ class Shorter(Agree):
         for name, rows, (header, *lines) in SHORTER:
             with self.subTest(name):
                 self.lines(holding(len(rows[0]), [], rows), header, [line + b" 0" for line in lines])
+
+    def test_every_row(self):
+        """Every row of up to four variables, with every choice of signs."""
+        chance = random.Random(17)
+        for row in (row for n in range(1, 5) for row in generate.every_row(n)):
+            self.as_reference(chance, holding(len(row), [], [row]))
 
     def test_random(self):
         """Made formulas with rows that are symmetries or not."""

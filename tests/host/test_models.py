@@ -1,6 +1,5 @@
 """Filling in, checking and descent against the reference, and demand 3 by brute force: fixed seeds. Run by tests/run."""
 import itertools
-import operator
 import random
 import unittest
 from collections import Counter
@@ -9,7 +8,7 @@ import generate
 import library
 import reference
 import truth
-from agree import LIBRARY, Agree, held, idle, judged, lend_identities
+from agree import LIBRARY, Agree, held, holding, idle, judged, lend_identities
 from library import TOP
 
 
@@ -110,7 +109,7 @@ class Worked(Agree):
                                            ("1110", "1", 6)]),
                            ([4, 3, 2, -1], [("0000", "11", 0), ("0001", "00", 0), ("0010", "10", 0), ("0100", "10", 6), ("0110", "11", 0), ("1001", "11", 12),
                                             ("1011", "10", 0), ("1101", "10", 6), ("1111", "11", 12), ("1000", "00", 1)])]:
-            host = lent(len(row), [], [row])
+            host = holding(len(row), [], [row])
             for a, setting, false in table:
                 self.assertEqual(self.fill_in(host, packed(a), [5, 6]), (("done", 1), packed(a + setting) + [6]), (row, a))
                 self.assertEqual(self.check(host, packed(a + setting)), ("done", false), (row, a))
@@ -121,7 +120,7 @@ class Worked(Agree):
         for row, cases in [(on, [("1" * 512, 0), ("0" * 511 + "1", 0), ("1" + "0" * 511, 1), ("1" * 511 + "0", 6 * 510), ("0" + "1" * 511, 0)]),
                            (back, [("1" * 512, 0), ("0" * 511 + "1", 0), ("1" * 511 + "0", 1), ("0" * 510 + "10", 6 * 510), ("011" + "0" * 509, 6)]),
                            (odd, [("0" * 512, 0), ("1" * 512, 6 * 511), ("0" * 511 + "1", 0), ("1" * 511 + "0", 6 * 510), ("1" + "0" * 511, 1)])]:
-            host, n = lent(512, [], [row]), 1023 if row is odd else 1022
+            host, n = holding(512, [], [row]), 1023 if row is odd else 1022
             for a, false in cases:
                 answer, filled = self.fill_in(host, packed(a), [3] * 17)
                 self.assertEqual((answer, filled[16]), (("done", 16), 3))
@@ -192,12 +191,6 @@ BADLY_FORMED = [
     ("a key wrong by a bit", {"keys": [KEYS[0], KEYS[1] ^ 2 ** 40]}),
     ("a literal more than its key", {"literals": [2, 4, 2, 4, 6], "ends": [2, 5], "keys": KEYS}),
 ]
-
-
-def lent(n, clauses, rows):
-    """A store lent with these clauses and rows, which need be no symmetries, and something in entries past those in use."""
-    numbers, *slices = generate.store(random.Random(n), n, clauses, rows, 1)
-    return library.Host(LIBRARY, reference.Record(*numbers), *slices)
 
 
 def stored(**changed):
@@ -406,12 +399,6 @@ def numbered(number, n):
     return format(number, "b").rjust(n, "0")[-n:] if n else ""
 
 
-def every_row(n):
-    """All permutations of 1..n, with every choice of signs."""
-    turns = list(itertools.product([1, -1], repeat=n))
-    return [list(map(operator.mul, sizes, turn)) for sizes in itertools.permutations(range(1, n + 1)) for turn in turns]
-
-
 def is_symmetry(clauses, row):
     """The reference finds that a permutation is a symmetry."""
     try:
@@ -522,7 +509,7 @@ class Demand3(unittest.TestCase):
             n = chance.choice([1, 2, 3, 4, 4, 5, 5])
             clauses = generate.drawn(chance, n, 6)[0]
             rows = [generate.cycle(chance, n, chance.randint(1, n)) for _ in range(chance.randint(0, 2))] + [generate.permutation(chance, n)]
-            host = lent(n, clauses, rows)
+            host = holding(n, clauses, rows)
             (last, made), plain = made_formula(host), truth.models(n, clauses)
             kept = self.kept(host, n, rows, plain, truth.models(last, made))
             seen["kept"] += len(kept)
@@ -540,7 +527,7 @@ class Demand3(unittest.TestCase):
         for _ in range(80):
             n = chance.choice([2, 3, 3, 4, 4])
             _, clauses, _ = generate.over_pairs(chance, n)
-            rows = every_row(n)
+            rows = generate.every_row(n)
             kept = [row for row in rows if is_symmetry(clauses, row)]
             offers = chance.choices(kept, k=chance.randint(1, 3)) + chance.choices(rows, k=2)
             chance.shuffle(offers)
@@ -564,7 +551,7 @@ class Demand3(unittest.TestCase):
         only the identity is turned back; it is lent then."""
         chance, seen = random.Random(12), Counter()
         for n in [1, 2, 3]:
-            rows = every_row(n)
+            rows = generate.every_row(n)
             for pair in ([row, chance.choice(rows)] for row in rows):
                 host = opened(b"p cnf %d 0" % n)
                 for count, row in enumerate(pair, 1):

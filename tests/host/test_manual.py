@@ -139,7 +139,7 @@ class Manual(unittest.TestCase):
     def test_filling_in(self):
         table = rows(section("Filling in and checking"))
         self.assertEqual(len(table), 3)
-        host = opened(LISTING, (b"1 3", b"3 1"))
+        host = opened(b"p cnf 3 1\n1 2 3 0\n", (b"1 2 3", b"2 3 1"))
         for plain, filled, checked in table:
             self.assertEqual(host.fill_in(words(plain), [0]), (("done", 1), words(filled)))
             self.assertEqual(host.check(words(filled)), ("done", int(checked.split(":")[0])))

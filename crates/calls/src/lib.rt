@@ -286,14 +286,7 @@ pub fn check(
     if !packed::is_assignment(a, total.variables) {
         return Finding::Refused(Refusal::BadAssignment);
     }
-    Finding::Found(checking::first_false(
-        counts,
-        literals,
-        ends,
-        images,
-        total.clauses,
-        a,
-    ))
+    Finding::Found(checking::first_false(counts, literals, ends, images, total.clauses, a))
 }
 
 // Moves an assignment of 1..n by the first row that makes it smaller, as often as the limit allows and one does.

@@ -43,15 +43,7 @@ pub fn fill(images: &[u16], rows: usize, n: usize, a: &[u64], out: &mut [u64]) -
     valuation::tabulate(a, n, &mut values);
     let plain = valuation::write(&values, n, out);
     let mut marks = [false; Record::MAX_VARIABLES];
-    let all = fill_rows(
-        images,
-        rows,
-        n,
-        &values,
-        &mut marks[..n],
-        out,
-        plain,
-    );
+    let all = fill_rows(images, rows, n, &values, &mut marks[..n], out, plain);
     writer::finish(out, all)
 }
 
@@ -73,26 +65,14 @@ fn fill_rows(
     let mut taken = w;
     let mut r = 0;
     while r < rows {
-        taken = fill_row(
-            store::rows::row(images, n, r),
-            values,
-            marks,
-            out,
-            taken,
-        );
+        taken = fill_row(store::rows::row(images, n, r), values, marks, out, taken);
         r += 1;
     }
     taken
 }
 
 // The values of a row's auxiliaries, one for each x but the last: true as far as the x agree with their images, false from there on.
-fn fill_row(
-    row: &[u16],
-    values: &[bool],
-    marks: &mut [bool],
-    out: &mut [u64],
-    w: Writer,
-) -> Writer
+fn fill_row(row: &[u16], values: &[bool], marks: &mut [bool], out: &mut [u64], w: Writer) -> Writer
     requires { let n = length (now row) in
         ⌜ (n ≤ maxVariables) × (isRow n (now row) ≡ true) × Table n (now values) × (length (now marks) ≡ n)
         × WriterRoom w (auxiliaries (now row)) (now out) ⌝ }

@@ -29,14 +29,14 @@ module _ (row : List ℕ) (i : ℕ) where
 
   stays-at : getD row i 0 ≡ 2 * (i + 1) → stays row (i + 1) ≡ true
   unfolding stays
-  stays-at e = rw index (eq-eqb (getD row i 0) (2 * (i + 1)) e)
+  stays-at e = rw (index, eq-eqb (getD row i 0) (2 * (i + 1)) e)
 
   pub moved-past : i < length row → getD row i 0 ≡ 2 * (i + 1) → butAt (stays row) i row ≡ butAt (stays row) (i + 1) row
   moved-past h e = walk-past (stays row) row i h (stays-at e)
 
   pub moved-here : i < length row → (getD row i 0 ≡ 2 * (i + 1) → ⊥) → butAt (stays row) i row ≡ pairAt row i ∷ butAt (stays row) (i + 1) row
   unfolding stays
-  moved-here h e = walk-here (stays row) row i h (rw index (ne-eqb (getD row i 0) (2 * (i + 1)) e))
+  moved-here h e = walk-here (stays row) row i h (rw (index, ne-eqb (getD row i 0) (2 * (i + 1)) e))
 
 -- a variable that stays has its own value for its image
 stays-idle : (row : List ℕ) (a : List Bool) → Idle (valueOf a) (stays row) 1 row

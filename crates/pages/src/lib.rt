@@ -44,15 +44,7 @@ pub fn fill(
 {
     let mut marks = [false; Record::MAX_VARIABLES];
     let n = counts.variables;
-    fill_lines(
-        counts,
-        literals,
-        ends,
-        images,
-        cursor,
-        &mut marks[..n],
-        out,
-    )
+    fill_lines(counts, literals, ends, images, cursor, &mut marks[..n], out)
 }
 
 // The same, with room for the marks of a row.
@@ -77,16 +69,7 @@ fn fill_lines(
     let mut at = 0;
     let mut next = cursor;
     loop {
-        let line = add_line(
-            counts,
-            literals,
-            ends,
-            images,
-            next,
-            marks,
-            out,
-            at,
-        );
+        let line = add_line(counts, literals, ends, images, next, marks, out, at);
         if line.at == at {
             return Page {
                 bytes: at,

@@ -286,7 +286,17 @@ pub fn check(
     if !packed::is_assignment(a, total.variables) {
         return Finding::Refused(Refusal::BadAssignment);
     }
-    Finding::Found(checking::first_false(counts, literals, ends, images, total.clauses, a))
+    let mut marks = [false; Record::MAX_VARIABLES];
+    let n = counts.variables;
+    Finding::Found(checking::first_false(
+        counts,
+        literals,
+        ends,
+        images,
+        total.clauses,
+        a,
+        &mut marks[..n],
+    ))
 }
 
 // Moves an assignment of 1..n by the first row that makes it smaller, as often as the limit allows and one does.

@@ -40,7 +40,8 @@ pub enum Checked {
     Falsified(usize),
 }
 
-// The first clause of the made formula that an assignment of 1..N makes false; how many clauses there are is known.
+// The first clause of the made formula that an assignment of 1..N makes false; how many clauses there are is known, and there is room for the
+// marks of a row.
 pub fn first_false(
     counts: Record,
     literals: &[u16],
@@ -48,54 +49,24 @@ pub fn first_false(
     images: &[u16],
     clauses: usize,
     a: &[u64],
+    marks: &mut [bool],
 ) -> Checked
     requires { let s = stored counts literals ends images in
-        ⌜ (isFormed s ≡ true) × (isAssignment (variablesOf s) (now a) ≡ true) × (clauses ≡ clausesOf s) ⌝ }
+        ⌜ (isFormed s ≡ true) × (isAssignment (variablesOf s) (now a) ≡ true) × (clauses ≡ clausesOf s) × (length (now marks) ≡ counts .variables) ⌝ }
     ensures { λ r. let s = stored counts (literals .entry) (ends .entry) (images .entry) in
         ⌜ verdictOf r ≡ firstFalse s (now (a .entry)) ⌝ }
 {
     let mut values = [false; valuation::TABLE];
-    let mut marks = [false; Record::MAX_VARIABLES];
-    let n = counts.variables;
-    valuation::tabulate(a, n, &mut values);
-    try_clauses(
-        counts,
-        literals,
-        ends,
-        images,
-        clauses,
-        a,
-        &values,
-        &mut marks[..n],
-    )
-}
-
-// The same, by the table of the plain variables' literals and with room for the marks of a row.
-fn try_clauses(
-    counts: Record,
-    literals: &[u16],
-    ends: &[u16],
-    images: &[u16],
-    clauses: usize,
-    a: &[u64],
-    values: &[bool],
-    marks: &mut [bool],
-) -> Checked
-    requires { let s = stored counts literals ends images in
-        ⌜ (isFormed s ≡ true) × (isAssignment (variablesOf s) (now a) ≡ true) × (clauses ≡ clausesOf s)
-        × TableOf (counts .variables) (now values) (now a) × (length (now marks) ≡ counts .variables) ⌝ }
-    ensures { λ r. let s = stored counts (literals .entry) (ends .entry) (images .entry) in
-        ⌜ verdictOf r ≡ firstFalse s (now (a .entry)) ⌝ }
-{
+    valuation::tabulate(a, counts.variables, &mut values);
     let mut at = cursor::start(counts, images, marks);
     let mut q = 1;
     while q <= clauses {
-        if six_hold(counts, images, at, values, a) {
+        if six_hold(counts, images, at, &values, a) {
             at = cursor::next_auxiliary(counts, images, at, marks);
             q += 6;
             continue;
         }
-        if !holds_at(counts, literals, ends, images, at, values, a) {
+        if !holds_at(counts, literals, ends, images, at, &values, a) {
             return Checked::Falsified(q);
         }
         at = cursor::next(counts, images, at, marks);

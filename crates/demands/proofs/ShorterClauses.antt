@@ -1,9 +1,5 @@
 -- Document 02, CR 9: `ShorterClauses` holds. Assumes nothing.
-use mathlib.Core.Path.{_≡_, sym, _∙_}
-use mathlib.Core.Bool.{true}
-use mathlib.Core.List.{List}
-use Prim.Native.Nat.{ℕ}
-use Rattle.store.specs.Stores.{isRow}
+use mathlib.Core.Path.{sym, _∙_}
 use Rattle.store.proofs.Demands.{rows-of}
 use Rattle.store.proofs.Formed.{row-of, formed}
 use Rattle.store.proofs.Identity.{moves-nothing-iff}

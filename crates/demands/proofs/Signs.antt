@@ -7,7 +7,6 @@ use Prim.Native.Nat.{ℕ, zero, suc, _+_, _-_, _*_, _%_, _≤_, _<_}
 use native.Mathlib.Omega.{arith}
 use borrow.Author.Tests.{eq-eqb, ne-eqb, eqb-true, eqb-false}
 use lib.ListN.{length, getD}
-use lib.Dec.{eqb}
 use Rattle.lists.proofs.Members.{map-at}
 use Rattle.packed.specs.Order.{valueOf}
 use Rattle.store.specs.Literals.{variableOf, isNegative, oppositeOf}

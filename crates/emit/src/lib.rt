@@ -55,30 +55,13 @@ pub fn clause(
             out,
         );
     }
-    added(counts, images, c - counts.clauses, out)
-}
-
-// A clause that the rows add, by its number among those, from 0.
-fn added(counts: Record, images: &[u16], c: usize, out: &mut [u8]) -> Answer
-    requires { ⌜ FormedRows (counts .variables) (counts .rows) (now images) ⌝ }
-    ensures answer { λ r. let rows = rowsOf (counts .variables) (counts .rows) (now (images .entry)) in
-        ⌜ said r ≡ addedBy (rowsClauses (counts .variables + 1) rows) c (length (now (out .entry))) ⌝ }
-    ensures buffer { λ r. let rows = rowsOf (counts .variables) (counts .rows) (now (images .entry)) in
-        ⌜ now (out .exit) ≡ bufferLeft (said r) (clauseLine (getD (rowsClauses (counts .variables + 1) rows) c [])) (now (out .entry)) ⌝ }
-{
     let mut marks = [false; Record::MAX_VARIABLES];
     let n = counts.variables;
-    write_added(counts, images, c, &mut marks[..n], out)
+    added(counts, images, c - counts.clauses, &mut marks[..n], out)
 }
 
-// The same, with room for the marks of a row.
-fn write_added(
-    counts: Record,
-    images: &[u16],
-    c: usize,
-    marks: &mut [bool],
-    out: &mut [u8],
-) -> Answer
+// A clause that the rows add, by its number among those, from 0, with room for the marks of a row.
+fn added(counts: Record, images: &[u16], c: usize, marks: &mut [bool], out: &mut [u8]) -> Answer
     requires { ⌜ FormedRows (counts .variables) (counts .rows) (now images) × (length (now marks) ≡ counts .variables) ⌝ }
     ensures answer { λ r. let rows = rowsOf (counts .variables) (counts .rows) (now (images .entry)) in
         ⌜ said r ≡ addedBy (rowsClauses (counts .variables + 1) rows) c (length (now (out .entry))) ⌝ }

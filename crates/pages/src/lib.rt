@@ -25,30 +25,8 @@ pub struct Line {
     pub cursor: Cursor,
 }
 
-// Fills a buffer with the lines of as many clauses as fit, from a cursor on.
+// Fills a buffer with the lines of as many clauses as fit, from a cursor on, with room for the marks of a row.
 pub fn fill(
-    counts: Record,
-    literals: &[u16],
-    ends: &[u16],
-    images: &[u16],
-    cursor: Cursor,
-    out: &mut [u8],
-) -> Page
-    requires { ⌜ (isFormed (stored counts literals ends images) ≡ true) × CursorStands counts (now images) cursor ⌝ }
-    ensures filled { λ r. let s = stored counts (literals .entry) (ends .entry) (images .entry) in
-        ⌜ _≡_ {A = FilledPage} (record { buffer = now (out .exit); end = r .bytes; rest = remainingOf s (r .cursor) })
-        (fillFrom 0 (remainingOf s cursor) (now (out .entry))) ⌝ }
-    ensures stands { λ r. ⌜ CursorStands counts (now (images .entry)) (r .cursor) ⌝ }
-    ensures moves { λ r. let s = stored counts (literals .entry) (ends .entry) (images .entry) in
-        ⌜ (longest ≤ length (now (out .entry)) → r .bytes ≡ 0 → remainingOf s cursor ≡ []) ⌝ }
-{
-    let mut marks = [false; Record::MAX_VARIABLES];
-    let n = counts.variables;
-    fill_lines(counts, literals, ends, images, cursor, &mut marks[..n], out)
-}
-
-// The same, with room for the marks of a row.
-fn fill_lines(
     counts: Record,
     literals: &[u16],
     ends: &[u16],

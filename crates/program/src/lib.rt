@@ -129,7 +129,9 @@ fn clauses(
     ensures { λ r. let s = stored counts (literals .entry) (ends .entry) (images .entry) in
         ⌜ PageStep s (Stage.Clauses cursor) (now (out .entry)) (r .stage) (r .bytes) (now (out .exit)) ⌝ }
 {
-    let filled = pages::fill(counts, literals, ends, images, cursor, out);
+    let mut marks = [false; Record::MAX_VARIABLES];
+    let n = counts.variables;
+    let filled = pages::fill(counts, literals, ends, images, cursor, &mut marks[..n], out);
     let next = filled.cursor;
     Printed {
         bytes: filled.bytes,

@@ -1,13 +1,15 @@
 -- `calls::check` meets its contract: 20, 21 and 12 are tried, and then the clauses. Assumes nothing.
 use mathlib.Core.Path.{_≡_, sym, ap, _∙_}
 use borrow.Author.Tests.{not-true, not-false}
-use Rattle.store.specs.Stores.{lent}
+use Rattle.store.specs.Stores.{maxVariables, lent}
 use Rattle.standing.specs.Keyed.{Keyed, withKeys, standingOf}
 use Rattle.standing.specs.declared.Standing.{Standing}
 use Rattle.store.proofs.Formed.{formed, formed-rows}
 use Rattle.standing.proofs.StandingLaws.{ready-form}
 use mathlib.Core.Bool.{true}
-use Prim.Native.Nat.{ℕ}
+use Prim.Native.Nat.{ℕ, _≤_}
+use native.Mathlib.Omega.{arith}
+use lib.Seq.{length-take-le}
 use Rattle.packed.specs.Words.{isAssignment}
 use Rattle.lexleader.specs.Store.{variablesOf}
 use Rattle.lexleader.proofs.MadeLaws.{counted-variables, counted-clauses}
@@ -51,20 +53,31 @@ returns-2 c =
     let same = ap (λ (n : ℕ). isAssignment n (s .args .a .now)) (counted-variables (S s .store) (t .totals-of .ensures)) in
     check-misformed (S s) (s .args .a .now) (admitted (t .before)) (sym same ∙ sym (i .is-assignment .ensures) ∙ not-true _ (c .if1 .taken))
 
+small : (c : tie.Else1) → start c .args .counts .variables ≤ maxVariables
+small c = let s = S (start c) in formed (s .store) (ready-form s (admitted (told c))) .variables-fit
+
+array-borrow-prefix-marks : tie.Need-array-borrow-prefix-marks
+array-borrow-prefix-marks c = omega (arith, small c)
+
+slice-aggregate-first-false : tie.Need-slice-aggregate-first-false
+slice-aggregate-first-false c = sym (length-take-le _ _ (omega (arith, small (c .before))))
+
 first-false-requires : tie.Need-first-false-requires
 first-false-requires c κs =
-    let s = start c in
-    let well = ready-form (S s) (admitted (told c)) in
-    (well, form c, counted-clauses (S s .store) well (c .before .before .totals-of .ensures))
+    let e = c .before in
+    let s = start e in
+    let well = ready-form (S s) (admitted (told e)) in
+    (well, form e, counted-clauses (S s .store) well (e .before .before .totals-of .ensures), sym (slice-aggregate-first-false c))
 
 returns-3 : tie.Need-returns-3
 returns-3 c =
-    let i = c .before in
-    let s = start i in
-    check-done (S s) (s .args .a .now) (admitted (told i)) (form i) (c .first-false .result) (c .first-false .ensures)
+    let f = c .before in
+    let e = f .before .before in
+    let s = start e in
+    check-done (S s) (s .args .a .now) (admitted (told e)) (form e) (f .first-false .result) (f .first-false .ensures)
 
 pub check-spec : {M : Type 1} → statement M
 check-spec =
     tie.close
-    (tie.spec (search needs) (search needs) returns (search needs) totals-of-requires (search needs) returns-2 first-false-requires
-    returns-3)
+    (tie.spec (search needs) (search needs) returns (search needs) totals-of-requires (search needs) returns-2 array-borrow-prefix-marks
+    slice-aggregate-first-false first-false-requires returns-3)

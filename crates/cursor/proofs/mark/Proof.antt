@@ -3,12 +3,11 @@ use mathlib.Core.Path.{sym, ap, _∙_}
 use native.Mathlib.Omega.{arith}
 use Rattle.store.proofs.RowParts.{part-room, part-size, part-row}
 use Rattle.cycles.specs.Cycles.{marksOf}
-use borrow.Author.Needs.{needs}
 use Rattle.cursor.proofs.mark.Statement.{statement}
 use Rattle.cursor.proofs.mark.Tie as tie
 
 row-requires : tie.Need-row-requires
-row-requires c κs = let s = c .before .before .before .before .before in part-room (s .pre .0 .rows) (s .args .cursor .row) (c .if1 .taken)
+row-requires c κs = let s = c .before .before .before .before .before in part-room (s .pre .0 .rows) _ (omega (arith, c .if1 .taken))
 
 leave-out-requires : tie.Need-leave-out-requires
 leave-out-requires c κs =
@@ -16,8 +15,8 @@ leave-out-requires c κs =
     let t = p .before in
     let s = t .before .before .before .before .before in
     let f = s .pre .0 .rows in
-    let size = part-size f (s .args .cursor .row) (t .if1 .taken) _ (p .row .ensures) in
-    (omega (arith, size, f .small), part-row f (s .args .cursor .row) (t .if1 .taken) _ (p .row .ensures), s .pre .1 ∙ sym size)
+    let size = part-size f _ (omega (arith, t .if1 .taken)) _ (p .row .ensures) in
+    (omega (arith, size, f .small), part-row f _ (omega (arith, t .if1 .taken)) _ (p .row .ensures), s .pre .1 ∙ sym size)
 
 same-length : tie.Need-same-length
 same-length c = c .before .before .leave-out .kept .1 .0

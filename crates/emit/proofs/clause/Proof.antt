@@ -1,11 +1,12 @@
 -- `emit::clause` meets its contract: 13, then a plain clause or one that the rows add. Assumes nothing.
-use mathlib.Core.Path.{_≡_, refl, sym, ap, _∙_}
+use mathlib.Core.Path.{refl, sym, ap, _∙_}
 use mathlib.Core.List.{List}
 use Prim.Native.Nat.{ℕ, _-_, _≤_}
 use native.Mathlib.Omega.{arith}
 use lib.ListN.{length}
+use lib.Seq.{length-take-le}
 use Rattle.store.specs.Refusals.{said, bufferLeft}
-use Rattle.store.specs.Stores.{Store, lent, heldRows}
+use Rattle.store.specs.Stores.{Store, maxVariables, lent, heldRows}
 use Rattle.store.proofs.Formed.{formed, formed-rows, formed-clauses}
 use Rattle.lexleader.specs.Store.{clausesOf}
 use Rattle.lexleader.proofs.MadeLaws.{clauses-are, made-plain, made-added}
@@ -56,14 +57,26 @@ returns-2 c =
 
 -- ---- a clause that the rows add
 
+small : (c : tie.Else2) → let s = start (c .before .before) in s .args .counts .variables ≤ maxVariables
+small c = let s = start (c .before .before) in formed (S s) (s .pre) .variables-fit
+
+array-borrow-prefix-marks : tie.Need-array-borrow-prefix-marks
+array-borrow-prefix-marks c = omega (arith, small (c .before))
+
+slice-aggregate-added : tie.Need-slice-aggregate-added
+slice-aggregate-added c = sym (length-take-le _ _ (omega (arith, small (c .before .before))))
+
 added-requires : tie.Need-added-requires
-added-requires c κs = let s = start (c .before .before .before .before) in formed-rows (S s) (s .pre)
+added-requires c κs =
+    let m = c .before in
+    let s = start (m .before .before .before .before) in
+    (formed-rows (S s) (s .pre), sym (slice-aggregate-added m))
 
 returns-3 : tie.Need-returns-3
 unfolding lineOf heldRows
 returns-3 c =
-    let w = c .before .before in
-    let i = w .before .before .before in
+    let w = c .before .before .before in
+    let i = w .before .before .before .before in
     let e = i .before .before in
     let s = start e in
     let a = s .args in
@@ -75,4 +88,5 @@ returns-3 c =
 pub clause-spec : {M : Type 1} → statement M
 clause-spec =
     tie.close
-    (tie.spec returns (search needs) clause-requires write-stored-requires (search needs) returns-2 added-requires (search needs) returns-3)
+    (tie.spec returns (search needs) clause-requires write-stored-requires (search needs) returns-2 array-borrow-prefix-marks slice-aggregate-added
+    added-requires (search needs) returns-3)

@@ -1,5 +1,5 @@
 -- `lexleader::counting::pair_count` meets its contract. The invariant: those without a mark are those counted and those of index i and after it. Assumes nothing.
-use mathlib.Core.Path.{_≡_, refl}
+use mathlib.Core.Path.{_≡_}
 use Prim.Native.Nat.{_+_, _-_, _≤_}
 use native.Mathlib.Omega.{arith}
 use lib.ListN.{length, drop}

@@ -1,6 +1,6 @@
 -- `lexleader::numbered::find` meets its contract. The invariant: clause q of all is clause `left` of what the rows from r on add, e being the first auxiliary of
 -- row r (`Sought`). Assumes nothing.
-use mathlib.Core.Path.{_≡_, refl, ap, subst, _∙_}
+use mathlib.Core.Path.{_≡_, ap, subst, _∙_}
 use Prim.Native.Nat.{_+_, _-_, _≤_}
 use native.Mathlib.Omega.{arith}
 use lib.ListN.{length}

@@ -4,3 +4,4 @@ pub mod Walks
 pub mod Visiting
 pub mod Scan
 pub mod Largest
+pub mod Once

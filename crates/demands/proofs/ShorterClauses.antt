@@ -5,6 +5,7 @@ use Rattle.store.proofs.Formed.{row-of, formed}
 use Rattle.store.proofs.Identity.{moves-nothing-iff}
 use Rattle.store.proofs.Within.{literals-within}
 use Rattle.cycles.proofs.Largest.{same-cycle, largest-of}
+use Rattle.cycles.proofs.Once.{cycle-once, cycle-closed}
 use Rattle.lexleader.proofs.Moved.{along-moved, deciding-moved}
 use Rattle.lexleader.proofs.Remaining.{along-pairs, deciding-pairs, stays-none, none-stays, pairs-fewer}
 use Rattle.lexleader.proofs.Theorems.{kept-longer}
@@ -12,6 +13,7 @@ use Rattle.demands.specs.ShorterClauses.{ShorterClauses}
 
 pub shorter-clauses : ShorterClauses
 shorter-clauses = record {
+  once = λ n row e i low high. let r = row-of n row e in (cycle-once n row r i low high, cycle-closed n row r i low high);
   cycles = λ n row e i z low high. same-cycle n row (row-of n row e) i low high z;
   largest = λ n row e i low high.
       let t = largest-of n row (row-of n row e) i low high in

@@ -7,11 +7,11 @@ use mathlib.Core.List.{List, []}
 use mathlib.Core.Logic.{_↔_}
 use Prim.Native.Nat.{ℕ, _≤_}
 use lib.ListN.{length}
-use Rattle.lists.specs.Tests.{has}
+use Rattle.lists.specs.Tests.{has, distinct}
 use Rattle.packed.specs.Order.{valueOf}
 use Rattle.store.specs.Stores.{Store, plainOf, heldRows, isRow, isFormed}
 use Rattle.store.specs.Identity.{identity}
-use Rattle.cycles.specs.Cycles.{cycleOf, isLargest}
+use Rattle.cycles.specs.Cycles.{sentTo, cycleOf, isLargest}
 use Rattle.lexleader.specs.Models.{literalValue}
 use Rattle.lexleader.specs.Rows.{pairsOf, movedPairs}
 use Rattle.lexleader.specs.Deciding.{deciding, lowersAlong}
@@ -25,6 +25,9 @@ pub record Largest (row : List ℕ) (i z : ℕ) : Type 0 where
   pub only : (y : ℕ) → has (cycleOf row i) y ≡ true → isLargest row y ≡ true → y ≡ z
 
 pub record ShorterClauses : Type 0 where
+  -- "once round the cycle": its list has each variable once, and with each the one that the row sends it to
+  pub once : (n : ℕ) (row : List ℕ) → isRow n row ≡ true → (i : ℕ) → 1 ≤ i → i ≤ n
+      → (distinct (cycleOf row i) ≡ true) × ((x : ℕ) → has (cycleOf row i) x ≡ true → has (cycleOf row i) (sentTo row x) ≡ true)
   -- "each cycle of a row": all variables of one have the same
   pub cycles : (n : ℕ) (row : List ℕ) → isRow n row ≡ true → (i z : ℕ) → 1 ≤ i → i ≤ n → has (cycleOf row i) z ≡ true
       → (x : ℕ) → (has (cycleOf row z) x ≡ true) ↔ (has (cycleOf row i) x ≡ true)

@@ -1,10 +1,9 @@
 -- A cycle is gone round once: its list has each variable once, and with each the one that it is sent to. Assumes nothing.
-use mathlib.Core.Path.{_≡_, refl, sym, ap, _∙_}
+use mathlib.Core.Path.{_≡_, sym, ap, _∙_}
 use mathlib.Core.Bool.{Bool, true, false, not, cond}
 use mathlib.Core.List.{List, [], _∷_}
 use mathlib.Core.Logic.{_⊎_, inl, inr}
 use Prim.Native.Nat.{ℕ, zero, suc, _+_, _-_, _≤_, _<_, zero-le, suc-le-suc}
-use native.Mathlib.Nat.{le-of-suc-le-suc}
 use native.Mathlib.Omega.{arith}
 use borrow.Author.Tests.{eqb-true}
 use lib.ListN.{length}
@@ -13,9 +12,8 @@ use Rattle.lists.specs.Tests.{anyOf, has, distinct}
 use Rattle.lists.proofs.Cases.{never, not-so, and-both, or-cases, eq-or-ne}
 use Rattle.store.proofs.Formed.{Row}
 use Rattle.cycles.specs.Cycles.{sentTo, metFrom, cycleOf}
-use Rattle.cycles.proofs.Sent.{sent-low, sent-high}
 use Rattle.cycles.proofs.Returns.{after, after-add}
-use Rattle.cycles.proofs.Walks.{met, Closes, Reaches, from-end, from-step, met-end, met-step, closes-step, closes-first, member-reach, reach-member}
+use Rattle.cycles.proofs.Walks.{met, met-end, met-step, closes-first, member-reach, reach-member}
 
 module _ (row : List ℕ) (z : ℕ) where
   -- what is met from j on is met within as many steps as the list has variables

@@ -24,7 +24,7 @@ cast-if1 : tie.Need-cast-if1 Inv-loop μ-loop
 cast-if1 c = let s = c .before .before .before in omega (arith, c .shared-slice-known2 .given (s .args .z - 1))
 
 returns : tie.Need-returns Inv-loop μ-loop
-returns c = let s = c .before .before .before .before in visited-unmoved _ _ (s .pre .0) (s .pre .1) (s .pre .2) _ (c .if1 .taken)
+returns c = let s = c .before .before .before .before in visited-unmoved _ _ (s .pre .0) (s .pre .1) (s .pre .2) _ (omega (arith, c .if1 .taken))
 
 sub-if2 : tie.Need-sub-if2 Inv-loop μ-loop
 sub-if2 c = omega arith

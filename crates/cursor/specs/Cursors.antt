@@ -7,7 +7,7 @@ use mathlib.Core.List.{List, [], _∷_, _++_}
 use lib.ListN.{length, drop}
 use Rattle.store.specs.Stores.{Store, rowAt, rowsFrom, plainOf, FormedRows}
 use Rattle.store.specs.declared.record.Record.{Record}
-use Rattle.cycles.specs.Cycles.{marksOf}
+use Rattle.cycles.specs.Marks.{marksOf}
 use Rattle.lexleader.specs.Made.{rowsClauses}
 use Rattle.lexleader.specs.Bounds.{maxBefore}
 use Rattle.lexleader.specs.Places.{clausesAt, auxiliaryAfter, PlaceStands}

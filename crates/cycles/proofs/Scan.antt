@@ -15,8 +15,8 @@ use Rattle.lists.proofs.Cases.{never, not-so, and-l, and-r, lt-or-le, eq-or-ne}
 use Rattle.lists.proofs.Members.{all-in, all-has, placed}
 use Rattle.lists.proofs.TableLaws.{length-table, getD-table}
 use Rattle.store.specs.Stores.{isRow}
-use Rattle.cycles.specs.Cycles.{cycleOf, isLargest, leftOut, marksOf}
-use Rattle.cycles.specs.Marks.{Visited}
+use Rattle.cycles.specs.Cycles.{cycleOf, isLargest, leftOut}
+use Rattle.cycles.specs.Marks.{marksOf, Visited}
 use Rattle.store.proofs.Formed.{Row, row-of}
 use Rattle.cycles.proofs.Returns.{after-high}
 use Rattle.cycles.proofs.Walks.{Reaches, member-reach, reach-trans, reach-sym, reach-member}

@@ -1,12 +1,11 @@
 -- The cycles of a row (document 02, CR 9): "Leave out, for each cycle of a row, its largest variable, unless going once round the cycle turns the sign an odd
 -- number of times." A row holds literal codes, the image of variable i at index i - 1. Assumes nothing.
-use Prim.Native.Nat.{ℕ, zero, suc, _+_, _-_}
+use Prim.Native.Nat.{ℕ, zero, suc, _-_}
 use mathlib.Core.Bool.{Bool, false, not, cond, _&&_}
 use mathlib.Core.List.{List, [], _∷_}
 use lib.ListN.{length, getD}
 use lib.Dec.{eqb, leb}
 use Rattle.lists.specs.Tests.{allOf}
-use Rattle.lists.specs.Tables.{table}
 use Rattle.store.specs.Literals.{variableOf, isNegative}
 
 -- the variable to which a row sends variable i, whatever the sign
@@ -42,12 +41,3 @@ turnsOdd row i = oddly (turns row) (cycleOf row i)
 -- variable i of the row is left out. One that is not moved is a cycle by itself, and is left out by the same rule.
 unfoldable pub leftOut : List ℕ → ℕ → Bool
 leftOut row i = isLargest row i && not (turnsOdd row i)
-
--- the marks of those left out: that of variable i at index i - 1
-unfoldable pub marksOf : List ℕ → List Bool
-marksOf row = table (length row) (λ k. leftOut row (k + 1))
-
--- how many have no mark
-unfoldable pub unmarked : List Bool → ℕ
-unmarked [] = 0
-unmarked (mark ∷ marks) = cond mark 0 1 + unmarked marks

@@ -11,8 +11,8 @@ ghost use mathlib.Core.Bool.{true};
 ghost use Prim.Native.Nat.{_≤_};
 ghost use lib.ListN.{length, replicate};
 ghost use Rattle.store.specs.Stores.{maxVariables, isRow};
-ghost use Rattle.cycles.specs.Cycles.{sentTo, turns, marksOf};
-ghost use Rattle.cycles.specs.Marks.{Visited};
+ghost use Rattle.cycles.specs.Cycles.{sentTo, turns};
+ghost use Rattle.cycles.specs.Marks.{marksOf, Visited};
 
 // Marks the variables of a row that are left out.
 pub fn leave_out(row: &[u16], marks: &mut [bool])

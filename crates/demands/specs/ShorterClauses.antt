@@ -15,8 +15,9 @@ use Rattle.cycles.specs.Cycles.{sentTo, cycleOf, isLargest}
 use Rattle.lexleader.specs.Models.{literalValue}
 use Rattle.lexleader.specs.Rows.{pairsOf, movedPairs}
 use Rattle.lexleader.specs.Deciding.{deciding, lowersAlong}
+use Rattle.lexleader.specs.Made.{madeVariables}
 use Rattle.lexleader.specs.Kept.{Kept}
-use Rattle.lexleader.specs.Longer.{KeptLonger}
+use Rattle.lexleader.specs.Longer.{variablesBy, KeptLonger}
 
 -- z is "its largest variable", of the cycle of i: one of it that is the largest of its own cycle, and no other is
 pub record Largest (row : List ℕ) (i z : ℕ) : Type 0 where
@@ -35,8 +36,8 @@ pub record ShorterClauses : Type 0 where
   pub largest : (n : ℕ) (row : List ℕ) → isRow n row ≡ true → (i : ℕ) → 1 ≤ i → i ≤ n → (z : ℕ) × Largest row i z
   -- none is left, k = 0, only of a row that moves nothing
   pub none : (n : ℕ) (row : List ℕ) → isRow n row ≡ true → (pairsOf row ≡ []) ↔ (row ≡ identity n)
-  -- what is left is never more than the variables moved, which the longer form has
-  pub fewer : (row : List ℕ) → length (pairsOf row) ≤ length (movedPairs row)
+  -- "The solver's memory fills with auxiliaries": whatever the rows, there are never more than the longer form has
+  pub fewer : (n : ℕ) (rows : List (List ℕ)) → madeVariables n rows ≤ variablesBy movedPairs n rows
   -- to compare an assignment with what a row makes of it on what is left decides as on all moved variables, and at the same one: for every row, symmetry or not
   pub decides : (n : ℕ) (row : List ℕ) → isRow n row ≡ true → (a : List Bool) → length a ≡ n → let value = literalValue (valueOf a) in
       (lowersAlong value (pairsOf row) ≡ lowersAlong value (movedPairs row)) × (deciding value (pairsOf row) ≡ deciding value (movedPairs row))

@@ -25,7 +25,7 @@ ghost use Rattle.packed.specs.Words.{wordCount, isAssignment};
 ghost use Rattle.packed.specs.Order.{valueOf};
 ghost use Rattle.packed.specs.Writing.{WriterRoom, Appends};
 ghost use Rattle.store.specs.Stores.{maxVariables, isRow, rowsOf, FormedRows};
-ghost use Rattle.cycles.specs.Cycles.{marksOf};
+ghost use Rattle.cycles.specs.Marks.{marksOf};
 ghost use Rattle.lexleader.specs.Rows.{pairsOf};
 ghost use Rattle.lexleader.specs.Made.{auxiliaries, allAuxiliaries, madeVariables, rowSettings, settings};
 ghost use Rattle.valuation.specs.Tables.{bitsIn, Table};

@@ -10,7 +10,8 @@ use lib.ListN.{length, getD, take, drop, drop-of-length-le}
 use lib.Seq.{getD-take, length-take-le}
 use Rattle.lists.proofs.Steps.{drop-step}
 use Rattle.lists.proofs.TableLaws.{length-table, getD-table}
-use Rattle.cycles.specs.Cycles.{leftOut, marksOf, unmarked}
+use Rattle.cycles.specs.Cycles.{leftOut}
+use Rattle.cycles.specs.Marks.{marksOf, unmarked}
 use Rattle.lexleader.specs.Rows.{pairsBut, pairsOf}
 use Rattle.lexleader.specs.Clause.{pairAt, pairsAt}
 use Rattle.lexleader.proofs.Walk.{walk-past, walk-here}

@@ -21,6 +21,8 @@ use Rattle.cycles.proofs.Largest.{unmoved-out, all-out}
 use Rattle.lexleader.specs.Models.{literalValue}
 use Rattle.lexleader.specs.Rows.{moved, lowers, pairsBut, pairsOf, stays, movedPairs}
 use Rattle.lexleader.specs.Deciding.{deciding, lowersAlong}
+use Rattle.lexleader.specs.Made.{auxiliaries, allAuxiliaries}
+use Rattle.lexleader.specs.Longer.{auxiliariesBy}
 use Rattle.lexleader.proofs.Pairs.{both}
 use Rattle.lexleader.proofs.Along.{Idle, along-but, deciding-but, but-within}
 use Rattle.lexleader.proofs.Agree.{left-agrees}
@@ -94,6 +96,11 @@ fewer-but out more i (y ∷ row) h =
     go false o true m rest = omega arith
     go false o false m rest = omega arith
 
-pub pairs-fewer : (row : List ℕ) → length (pairsOf row) ≤ length (movedPairs row)
+pairs-fewer : (row : List ℕ) → length (pairsOf row) ≤ length (movedPairs row)
 unfolding pairsOf movedPairs stays
 pairs-fewer row = fewer-but (stays row) (leftOut row) 1 row (λ j h e. unmoved-out row (1 + j) (eqb-true (getD row (1 + j - 1) 0) (2 * (1 + j)) e))
+
+pub auxiliaries-fewer : (rows : List (List ℕ)) → allAuxiliaries rows ≤ auxiliariesBy movedPairs rows
+unfolding allAuxiliaries auxiliaries auxiliariesBy
+auxiliaries-fewer [] = omega arith
+auxiliaries-fewer (row ∷ rows) = omega (arith, pairs-fewer row, auxiliaries-fewer rows)

@@ -33,7 +33,7 @@ unfolding variablesOf madeVariables
 variables-sum s = omega (arith, rows-auxiliaries (heldRows s))
 
 module _ (s : Store) (well : isFormed s ≡ true) where
-  -- "M = m + 6 times that sum", and 1 for a row that moves one variable
+  -- "M = m + 6 times that sum", and 1 for a row with one x
   pub clauses-sum : clausesOf s ≡ s .counts .clauses + sumOver clausesFor (heldRows s)
   clauses-sum = clauses-are s well ∙ ap (λ (k : ℕ). s .counts .clauses + k) (rows-clauses (s .counts .variables + 1) (heldRows s))
 

@@ -7,7 +7,8 @@ use mathlib.Core.List.{List, [], _∷_}
 use lib.ListN.{length, getD, take, drop}
 use lib.Dec.{eqb}
 use Rattle.store.specs.Stores.{rowsOf, rowAt}
-use Rattle.cycles.specs.Cycles.{leftOut, marksOf}
+use Rattle.cycles.specs.Cycles.{leftOut}
+use Rattle.cycles.specs.Marks.{marksOf}
 use Rattle.lexleader.specs.declared.table.Clause.{Clause}
 use Rattle.lexleader.specs.declared.numbered.Spot.{Spot}
 use Rattle.lexleader.specs.Rows.{Pair, pairsBut}

@@ -1,4 +1,4 @@
--- Comparing an assignment A with A moved along a row's pairs: a moved variable x and its image y, as codes (documents 01 and 02, CR 2). `value` gives each
+-- Comparing an assignment A with A moved along a row's pairs: a variable x and its image y, as codes (documents 01 and 02, CR 2). `value` gives each
 -- literal's value under A. Assumes nothing.
 use mathlib.Core.Path.{_≡_}
 use Prim.Native.Nat.{ℕ}
@@ -21,6 +21,6 @@ unfoldable pub lowersAlong : (ℕ → Bool) → List Pair → Bool
 lowersAlong value [] = false
 lowersAlong value (q ∷ pairs) = cond (decides value q) (value (q .x)) (lowersAlong value pairs)
 
--- the moved variables and their images have the same values by both, and nothing is said of other literals
+-- the variables of the pairs and their images have the same values by both, and nothing is said of other literals
 abbrev pub SameAlong : List Pair → (ℕ → Bool) → (ℕ → Bool) → Type 0
 SameAlong pairs value other = (q : Pair) → List·Memᴰ q pairs → (value (q .x) ≡ other (q .x)) × (value (q .y) ≡ other (q .y))

@@ -13,7 +13,7 @@ ghost use mathlib.Core.Bool.{true};
 ghost use Prim.Native.Nat.{ℕ, _*_, _≤_};
 ghost use lib.ListN.{length};
 ghost use Rattle.store.specs.Stores.{maxVariables, maxClauses, isRow, rowsOf, FormedRows};
-ghost use Rattle.cycles.specs.Cycles.{marksOf, unmarked};
+ghost use Rattle.cycles.specs.Marks.{marksOf, unmarked};
 ghost use Rattle.lexleader.specs.Made.{rowClauses, auxiliaries, rowsClauses, allAuxiliaries};
 ghost use Rattle.lexleader.specs.Bounds.{maxAuxiliaries};
 ghost use Rattle.lexleader.specs.Counted.{Counted};

@@ -9,7 +9,7 @@ ghost use mathlib.Core.List.{_∷_, []};
 ghost use Prim.Native.Nat.{_+_, _-_, _≤_, _<_};
 ghost use lib.ListN.{length, getD, drop};
 ghost use Rattle.store.specs.Stores.{maxVariables, FormedRows};
-ghost use Rattle.cycles.specs.Cycles.{marksOf};
+ghost use Rattle.cycles.specs.Marks.{marksOf};
 ghost use Rattle.lexleader.specs.Rows.{pairsOf};
 ghost use Rattle.lexleader.specs.Made.{rowClauses, auxiliaries};
 ghost use Rattle.lexleader.specs.Bounds.{maxMadeVariables};

@@ -14,7 +14,7 @@ ghost use mathlib.Core.List.{List, _∷_, []};
 ghost use Prim.Native.Nat.{ℕ, _+_, _-_, _*_, _≤_, _<_};
 ghost use lib.ListN.{length, getD, drop};
 ghost use Rattle.store.specs.Stores.{maxVariables};
-ghost use Rattle.cycles.specs.Cycles.{marksOf};
+ghost use Rattle.cycles.specs.Marks.{marksOf};
 ghost use Rattle.lexleader.specs.Made.{rowClauses, auxiliaries};
 ghost use Rattle.lexleader.specs.Bounds.{maxMadeVariables};
 ghost use Rattle.lexleader.specs.Clause.{ClauseIs, NextPair};

@@ -1,4 +1,4 @@
-// Document 01's table: the six clauses of the auxiliary ej, for the pair xj, yj of a moved variable and its image, and for the next pair.
+// Document 01's table: the six clauses of the auxiliary ej, for the pair of xj and its image yj, and for the next pair.
 //
 // r1 to r3 say what follows from ej: e(j-1), and that xj and yj have the same value. r4 and r5 say the converse: where e(j-1) is true and
 // xj and yj agree, both false (r4) or both true (r5), ej is true. So ej is true exactly when e(j-1) is and the pair agrees; the first

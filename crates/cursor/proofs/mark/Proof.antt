@@ -2,7 +2,7 @@
 use mathlib.Core.Path.{sym, ap, _∙_}
 use native.Mathlib.Omega.{arith}
 use Rattle.store.proofs.RowParts.{part-room, part-size, part-row}
-use Rattle.cycles.specs.Cycles.{marksOf}
+use Rattle.cycles.specs.Marks.{marksOf}
 use Rattle.cursor.proofs.mark.Statement.{statement}
 use Rattle.cursor.proofs.mark.Tie as tie
 

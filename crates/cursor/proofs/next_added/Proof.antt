@@ -3,7 +3,7 @@ use mathlib.Core.Path.{sym, ap, subst, _∙_}
 use mathlib.Core.List.{List, _∷_, []}
 use Prim.Native.Nat.{ℕ}
 use lib.ListN.{getD}
-use Rattle.cycles.specs.Cycles.{marksOf}
+use Rattle.cycles.specs.Marks.{marksOf}
 use Rattle.lexleader.specs.Places.{clausesAt, PlaceAfter}
 use Rattle.cursor.specs.Cursors.{rowOf}
 use Rattle.cursor.proofs.CursorLaws.{row-there, clause-stands}

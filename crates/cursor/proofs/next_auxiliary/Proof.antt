@@ -4,7 +4,7 @@ use mathlib.Core.List.{List}
 use Prim.Native.Nat.{ℕ, _-_, _<_}
 use native.Mathlib.Omega.{arith}
 use lib.ListN.{length}
-use Rattle.cycles.specs.Cycles.{marksOf}
+use Rattle.cycles.specs.Marks.{marksOf}
 use Rattle.lexleader.specs.Places.{sixAt, ClauseStands, PlaceAfter}
 use Rattle.cursor.specs.Cursors.{rowOf}
 use Rattle.cursor.proofs.RowLaws.{size}

@@ -7,7 +7,7 @@ use native.Mathlib.Omega.{arith}
 use lib.ListN.{length}
 use Rattle.store.specs.Stores.{rowAt, rowsFrom}
 use Rattle.store.proofs.RowParts.{part-room, part-size, part-row}
-use Rattle.cycles.specs.Cycles.{marksOf}
+use Rattle.cycles.specs.Marks.{marksOf}
 use Rattle.lexleader.specs.Made.{rowClauses, auxiliaries, rowsClauses}
 use Rattle.lexleader.specs.Bounds.{maxBefore}
 use Rattle.lexleader.specs.Places.{PlaceLeaves}

@@ -7,7 +7,7 @@ use lib.ListN.{length, getD}
 use lib.Seq.{length-take-le}
 use Rattle.store.specs.Stores.{rowsOf}
 use Rattle.store.proofs.RowParts.{part-room, part-size}
-use Rattle.cycles.specs.Cycles.{marksOf}
+use Rattle.cycles.specs.Marks.{marksOf}
 use Rattle.lexleader.specs.Made.{rowClauses, rowsClauses}
 use Rattle.lexleader.specs.Clause.{clauseOf}
 use Rattle.render.specs.Text.{clauseLine}

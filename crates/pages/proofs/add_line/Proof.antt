@@ -3,7 +3,7 @@ use mathlib.Core.Path.{sym, ap, _∙_}
 use Prim.Native.Nat.{ℕ}
 use Rattle.store.specs.Stores.{Store, lent, plainOf, rowAt}
 use Rattle.store.proofs.Formed.{formed, formed-clauses}
-use Rattle.cycles.specs.Cycles.{marksOf}
+use Rattle.cycles.specs.Marks.{marksOf}
 use Rattle.lexleader.proofs.MadeLaws.{plain-length, plain-at}
 use Rattle.cursor.proofs.RowLaws.{nothing-added}
 use Rattle.cursor.proofs.CursorLaws.{past-plain}

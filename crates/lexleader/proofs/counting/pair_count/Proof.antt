@@ -3,7 +3,7 @@ use mathlib.Core.Path.{_≡_}
 use Prim.Native.Nat.{_+_, _-_, _≤_}
 use native.Mathlib.Omega.{arith}
 use lib.ListN.{length, drop}
-use Rattle.cycles.specs.Cycles.{unmarked}
+use Rattle.cycles.specs.Marks.{unmarked}
 use Rattle.lexleader.proofs.Marked.{unmarked-step, unmarked-end}
 use borrow.Author.Needs.{needs}
 use Rattle.lexleader.proofs.counting.pair_count.Statement.{statement}

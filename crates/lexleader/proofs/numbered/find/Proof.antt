@@ -7,7 +7,7 @@ use lib.ListN.{length}
 use Rattle.store.specs.Stores.{rowAt}
 use Rattle.store.proofs.RowLaws.{row-size}
 use Rattle.store.proofs.RowParts.{part-room, part-size, part-row}
-use Rattle.cycles.specs.Cycles.{marksOf}
+use Rattle.cycles.specs.Marks.{marksOf}
 use Rattle.lexleader.specs.Made.{auxiliaries}
 use Rattle.lexleader.specs.Bounds.{maxMadeVariables}
 use Rattle.lexleader.proofs.Bounds.{auxiliaries-most}

@@ -1,5 +1,7 @@
 // Random inputs of the program, read from standard input, with what it prints for each. The script `make_batch.py` makes them and, by the reference, what is
 // expected. Each input follows its length, which has a line of its own.
+#![tactic(auto)]
+
 use dimacs::Reading;
 use printing::Handed;
 use stdio::Input;

@@ -1,5 +1,7 @@
 // The program (document 01, "Quality figure and program"): standard input to standard output. One byte more than an input may have is read, so that a
 // longer one is known. A read or a write that fails is told on standard error; after a failed read nothing is printed.
+#![tactic(auto)]
+
 use printing::Handed;
 use stdio::Input;
 

@@ -1,5 +1,7 @@
 // The public calls. Each takes any bytes, any numbers and any store, and answers as document 01 says or refuses with its number; none asks
 // anything of its caller. The crate `symbreak` has them for C.
+#![tactic(auto)]
+
 ghost use Rattle.std.specs.Prelude.{◌≡◌, [], length};
 ghost use Rattle.store.specs.Refusals.{said};
 ghost use Rattle.store.specs.Stores.{lent, closed_record};
@@ -21,48 +23,48 @@ use store::record::Record;
 use store::refusal::Refusal;
 
 // What opening answers, with the record beside it.
-#[derive(Drop)]
+#[derive(Clone, Copy)]
 pub struct Opening {
     pub answer: Opened,
     pub counts: Record,
 }
 
 // What an offer answers, with the record beside it.
-#[derive(Drop)]
+#[derive(Clone, Copy)]
 pub struct Offering {
     pub answer: Offered,
     pub counts: Record,
 }
 
 // What a withdrawal answers, and the same with the record beside it.
-#[derive(Drop)]
+#[derive(Clone, Copy)]
 pub enum Withdrawn {
     TakenBack,
     Refused(Refusal),
 }
 
-#[derive(Drop)]
+#[derive(Clone, Copy)]
 pub struct Withdrawal {
     pub answer: Withdrawn,
     pub counts: Record,
 }
 
 // What the made formula has.
-#[derive(Drop)]
+#[derive(Clone, Copy)]
 pub enum Measured {
     Figures(measure::Figures),
     Refused(Refusal),
 }
 
 // What checking an assignment found.
-#[derive(Drop)]
+#[derive(Clone, Copy)]
 pub enum Finding {
     Found(Checked),
     Refused(Refusal),
 }
 
 // How a descent ends.
-#[derive(Drop)]
+#[derive(Clone, Copy)]
 pub enum Descent {
     Ended(Descended),
     Refused(Refusal),

@@ -1,5 +1,7 @@
 // Document 01's unstarred cases ("Tried on both edges"), CR 8's idle line and CR 1's comments, run: each line is a case, its refusal (0 for none) and its place. Then CR 4's outside
 // vectors, tables 2 and 3 of source document 000: each line is a row, the efficiency printed there, and ours.
+#![tactic(auto)]
+
 use offering::Offered;
 use opening::Opened;
 use store::answer::Answer;

@@ -11,6 +11,8 @@
 // e(j-1) is true, or ej is the row's first, and xj and yj agree (`lexleader::table` says why). r6 says that xj+1 is at most yj+1 where ej
 // is true. In the first column r1 says that x1 is at most y1, which is a question only where the two differ, so where e1 is not due. Where
 // one of the six is false the clauses are tried one by one, so that the number told is that of the first.
+#![tactic(auto)]
+
 ghost use Rattle.std.specs.Prelude.{◌≡◌, true, not, ◌||◌, [], ℕ, ◌*◌, ◌<◌, length, get_or};
 ghost use Rattle.std.specs.Bool.{beq};
 ghost use Rattle.lists.specs.Tests.{any_of, all_of};
@@ -33,7 +35,7 @@ use lexleader::places::Place;
 use store::record::Record;
 
 // Every clause of the made formula is true, or the number of the first that is false, from 1.
-#[derive(Drop)]
+#[derive(Clone, Copy)]
 pub enum Checked {
     Satisfied,
     Falsified(usize),

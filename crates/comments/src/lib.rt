@@ -2,6 +2,8 @@
 // Names and value lines know none, so that `dimacs` does not either. What carries the proofs: from a place inside a line that is no comment,
 // the words that are left are those of the rest of the line and of the later lines but for the comments, and each step of a walk leaves them
 // as they are.
+#![tactic(auto)]
+
 ghost use Rattle.std.specs.Prelude.{◌≡◌, ◌≤◌, ◌<◌, length};
 ghost use Rattle.dimacs.specs.Lines.{lines_at};
 ghost use Rattle.comments.specs.Comments.{after_comments, starts_comment, words_past, Between, first_place};

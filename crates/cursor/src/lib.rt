@@ -11,6 +11,8 @@
 // it on (specs/Cursors.antt), each step takes clauses off the front of that list, and whoever walks has his invariant over it. The plain
 // clauses are the store's own and a cursor only counts them, so what is left is said for any plain clauses, as many as the record counts,
 // and no function here reads a literal.
+#![tactic(auto)]
+
 ghost use Rattle.std.specs.Prelude.{◌≡◌, true, List, [], ◌∷◌, ℕ, ◌+◌, ◌≤◌, length, get_or};
 ghost use Rattle.store.specs.Stores.{rows_of, rows_from, FormedRows};
 ghost use Rattle.lexleader.specs.Made.{made, rows_clauses};
@@ -22,7 +24,7 @@ use lexleader::places::Place;
 use store::record::Record;
 
 // How many plain clauses are passed, the row whose clauses come next, and the place among them.
-#[derive(Drop)]
+#[derive(Clone, Copy)]
 pub struct Cursor {
     pub plain: usize,
     pub row: usize,

@@ -6,6 +6,8 @@
 // taken away. Each variable is met on one such round and visited once, so a row costs as many steps as it has variables, whatever its
 // cycles; to look for each variable's own cycle afresh would cost n² / 2 steps where a row sends each variable to the one before it. The
 // marks that are left at the end are those of the variables left out.
+#![tactic(auto)]
+
 ghost use Rattle.std.specs.Prelude.{◌≡◌, true, ◌≤◌, length, replicate};
 ghost use Rattle.store.specs.Stores.{max_variables, is_row};
 ghost use Rattle.cycles.specs.Cycles.{sent_to, turns};

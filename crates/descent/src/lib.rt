@@ -11,6 +11,8 @@
 // What makes the proof go: a table is that of one assignment, `bits_in` of it, and every contract speaks of that; words occur in `descend`
 // alone. The invariant of `settle` (`Reached`) is that the descent from the table as it was lent comes to what the descent from the table
 // as it is now comes to with the moves that are left; a turn is one unfolding of `descend_from`.
+#![tactic(auto)]
+
 mod spans;
 
 ghost use Rattle.std.specs.Prelude.{◌≡◌, true, ◌<◌, ◌≤◌, length};
@@ -28,7 +30,7 @@ use store::record::Record;
 use trial::Span;
 
 // How a descent ends, with the count of its moves.
-#[derive(Drop)]
+#[derive(Clone, Copy)]
 pub enum Descended {
     Settled(u64),
     Spent(u64),

@@ -1,32 +1,34 @@
 // Bytes into words, numbers and lines (document 01, "Plain formula"). Callers find a word with `next_word` and take what `read` answers
 // apart with `let .. else`: a number with the cursor past it, or the place where no number is. What carries the proofs: a text is the list
 // of its words with their places (specs/Words.antt), and each function here finds the head of such a list.
+#![tactic(auto)]
+
 ghost use Rattle.std.specs.Prelude.{◌≡◌, cond, min, ◌≤◌, length, get_or};
 ghost use Rattle.dimacs.specs.Words.{is_blank, is_word_byte, run, run_end};
 ghost use Rattle.dimacs.specs.Lines.{is_line_byte};
 ghost use Rattle.dimacs.specs.Numbers.{is_digit, decimal_from, reading_at};
 
-#[derive(Drop)]
+#[derive(Clone, Copy)]
 pub struct Number {
     pub negative: bool,
     pub size: u32,
 }
 
 // A place in a text from which reading goes on.
-#[derive(Drop)]
+#[derive(Clone, Copy)]
 pub struct Cursor {
     pub at: usize,
 }
 
 // What the word reader answers: a number with the cursor past it, or the place of a word that is no number.
-#[derive(Drop)]
+#[derive(Clone, Copy)]
 pub enum Reading {
     Found(Number, Cursor),
     Refused(usize),
 }
 
 // How many digits there are, and their value.
-#[derive(Drop)]
+#[derive(Clone, Copy)]
 struct Digits {
     count: usize,
     value: u32,

@@ -1,5 +1,7 @@
 // The made formula as text (document 01, "Made formula"): the header, and clause q of a well-formed store, each as one line at the start of a lent buffer. A line is
 // measured before it is written, so that a refusal has written nothing.
+#![tactic(auto)]
+
 ghost use Rattle.std.specs.Prelude.{◌≡◌, true, ◌+◌, ◌≤◌, [], length, get_or};
 ghost use Rattle.store.specs.Refusals.{said, buffer_left};
 ghost use Rattle.store.specs.Stores.{stored, rows_of, is_formed, FormedRows, max_literals};

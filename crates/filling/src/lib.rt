@@ -12,6 +12,8 @@
 // What makes the proof go: `settings-alike` and `settings-apart` (proofs/Runs.antt) say that the definition, which carries agreement
 // along the pairs, is these two runs; each function's contract is that it appends its values to whatever the writer holds (`Appends`),
 // so the loop over the rows needs only that the rows passed and the rows left make up all of them.
+#![tactic(auto)]
+
 ghost use Rattle.std.specs.Prelude.{◌≡◌, true, ◌++◌, ◌≤◌, length, drop};
 ghost use Rattle.packed.specs.Words.{word_count, is_assignment};
 ghost use Rattle.packed.specs.Order.{value_of};

@@ -2,6 +2,8 @@
 // included: what was counted in a clause is marked with the clause's number, from 1, so that no search is needed and the marks need not be cleared. It goes through the
 // clause from its end, as its definition does: a literal counts where it does not come again. The table of the numbers is in the memory of whoever goes through all clauses,
 // or of its caller.
+#![tactic(auto)]
+
 ghost use Rattle.std.specs.Prelude.{◌≡◌, ◌+◌, ◌-◌, ◌<◌, ◌≤◌, true, length};
 ghost use Rattle.lists.specs.Tests.{all_of};
 ghost use Rattle.lists.specs.Writing.{overwritten};

@@ -17,14 +17,14 @@ ghost use Rattle.lexleader.specs.Counted.{Counted};
 use store::record::Record;
 
 // What a row adds: its auxiliaries and its clauses.
-#[derive(Drop)]
+#[derive(Clone, Copy)]
 pub struct Added {
     pub auxiliaries: usize,
     pub clauses: usize,
 }
 
 // N and M.
-#[derive(Drop)]
+#[derive(Clone, Copy)]
 pub struct Totals {
     pub variables: usize,
     pub clauses: usize,

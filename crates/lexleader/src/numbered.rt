@@ -13,7 +13,7 @@ use crate::table::Clause;
 use crate::{counting, places};
 
 // Where a clause stands: in which row, that row's first auxiliary, and its number among the row's clauses, from 0.
-#[derive(Drop)]
+#[derive(Clone, Copy)]
 pub struct Spot {
     pub row: usize,
     pub auxiliary: u32,

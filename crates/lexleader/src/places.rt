@@ -20,7 +20,7 @@ use crate::table::Clause;
 
 // A place among the clauses that a row adds: clause r of auxiliary j, that auxiliary's number, and the indices of its pair's variable and
 // of the next one. Past the last clause the index is the row's length and the number that of the next row's first auxiliary.
-#[derive(Drop)]
+#[derive(Clone, Copy)]
 pub struct Place {
     pub index: usize,
     pub next: usize,

@@ -13,7 +13,7 @@ ghost use Rattle.lexleader.specs.Clause.{ClauseIs, table_of};
 use store::literal::opposite;
 
 // A clause that a row adds: at most four literals, as codes.
-#[derive(Drop)]
+#[derive(Clone, Copy)]
 pub struct Clause {
     pub count: usize,
     pub literals: [u32; 4],

@@ -5,6 +5,8 @@
 // `-x y`, the comparison, and but for the row's last pair four times with each choice of signs once. An auxiliary ej stands six times in
 // its own clauses (e1 five times) and, but for the row's last one, three times in those of the next. So a row needs the sum of its pairs'
 // digits, made in one pass along its marks, and the sum of its auxiliaries' digits, which are numbers that follow one another.
+#![tactic(auto)]
+
 ghost use Rattle.std.specs.Prelude.{◌≡◌, true, cond, ◌+◌, ◌*◌, ◌≤◌, length, ltb};
 ghost use Rattle.lists.specs.Sums.{sum_of};
 ghost use Rattle.lists.specs.Tests.{all_of};
@@ -21,7 +23,7 @@ use lexleader::counting;
 use store::record::Record;
 
 // Variables, clauses, literals without closing zeros, bytes of text.
-#[derive(Drop)]
+#[derive(Clone, Copy)]
 pub struct Figures {
     pub variables: usize,
     pub clauses: usize,
@@ -30,7 +32,7 @@ pub struct Figures {
 }
 
 // What the pairs of a row have together: bytes, and the variable of the last one, 0 where there is none.
-#[derive(Drop)]
+#[derive(Clone, Copy)]
 struct Pairs {
     bytes: usize,
     last: usize,

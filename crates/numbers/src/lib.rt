@@ -1,6 +1,8 @@
 // The 1,024 numbers of the literals (document 02, CR 5), in the order of the codes: the first is that of code 2, the literal 1, and the last that of code 1,025, the
 // literal -512. docs/KEYS.md lists them too and says where they come from. They rise, so that one look along the table shows that no two are alike and none is 0. The last
 // eleven bits of each are those of 1, so that those of a sum of them are the count of what is summed.
+#![tactic(auto)]
+
 ghost use Rattle.std.specs.Prelude.{◌≡◌};
 ghost use Rattle.numbers.specs.Numbers.{numbers};
 

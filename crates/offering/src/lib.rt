@@ -1,5 +1,7 @@
 // An offer: two lines are read as a permutation, which is checked to move something and to be a symmetry of the plain formula, and then
 // held as a row (document 01, "Permutations"; document 02, CR 8). The row is made in scratch memory, so that a refused offer writes nothing.
+#![tactic(auto)]
+
 ghost use Rattle.std.specs.Prelude.{◌≡◌, true, ◌<◌};
 ghost use Rattle.store.specs.Stores.{stored, plain_of, is_formed, max_rows};
 ghost use Rattle.numbers.specs.Numbers.{numbers};
@@ -10,7 +12,7 @@ use permutation::Stated;
 use store::record::Record;
 use store::refusal::Refusal;
 
-#[derive(Drop)]
+#[derive(Clone, Copy)]
 pub enum Offered {
     Accepted,
     Refused(Refusal),

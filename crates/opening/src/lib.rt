@@ -1,6 +1,8 @@
 // Opening: a text into the store (document 01, "Plain formula", refusals 1 to 6 and 23; CR 1, CR 5). The text is judged whole before anything is
 // written, so that a refused opening changes nothing. What carries the proofs: a text is a list of lines up to the problem line and a list
 // of words after it, and each pass is a walk through such a list.
+#![tactic(auto)]
+
 ghost use Rattle.std.specs.Prelude.{◌≡◌, true, [], ◌∷◌, ℕ, ◌≤◌, length};
 ghost use Rattle.lists.specs.Writing.{overwritten};
 ghost use Rattle.dimacs.specs.Words.{Piece, words_at};
@@ -19,28 +21,28 @@ use store::record::Record;
 use store::refusal::Refusal;
 
 // What a line says if it is a problem line.
-#[derive(Drop)]
+#[derive(Clone, Copy)]
 pub enum Sizes {
     Are(u32, u32),
     Not,
 }
 
 // The problem line: n, m and its end.
-#[derive(Drop)]
+#[derive(Clone, Copy)]
 pub enum Problem {
     Line(usize, usize, usize),
     Refused(Refusal),
 }
 
 // The clauses: how many literals they have.
-#[derive(Drop)]
+#[derive(Clone, Copy)]
 pub enum Scanned {
     Done(usize),
     Refused(Refusal),
 }
 
 // What opening answers: n and m, or a refusal.
-#[derive(Drop)]
+#[derive(Clone, Copy)]
 pub enum Opened {
     Open(usize, usize),
     Refused(Refusal),

@@ -1,6 +1,8 @@
 // Assignments of the variables 1..n, lent as 64-bit words (document 01, "Assignments, filling in and descent"). Here words become values
 // and values words; every definition above is over lists of values. The idea of the proofs: a list of words is the table of its bits,
 // and two tables first differ where the exclusive or of their first unequal words has its highest bit.
+#![tactic(auto)]
+
 pub mod writer;
 
 ghost use Rattle.std.specs.Prelude.{◌≡◌, false, ◌+◌, ◌-◌, ◌*◌, ◌≤◌, length};

@@ -14,7 +14,7 @@ ghost use Rattle.packed.specs.Words.{word_count, words_of};
 ghost use Rattle.packed.specs.Writing.{WriterHolds, WriterRoom, Appends};
 
 // How many values a writer has taken, and those of the word that is begun.
-#[derive(Drop)]
+#[derive(Clone, Copy)]
 pub struct Writer {
     pub taken: usize,
     pub word: u64,

@@ -1,6 +1,8 @@
 // The made formula's clauses written page after page (document 01, "Quality figure and program"): a buffer is filled with as many lines as
 // fit, and a cursor says where the next page begins, so that no row is walked again for each clause. What carries the proofs: the clauses
 // that are left decide what a page holds (specs/Pages.antt), and each line that is added leaves that as it was.
+#![tactic(auto)]
+
 ghost use Rattle.std.specs.Prelude.{◌≡◌, true, List, [], ℕ, ◌≤◌, ◌<◌, length, get_or};
 ghost use Rattle.store.specs.Stores.{stored, clause_at, plain_of, is_formed, FormedClauses};
 ghost use Rattle.render.specs.Text.{clause_line};
@@ -11,14 +13,14 @@ use cursor::Cursor;
 use store::record::Record;
 
 // How many bytes of the buffer a page has, and where the next one begins.
-#[derive(Drop)]
+#[derive(Clone, Copy)]
 pub struct Page {
     pub bytes: usize,
     pub cursor: Cursor,
 }
 
 // The place after a line, and the cursor after its clause.
-#[derive(Drop)]
+#[derive(Clone, Copy)]
 pub struct Line {
     pub at: usize,
     pub cursor: Cursor,

@@ -2,6 +2,8 @@
 // whole line before the next. A word that is no number is no name and no value either, so that a line in which 8 or 10 finds no fault has
 // none of 7 or 9: each line is walked once, and a second time only to be refused. The idea of the proofs: a line is the list of its words,
 // and a rule is a search through that list.
+#![tactic(auto)]
+
 ghost use Rattle.std.specs.Prelude.{◌≡◌, false, cond, [], ◌++◌, ◌≤◌, length, take, drop, replicate};
 ghost use Rattle.lists.specs.Tests.{has};
 ghost use Rattle.dimacs.specs.Words.{words_at};
@@ -20,21 +22,21 @@ use store::refusal::Refusal;
 const MARKS: usize = Record::MAX_VARIABLES + 1;
 
 // Where a rule finds its first fault.
-#[derive(Drop)]
+#[derive(Clone, Copy)]
 pub enum Fault {
     At(usize),
     Nowhere,
 }
 
 // What two lines state: a permutation, or the refusal at their first fault.
-#[derive(Drop)]
+#[derive(Clone, Copy)]
 pub enum Stated {
     Permutation,
     Refused(Refusal),
 }
 
 // What rule 8 finds on a line: so many names, or where the first bad one stands.
-#[derive(Drop)]
+#[derive(Clone, Copy)]
 enum Names {
     Listed(usize),
     Bad(usize),

@@ -1,6 +1,8 @@
 // The program's output for an input, handed to standard output page after page, up to the first write that fails. What the pages hold is decided in
 // `program`. The loop carries how many bytes it has handed over, and a page is handed over only where it is the part of the output that starts at that
 // count: none is left out, repeated or out of order, and what arrived is always a beginning of the output.
+#![tactic(auto)]
+
 ghost use Rattle.std.specs.Prelude.{◌≡◌, ℕ, ◌+◌, ◌≤◌, length};
 ghost use Rattle.store.specs.Stores.{stored};
 ghost use Rattle.emit.specs.Emit.{max_line};
@@ -15,7 +17,7 @@ use store::record::Record;
 pub const PAGE: usize = 131072;
 
 // So many bytes of the output were handed over, or a write failed.
-#[derive(Drop)]
+#[derive(Clone, Copy)]
 pub enum Handed {
     Bytes(usize),
     Failed,

@@ -1,5 +1,7 @@
 // All that the program decides (document 01, "Quality figure and program"), on slices: `begin` opens and offers what an input states, and `page` puts the
 // next part of the output into a buffer. The program itself only reads, calls these and writes.
+#![tactic(auto)]
+
 ghost use Rattle.std.specs.Prelude.{◌≡◌, ◌≤◌, length};
 ghost use Rattle.store.specs.Stores.{Store, stored, closed_record};
 ghost use Rattle.standing.specs.Keyed.{keyed};
@@ -13,7 +15,7 @@ use store::record::Record;
 use store::refusal::Refusal;
 
 // What comes next: the line of a refusal, the header, the clauses from a cursor on, or nothing.
-#[derive(Drop)]
+#[derive(Clone, Copy)]
 pub enum Stage {
     Refused(Refusal),
     Header,
@@ -22,14 +24,14 @@ pub enum Stage {
 }
 
 // The first stage, with the record of the store beside it.
-#[derive(Drop)]
+#[derive(Clone, Copy)]
 pub struct Begun {
     pub stage: Stage,
     pub counts: Record,
 }
 
 // How many bytes of the buffer a page has, and the stage after it.
-#[derive(Drop)]
+#[derive(Clone, Copy)]
 pub struct Printed {
     pub bytes: usize,
     pub stage: Stage,

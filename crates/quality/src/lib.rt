@@ -1,4 +1,6 @@
 // The quality figure of a list of permutations (document 01, "Quality figure and program"; document 02, CR 4; source document 000, section 4).
+#![tactic(auto)]
+
 ghost use Rattle.std.specs.Prelude.{◌≡◌, true, ◌<◌, ◌≤◌};
 ghost use Rattle.quality.specs.Rounding.{nearest_of};
 ghost use Rattle.quality.specs.Efficiency.{max_labelled, has_efficiency, efficiency_of};

@@ -1,5 +1,7 @@
 // Numbers, literals, clauses and the header as bytes in a lent buffer (document 01, "Made formula"). Each `put_` writes from a place on and
 // answers the place after what it wrote; each `_length` says beforehand how many bytes that is.
+#![tactic(auto)]
+
 ghost use Rattle.std.specs.Prelude.{◌≡◌, [], ◌∷◌, ◌++◌, ◌+◌, ◌-◌, ◌≤◌, ◌<◌, length};
 ghost use Rattle.store.specs.Stores.{max_literals};
 ghost use Rattle.render.specs.Text.{decimal, literal_text, clause_line, two_numbers, header_line, refusal_line, written_at};

@@ -1,6 +1,8 @@
 // What the program does with an input before it prints (document 01, "Quality figure and program"): the input is split at its first line that is just `%`,
 // the text before it is opened, and the value lines are offered in turn. What carries the proofs: an input is a list of lines with their places, and
 // each function here walks along that list.
+#![tactic(auto)]
+
 ghost use Rattle.std.specs.Prelude.{◌≡◌, true, ◌<◌, length};
 ghost use Rattle.dimacs.specs.Lines.{lines_at};
 ghost use Rattle.store.specs.Stores.{closed_record};
@@ -16,14 +18,14 @@ use store::refusal::Refusal;
 pub const MAX_INPUT: usize = 65536;
 
 // All that was offered is accepted, or the first refusal.
-#[derive(Drop)]
+#[derive(Clone, Copy)]
 pub enum Answer {
     Ready,
     Refused(Refusal),
 }
 
 // How a session ends, with the record of its store beside it.
-#[derive(Drop)]
+#[derive(Clone, Copy)]
 pub struct Session {
     pub answer: Answer,
     pub counts: Record,

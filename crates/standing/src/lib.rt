@@ -1,4 +1,6 @@
 // What a call that needs an open store finds first: whether all that is lent is as it should be. Every such call asks this once.
+#![tactic(auto)]
+
 ghost use Rattle.std.specs.Prelude.{◌≡◌};
 ghost use Rattle.numbers.specs.Numbers.{numbers};
 ghost use Rattle.standing.specs.Keyed.{keyed, well_formed, standing_of};
@@ -6,7 +8,7 @@ ghost use Rattle.standing.specs.Keyed.{keyed, well_formed, standing_of};
 use store::record::Record;
 use store::refusal::Refusal;
 
-#[derive(Drop)]
+#[derive(Clone, Copy)]
 pub enum Standing {
     Ready,
     Refused(Refusal),

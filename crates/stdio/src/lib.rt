@@ -1,24 +1,26 @@
 // Standard input, standard output and standard error. A call of the system that fails is told apart from the end of the input and from a write that took
 // all: an answer here is a failure or a count, and a failure has no count. What the system's read and write do is trusted.
+#![tactic(auto)]
+
 ghost use Rattle.std.specs.Prelude.{◌≡◌, cond, ℕ, ◌+◌, ◌^◌, ◌≤◌, ◌<◌, nat_abs, length};
 ghost use Rattle.stdio.specs.Answers.{read_on};
 
 // What the whole input came to: so many bytes at the start of a buffer, or a read that failed.
-#[derive(Drop)]
+#[derive(Clone, Copy)]
 pub enum Input {
     Bytes(usize),
     Failed,
 }
 
 // What became of bytes for standard output: all so many were taken, or a write failed.
-#[derive(Drop)]
+#[derive(Clone, Copy)]
 pub enum Output {
     Bytes(usize),
     Failed,
 }
 
 // How reading goes on after one read of the system: with so many bytes in all, or it is over.
-#[derive(Drop)]
+#[derive(Clone, Copy)]
 pub enum Reading {
     More(usize),
     Over(Input),

@@ -1,7 +1,7 @@
 // What a call with one value answers: the value, or a refusal.
 use crate::refusal::Refusal;
 
-#[derive(Drop)]
+#[derive(Clone, Copy)]
 pub enum Answer {
     Value(u64),
     Refused(Refusal),

@@ -2,7 +2,7 @@
 ghost use Rattle.std.specs.Prelude.{◌≡◌};
 ghost use Rattle.store.specs.Stores.{closed_record};
 
-#[derive(Drop)]
+#[derive(Clone, Copy)]
 pub struct Record {
     pub variables: usize,
     pub clauses: usize,

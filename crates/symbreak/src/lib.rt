@@ -1,4 +1,6 @@
 // The calls for C (include/symbreak.h): numbers and slices in, structs of numbers out. A slice passes as a pointer and a length.
+#![tactic(auto)]
+
 ghost use Rattle.std.specs.Prelude.{◌≡◌, cond, [], length};
 ghost use Rattle.store.specs.Refusals.{done, number_of, place_of, said};
 ghost use Rattle.store.specs.Stores.{lent, closed_record};
@@ -20,7 +22,7 @@ use store::record::Record;
 use store::refusal::Refusal;
 
 #[repr(C)]
-#[derive(Drop)]
+#[derive(Clone, Copy)]
 pub struct CRecord {
     pub variables: u64,
     pub clauses: u64,
@@ -29,7 +31,7 @@ pub struct CRecord {
 }
 
 #[repr(C)]
-#[derive(Drop)]
+#[derive(Clone, Copy)]
 pub struct CStored {
     pub refusal: u32,
     pub place: u64,
@@ -40,7 +42,7 @@ pub struct CStored {
 }
 
 #[repr(C)]
-#[derive(Drop)]
+#[derive(Clone, Copy)]
 pub struct CAnswer {
     pub refusal: u32,
     pub place: u64,
@@ -48,7 +50,7 @@ pub struct CAnswer {
 }
 
 #[repr(C)]
-#[derive(Drop)]
+#[derive(Clone, Copy)]
 pub struct CFigures {
     pub refusal: u32,
     pub place: u64,
@@ -59,7 +61,7 @@ pub struct CFigures {
 }
 
 #[repr(C)]
-#[derive(Drop)]
+#[derive(Clone, Copy)]
 pub struct CDescent {
     pub refusal: u32,
     pub place: u64,

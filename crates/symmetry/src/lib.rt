@@ -15,6 +15,8 @@
 // with the clauses that have its key and no others, and those are found by an index of the keys. Keys decide nothing: where two clauses share one, the full comparison
 // tells them apart. It takes time in proportion to the clause that the image is compared with: while the key of an image is summed its literals are marked, and it is enough
 // that each literal of the clause has the mark, since the last bits of a key are the count of different literals (docs/KEYS.md; `keys/proofs/Counts.antt`).
+#![tactic(auto)]
+
 mod index;
 mod judged;
 

@@ -11,6 +11,8 @@
 //
 // A row may be tried many times and moves the same variables each time. Whoever does so notes its span first, from the first moved
 // variable to the last, and a trial then walks that alone.
+#![tactic(auto)]
+
 ghost use Rattle.std.specs.Prelude.{◌≡◌, true, ◌+◌, ◌*◌, ◌≤◌, ◌<◌, length};
 ghost use Rattle.store.specs.Stores.{max_variables};
 ghost use Rattle.lexleader.specs.Rows.{moved_pairs};
@@ -19,14 +21,14 @@ ghost use Rattle.valuation.specs.Tables.{by_code};
 ghost use Rattle.trial.specs.Spans.{moved_at, FirstMoved, placed, Decides, Covers, IsSpan};
 
 // Whether the row makes the assignment smaller, and the variable that decided, 0 where none does.
-#[derive(Drop)]
+#[derive(Clone, Copy)]
 pub struct Trial {
     pub lowers: bool,
     pub variable: usize,
 }
 
 // A part of a row, by indices: from `first` up to `end`, which is past its last.
-#[derive(Drop)]
+#[derive(Clone, Copy)]
 pub struct Span {
     pub first: usize,
     pub end: usize,

@@ -1,5 +1,7 @@
 // Trials, run (document 02, CR 2): some rows of six variables, each on all 64 assignments. A line has the assignment as a number from 0 to 63 (variable 1 is its
 // highest bit), 1 where the row makes it smaller, else 0, and the variable that decided. The script `make_expected.py` makes, by the reference, what is expected.
+#![tactic(auto)]
+
 ghost use Rattle.std.specs.Prelude.{◌<◌};
 
 use trial::Trial;

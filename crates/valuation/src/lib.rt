@@ -1,6 +1,8 @@
 // The value of a literal under an assignment lent as words (document 01, "Assignments, filling in and descent"), which checking reads of
 // auxiliaries; and the values of all literals in a table by code, which checking, descent and filling in read many times before the
 // assignment changes.
+#![tactic(auto)]
+
 ghost use Rattle.std.specs.Prelude.{◌≡◌, ℕ, ◌+◌, ◌*◌, ◌≤◌, length};
 ghost use Rattle.packed.specs.Words.{bits_of, word_count};
 ghost use Rattle.packed.specs.Order.{value_of};

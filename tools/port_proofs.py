@@ -106,7 +106,7 @@ class Function:
                 if info["clauses"][i]:
                     self.fields[sn] = info["clauses"][i]["fields"]
                 if extra:
-                    self.extras[sn] = dict(extra)
+                    self.extras.setdefault(sn, {}).update(extra)
             arm = info["arms"][i]
             if arm:
                 name, k, maps = arm
@@ -577,7 +577,7 @@ def turn(fn):
 
 
 def main():
-    names, folder = sys.argv[1], sys.argv[2].rstrip("/")
+    names, folder = sys.argv[1], os.path.abspath(sys.argv[2])
     only = sys.argv[3:]
     root = os.path.dirname(os.path.dirname(os.path.abspath(folder)))
     read_clauses(root)

@@ -1,0 +1,27 @@
+-- `lexleader::counting::totals_of` meets its contract. Assumes nothing.
+use mathlib.Core.Path.{sym, ap}
+use Prim.Native.Nat.{ℕ, ◌+◌}
+use native.Mathlib.Omega.{arith}
+use lib.Seq.{length-take-le}
+use Rattle.lexleader.specs.Made.{made_variables}
+use Rattle.lexleader.proofs.counting.totals_of.Goals as goal
+
+pub slice_bounds-marks-end : goal.slice_bounds-marks-end
+slice_bounds-marks-end c = omega (arith, c.requires.1.small)
+
+pub slice_bounds-added_by_rows-end : goal.slice_bounds-added_by_rows-end
+slice_bounds-added_by_rows-end c = sym (length-take-le _ _ (omega (arith, c.requires.1.small)))
+
+pub added_by_rows-added-requires : goal.added_by_rows-added-requires
+added_by_rows-added-requires c = (c.requires.1, sym (slice-aggregate-added-by-rows c))
+
+pub returns : goal.returns
+unfolding made_variables
+returns c =
+    let added = c.added_by_rows-added.ensures in
+    record {
+      variables = ap (λ (k : ℕ). c.args.counts.variables + k) added.0;
+      clauses = ap (λ (k : ℕ). c.args.counts.clauses + k) (added.1 (c.args.counts.variables + 1));
+      few-variables = omega (arith, c.requires.1.small, added.2);
+      few-clauses = omega (arith, c.requires.0, added.3);
+    }

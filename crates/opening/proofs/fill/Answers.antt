@@ -1,0 +1,163 @@
+-- `opening::fill` meets its contract. Each turn reads a number and stores it, so that what is still to be stored, stored from where the locals
+-- say, stays the answer; and the scan of what is left is still done, which bounds each store. Assumes nothing.
+use mathlib.Core.Path.{◌≡◌, refl, sym, ap, ◌∙◌}
+use Prim.Native.Nat.{ℕ, ◌-◌, ◌≤◌}
+use mathlib.Core.List.{List}
+use lib.ListN.{length, length-set}
+use lib.Seq.{sets}
+use Rattle.dimacs.specs.Words.{Piece}
+use Rattle.comments.specs.Comments.{words_past, Between}
+use Rattle.store.specs.Stores.{max_variables, max_literals}
+use Rattle.opening.specs.Clauses.{scan_from, literals_in, ends_from}
+use Rattle.lists.specs.Writing.{overwritten}
+use Rattle.opening.specs.declared.Scanned.{Scanned}
+use Rattle.opening.proofs.NextNumber.{NextNumber, body-found, body-missing}
+use Rattle.opening.proofs.DoneLaws.{counted, ZeroTurn, zero_turn, LiteralTurn, literal-turn, none_left}
+use Rattle.lists.proofs.Writing.{stored, sets-front}
+use native.Mathlib.Omega.{arith}
+use Rattle.opening.proofs.fill.Goals as goal
+use Rattle.opening.proofs.fill.Goals.{After-code, After-struct_known-else-number-eq0-1, Then-number-eq0}
+
+-- what stays: the words open as n and m, with `total` literals, and there is room
+record Judged (literals₀ ends₀ : List ℕ) : Type 0 where
+  n : ℕ
+  m : ℕ
+  total : ℕ
+  small : n ≤ max_variables
+  literals_room : total ≤ length literals₀
+  ends-room : m ≤ length ends₀
+
+record Inv (text : List ℕ) (start : ℕ) (literals₀ ends₀ literals ends : List ℕ) (at closed used : ℕ) : Type 0 where
+  judged : Judged literals₀ ends₀
+  between : Between text at
+  used-within : used ≤ max_literals
+  literals-length : length literals ≡ length literals₀
+  ends-length : length ends ≡ length ends₀
+  done : scan_from (length text) judged.n judged.m closed used (words_past text at) ≡ Scanned.Done judged.total
+  codes : overwritten (literals_in (words_past text start)) literals₀ ≡ sets literals used (literals_in (words_past text at))
+  clauses : overwritten (ends_from 0 (words_past text start)) ends₀ ≡ sets ends closed (ends_from used (words_past text at))
+
+pub loop-number-init : goal.loop-number-init
+loop-number-init c =
+    let n = c.requires.1.0 in
+    let m = c.requires.1.1 in
+    let words = words_past c.args.text.now c.args.start in
+    let fits = c.requires.1 in
+    let all = counted _ n m fits.2 words 0 0 fits.4 in
+    record {
+      judged = record { n = n; m = m; total = fits.2; small = fits.3; literals_room = fits.5; ends-room = fits.6 };
+      between = c.requires.0;
+      used-within = omega arith;
+      literals-length = refl;
+      ends-length = refl;
+      done = fits.4;
+      codes = sets-front c.args.literals.now (literals_in words) (omega (arith, all.literals, fits.5));
+      clauses = sets-front c.args.ends.now (ends_from 0 words) (omega (arith, all.ends, fits.6));
+    }
+
+pub next_word-word-requires : goal.next_word-word-requires
+next_word-word-requires c = c.loop-number.invariant.between
+
+pub shape_of-literals-in_default : goal.shape_of-literals-in_default
+shape_of-literals-in_default c = c.loop-number.invariant.literals-length
+
+pub shape_of-ends-in_default : goal.shape_of-ends-in_default
+shape_of-ends-in_default c = c.loop-number.invariant.ends-length
+
+pub returns-in_default : goal.returns-in_default
+unfolding literals_in ends_from
+returns-in_default c = let l = c.loop-number in
+    let refused = sym c.read.ensures ∙ c.in_default.is in
+    let no_number = body-missing _ _ _ c.next_word-word.ensures _ refused in
+    let end = none_left _ _ _ _ _ _ _ l.invariant.done no_number in
+    record {
+      literals = sym (l.invariant.codes ∙ ap (λ (ws : List Piece). sets l.literals l.used (literals_in ws)) end);
+      ends = sym (l.invariant.clauses ∙ ap (λ (ws : List Piece). sets l.ends l.closed (ends_from l.used ws)) end);
+    }
+
+pub overflow_cast-ends : goal.overflow_cast-ends
+overflow_cast-ends c = omega (arith, c.loop-number.invariant.used-within)
+
+found : (c : Then-number-eq0) → let text = c.args.text.now in
+    let read = c.number-1.given.0 in
+    NextNumber text (words_past text) c.loop-number.at c.next_word-word.result read.0 read.1.0.at
+found c = body-found _ _ _ c.next_word-word.ensures _ _ (sym c.read.ensures ∙ c.in-Found.is)
+
+zero-here : (c : Then-number-eq0) → ZeroTurn _ _ _ _ _ _ _ c.loop-number.invariant.done _ _ (found c).words _ (found c).number
+zero-here c = zero_turn _ _ _ _ _ _ _ _ _ _ _ _ _ c.if-number-eq0.true
+
+pub offset_bounds-ends-closed : goal.offset_bounds-ends-closed
+offset_bounds-ends-closed c = omega (arith, zero-here c)
+
+pub bounds-ends-closed : goal.bounds-ends-closed
+bounds-ends-closed c = omega (arith, zero-here c)
+
+pub overflow_add-closed : goal.overflow_add-closed
+overflow_add-closed c = omega (arith, zero-here c)
+
+found-at-After-struct_known-else-number-eq0-1 : (c : After-struct_known-else-number-eq0-1) → let text = c.args.text.now in
+    let read = c.number-1.given.0 in
+    NextNumber text (words_past text) c.loop-number.at c.next_word-word.result read.0 read.1.0.at
+found-at-After-struct_known-else-number-eq0-1 c = body-found _ _ _ c.next_word-word.ensures _ _ (sym c.read.ensures ∙ c.in-Found.is)
+
+literal-here : (c : After-struct_known-else-number-eq0-1) → LiteralTurn _ _ _ _ _ _ _ c.loop-number.invariant.done _ _ (found-at-After-struct_known-else-number-eq0-1 c).words _ (found-at-After-struct_known-else-number-eq0-1 c).number
+literal-here c = literal-turn _ _ _ _ _ _ _ _ _ _ _ _ _ c.if-number-eq0.false
+
+pub overflow_cast-number : goal.overflow_cast-number
+overflow_cast-number c = omega (arith, literal-here c)
+
+pub code-requires : goal.code-requires
+code-requires c = omega (arith, literal-here c)
+
+found-at-After-code : (c : After-code) → let text = c.args.text.now in
+    let read = c.number-1.given.0 in
+    NextNumber text (words_past text) c.loop-number.at c.next_word-word.result read.0 read.1.0.at
+found-at-After-code c = body-found _ _ _ c.next_word-word.ensures _ _ (sym c.read.ensures ∙ c.in-Found.is)
+
+literal-here-at-After-code : (c : After-code) → LiteralTurn _ _ _ _ _ _ _ c.loop-number.invariant.done _ _ (found-at-After-code c).words _ (found-at-After-code c).number
+literal-here-at-After-code c = literal-turn _ _ _ _ _ _ _ _ _ _ _ _ _ c.if-number-eq0.false
+
+pub offset_bounds-literals-used : goal.offset_bounds-literals-used
+offset_bounds-literals-used c = omega (arith, literal-here-at-After-code c)
+
+pub bounds-literals-used : goal.bounds-literals-used
+bounds-literals-used c = omega (arith, literal-here-at-After-code c)
+
+pub overflow_add-used : goal.overflow_add-used
+overflow_add-used c = omega (arith, literal-here-at-After-code c)
+
+pub loop-number-smaller-then-number-eq0 : goal.loop-number-smaller-then-number-eq0
+loop-number-smaller-then-number-eq0 c = omega (arith, found c)
+
+pub loop-number-preserved-then-number-eq0 : goal.loop-number-preserved-then-number-eq0
+loop-number-preserved-then-number-eq0 c =
+    let l = c.loop-number in
+    let t = zero-here c in
+    record {
+      judged = l.invariant.judged;
+      between = (found c).between;
+      used-within = l.invariant.used-within;
+      literals-length = l.invariant.literals-length;
+      ends-length = simp length-set l.invariant.ends-length;
+      done = t.scanned;
+      codes = l.invariant.codes ∙ ap (sets l.literals l.used) t.codes;
+      clauses = stored l.ends l.closed l.invariant.clauses t.clauses refl;
+    }
+
+pub loop-number-smaller : goal.loop-number-smaller
+loop-number-smaller c = omega (arith, found-at-After-code c)
+
+pub loop-number-preserved : goal.loop-number-preserved
+loop-number-preserved c =
+    let l = c.loop-number in
+    let t = literal-here-at-After-code c in
+    record {
+      judged = l.invariant.judged;
+      between = (found-at-After-code c).between;
+      used-within = omega (arith, t);
+      literals-length = simp length-set l.invariant.literals-length;
+      ends-length = l.invariant.ends-length;
+      done = t.scanned;
+      codes = stored l.literals l.used l.invariant.codes t.codes (sym c.code.ensures);
+      clauses = l.invariant.clauses ∙ ap (sets l.ends l.closed) t.clauses;
+    }

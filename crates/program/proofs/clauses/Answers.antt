@@ -1,0 +1,26 @@
+-- `program::clauses` meets its contract: the page holds the clauses that fit. Assumes nothing.
+use mathlib.Core.Path.{sym}
+use native.Mathlib.Omega.{arith}
+use lib.Seq.{length-take-le}
+use Rattle.store.specs.Stores.{Store, lent}
+use Rattle.program.proofs.ProgramLaws.{clauses-step}
+use Rattle.program.proofs.clauses.Goals as goal
+use Rattle.program.proofs.clauses.Goals.{After-next-1}
+
+pub slice_bounds-marks-end : goal.slice_bounds-marks-end
+slice_bounds-marks-end c = omega (arith, c.requires.0.1.rows.small)
+
+pub slice_bounds-fill-end : goal.slice_bounds-fill-end
+slice_bounds-fill-end c = sym (length-take-le _ _ (omega (arith, c.requires.0.1.rows.small)))
+
+pub fill-filled-requires : goal.fill-filled-requires
+fill-filled-requires c =
+    (c.requires.0.0, c.requires.0.1, sym (slice-aggregate-fill c))
+
+abbrev S : After-next-1 → Store
+S c = lent c.args.counts c.args.literals.now c.args.ends.now c.args.images.now
+
+pub returns : goal.returns
+returns c =
+    let e = c.fill-filled.ensures.?clauses-from-0 in
+    clauses-step (S c) c.requires.0.0 c.args.cursor _ _ _ _ e.0 e.1.0 (λ none. e.1.1 c.requires.1 none)

@@ -1,0 +1,11 @@
+-- `symbreak::symbreak_fill_in` meets its contract: what the call says, as numbers, and what it leaves. Assumes nothing.
+use mathlib.Core.Path.{ap, ◌∙◌}
+use Rattle.symbreak.specs.Exports.{c_answer}
+use Rattle.symbreak.proofs.symbreak_fill_in.Goals as goal
+
+pub returns : goal.returns
+returns c = let both = rw c.record_of-counts.ensures at c.fill_in.ensures.?clauses-from-0 in
+    record {
+      says = c.c_answer.ensures ∙ ap c_answer both.0;
+      leaves = both.1;
+    }

@@ -1,0 +1,11 @@
+-- `symbreak::symbreak_header` meets its contract: what the call says, as numbers, and what it leaves. Assumes nothing.
+use mathlib.Core.Path.{ap, ◌∙◌}
+use Rattle.symbreak.specs.Exports.{c_answer}
+use Rattle.symbreak.proofs.symbreak_header.Goals as goal
+
+pub returns : goal.returns
+returns c = let both = rw c.record_of-counts.ensures at c.header.ensures.?clauses-from-0 in
+    record {
+      says = c.c_answer.ensures ∙ ap c_answer both.0;
+      leaves = both.1;
+    }

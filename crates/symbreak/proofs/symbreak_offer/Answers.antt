@@ -1,0 +1,20 @@
+-- `symbreak::symbreak_offer` meets its contract: what the call says and leaves, as numbers. Assumes nothing.
+use mathlib.Core.Path.{sym, ap, ◌∙◌}
+use Rattle.calls.specs.Calls.{accepted, said_offered}
+use Rattle.symbreak.proofs.ExportLaws.{counts_of, images-of, told-done, told-refused}
+use Rattle.symbreak.proofs.symbreak_offer.Goals as goal
+
+pub returns-in-Accepted : goal.returns-in-Accepted
+returns-in-Accepted c = let both = rw c.record_of-counts.ensures at c.offer-r.ensures.?clauses-from-0 in
+    record {
+      says = told-done _ accepted _ _ _ c.stored_at.ensures (sym (ap said_offered c.in-Accepted.is) ∙ both.0) (counts_of both.1);
+      images = images-of both.1;
+    }
+
+pub returns-in-Refused : goal.returns-in-Refused
+returns-in-Refused c = let r = c.answer-1.given in
+    let both = rw c.record_of-counts.ensures at c.offer-r.ensures.?clauses-from-0 in
+    record {
+      says = told-refused _ r.0.0 _ _ _ c.stored_refused.ensures (sym (ap said_offered r.1) ∙ both.0) (counts_of both.1);
+      images = images-of both.1;
+    }

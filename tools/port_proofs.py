@@ -21,7 +21,8 @@ def say(*words):
 
 
 def norm(s):
-    return s.replace("-", "_")
+    s = s.replace("is_Is_", "is_").replace("-", "_").lower()
+    return re.sub(r"_(\d+)$", r"\1", s) if re.search(r"[a-z]_\d+$", s) else s
 
 
 def read_clauses(root):
@@ -156,14 +157,22 @@ class Function:
             more = ["ensures"] + self.clause(more[1:], self.fields[new])
         elif more and more[0] in self.extras.get(new, {}):
             more = [self.extras[new][more[0]]] + more[1:]
-        if more and more[0] in ("taken", "left"):
-            more[0] = {"taken": "true", "left": "false"}[more[0]]
+        if "@rest" in more:
+            k = more.index("@rest")
+            base = "c." + ".".join([new] + more[:k])
+            got = [f"{base}.{n}" for n in more[k + 1:]]
+            text = got.pop()
+            while got:
+                text = f"({got.pop()}, {text})"
+            return text
         return "c." + ".".join([new] + more)
 
     def clause(self, parts, names):
         i = 0
         parts = list(parts)
         n = len(names)
+        if n == 1:
+            return parts
         while i < n - 1 and parts and parts[0] == "1":
             parts.pop(0)
             i += 1
@@ -171,6 +180,8 @@ class Function:
             return [names[i]] + parts
         if parts and parts[0] == "0":
             return [names[i]] + parts[1:]
+        if not parts:
+            return ["@rest"] + list(names[i:])
         return [f"?clauses-from-{i}"] + parts
 
 
@@ -194,6 +205,11 @@ def alias_rewrite(text, var, navs):
                 if re.search(rf"(λ|\()[^.)\n]*(?<![\w.'-]){re.escape(name)}(?![\w'-])[^.)\n]*[.:]", rest) and re.search(rf"λ[^.]*(?<![\w.'-]){re.escape(name)}(?![\w'-])[^.]*\.\s|\({re.escape(name)} :", rest):
                     say("binder that looks like the alias", name)
                 rest = re.sub(rf"(?<![\w.'-]){re.escape(name)}(?![\w'-])(?!\s*=[^≡])", "c", rest)
+            text = text[:m.start()] + rest
+        m = re.search(rf"\blet ({ID}) = (c\.{ID}\.given\.0)\s+in\b[ \t]*\n?", text)
+        if m:
+            rest = text[m.end():]
+            rest = re.sub(rf"(?<![\w.'-]){re.escape(m.group(1))}(?![\w'-])(?!\s*=[^≡])", m.group(2), rest)
             text = text[:m.start()] + rest
         changed = text != before
     return text
@@ -436,6 +452,14 @@ def turn(fn):
         inner = ";\n      ".join(f"{n} = {re.sub(chr(10), ' ', g)}" for n, g in zip(names, got))
         return lead, "record {\n      " + inner + ";\n    }"
 
+    goal_name = {a[1]["name"]: (needs[k][1], goal_places[k]) for k, a in answers.items() if a[0] == "decl"}
+
+    def cited(text, own):
+        for name in sorted(goal_name, key=len, reverse=True):
+            if goal_name[name][0] != own:
+                text = re.sub(rf"(?<![\w.'-]){re.escape(name)}(?=\s+c(?![\w.'-]))", goal_name[name][0], text)
+        return text
+
     def answer(k, kind, it):
         old, new = needs[k]
         place = goal_places[k]
@@ -472,6 +496,7 @@ def turn(fn):
         body = alias_rewrite(body, var, navs)
         params[0] = "c"
         body = flatten(fn, body)
+        body = cited(body, new)
         body = calls(body, new, place)
         # clauses that have names
         names = None
@@ -504,13 +529,14 @@ def turn(fn):
         out.append("\n".join(chunk))
 
     index = {id(a[1]): k for k, a in answers.items() if a[0] == "decl"}
+    for k in sorted(answers):
+        if answers[k][0] == "term":
+            answer(k, *answers[k])
     for d in order:
         if d.get("plain"):
             out.append("\n".join(d["comment"] + d["lines"]))
         elif id(d) in index:
-            pass
-    for k in sorted(answers):
-        answer(k, *answers[k])
+            answer(index[id(d)], "decl", d)
     for name, d in helpers.items():
         if not any(key[0] == name for key in helper_uses):
             say(f"{fn_name}: helper {name} is not used")
@@ -542,6 +568,7 @@ def turn(fn):
         return kept
 
     # ---- invariants
+    moved_names = []
     if invs:
         chunk = []
         for (lo, ln), vars_ in fn.info["loops"]:
@@ -566,12 +593,23 @@ def turn(fn):
                 body = re.sub(rf"(?<![\w.'-]){ID}", lambda mm: table.get(mm.group(0), mm.group(0)), body)
                 chunk.append("\n".join(d["comment"] + [f"abbrev pub {kind}-{ln} : goal.{kind}-{ln}"] + ([d["unfolding"]] if "unfolding" in d else []) + [f"{kind}-{ln} l ={body}"]))
         body = "\n\n".join(chunk)
+        moved = [d for d in order if d.get("plain") and d.get("name") and re.search(rf"(?<![\w.'-]){re.escape(d['name'])}(?![\w'-])", body)]
+        for d in moved:
+            lines = list(d["lines"])
+            lines[0] = re.sub(r"^(abbrev |unfoldable )?(pub )?", lambda m: (m.group(1) or "") + "pub ", lines[0])
+            body = "\n".join(d["comment"] + lines) + "\n\n" + body
+            for i, o in enumerate(out):
+                if o == "\n".join(d["comment"] + d["lines"]):
+                    del out[i]
+                    break
+            moved_names.append(d["name"])
         top = "\n".join(head + needed(uses, body) + [f"use {path}.Given as goal"])
         open(os.path.join(fn.folder, "Invariants.antt"), "w").write(top + "\n\n" + body + "\n")
     body = "\n\n".join(out)
     if out:
         extra = [f"use {path}.Goals as goal"] + ([f"use {path}.Goals.{{{', '.join(sorted(imports))}}}"] if imports else [])
-        comment = head if not invs else ["-- Answers to what is left of the proof. Assumes nothing."]
+        if moved_names:
+            uses.append(f"use {path}.Invariants.{{{', '.join(moved_names)}}}")
         open(os.path.join(fn.folder, "Answers.antt"), "w").write("\n".join(head + needed(uses, body) + extra) + "\n\n" + body + "\n")
     os.rename(src, src + ".old")
 

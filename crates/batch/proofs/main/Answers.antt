@@ -7,4 +7,4 @@ pub slice_bounds-data-end : goal.slice_bounds-data-end
 slice_bounds-data-end c = c.read.ensures _ c.in-Bytes.is
 
 pub slice_bounds-inputs-end : goal.slice_bounds-inputs-end
-slice_bounds-inputs-end c = sym (length-take-le _ _ (array-share-prefix-data c))
+slice_bounds-inputs-end c = sym (length-take-le _ _ (slice_bounds-data-end c))

@@ -7,4 +7,4 @@ pub slice_bounds-input-end : goal.slice_bounds-input-end
 slice_bounds-input-end c = c.read.ensures _ c.in-Bytes.is
 
 pub slice_bounds-print-end : goal.slice_bounds-print-end
-slice_bounds-print-end c = sym (length-take-le _ _ (array-share-prefix-input c))
+slice_bounds-print-end c = sym (length-take-le _ _ (slice_bounds-input-end c))

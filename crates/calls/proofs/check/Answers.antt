@@ -68,7 +68,7 @@ S-at-After-marks-1 c = with_keys (lent c.args.counts c.args.literals.now c.args.
 pub first_false-requires : goal.first_false-requires
 first_false-requires c =
     let well = ready-form (S-at-After-marks-1 c) (admitted (goal.at.first_false-requires c).In_default) in
-    (well, form (goal.at.first_false-requires c).Else-not-is_assignment, counted-clauses (S-at-After-marks-1 c).store well c.totals_of-total.ensures, sym (slice-aggregate-first-false c))
+    (well, form (goal.at.first_false-requires c).Else-not-is_assignment, counted-clauses (S-at-After-marks-1 c).store well c.totals_of-total.ensures, sym (slice_bounds-first_false-end c))
 
 abbrev S-at-After-marks-2-1 : After-marks-2-1 → Keyed
 S-at-After-marks-2-1 c = with_keys (lent c.args.counts c.args.literals.now c.args.ends.now c.args.images.now) c.args.keys.now

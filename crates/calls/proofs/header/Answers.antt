@@ -43,6 +43,6 @@ returns c =
     let all = let a = c.args in
     let s = S-at-After-slice_known-2-1 c in
     let line = header-there s.store (ready-form s (admitted (goal.at.returns c).In_default)) c.totals_of.ensures in
-    let wrote = same_line line a.out.now c.header.result _ c.header.ensures.?clauses-from-0 in
+    let wrote = same_line line a.out.now c.header.result _ (c.header.ensures.answer, c.header.ensures.buffer) in
     ready-written s (header_by s.store (length a.out.now)) (header_of s.store) a.out.now (admitted (goal.at.returns c).In_default) c.header.result _ wrote.0 wrote.1 in
     record { says = all.0; leaves = all.1 }

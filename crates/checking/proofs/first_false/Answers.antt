@@ -53,7 +53,7 @@ S-at-After-slice_known-2-1 c = lent c.args.counts c.args.literals.now c.args.end
 
 pub loop-q-init : goal.loop-q-init
 loop-q-init c =
-    let r = c.start-at.ensures.?clauses-from-0 in
+    let r = (c.start-at.ensures.stands, (c.start-at.ensures.remaining, c.start-at.ensures.marks)) in
     (try-first (S-at-After-slice_known-2-1 c) c.requires.0 c.args.a.now c.requires.2 r.0 (start_left (S-at-After-slice_known-2-1 c) c.start-at.result r.1.0), r.1.1)
 
 pub slice_bounds-six_hold-end : goal.slice_bounds-six_hold-end
@@ -123,9 +123,6 @@ holds_at-requires c =
     let head = head-within (S-at-After-values-in-loop-q-2-1 c) c.requires.0 c.args.a.now t (omega arith) in
     (c.requires.0, t.stands, left-some (S-at-After-values-in-loop-q-2-1 c) c.requires.0 c.args.a.now t (omega arith), tabled-at-After-values-in-loop-q-2-1 c, all-literals-more (variables_of (S-at-After-values-in-loop-q-2-1 c)) (64 * length c.args.a.now) (enough-at-After-values-in-loop-q-2-1 c) _ head)
 
-pub shape_of-marks-then-not-holds_at : goal.shape_of-marks-then-not-holds_at
-shape_of-marks-then-not-holds_at c = c.loop-q.invariant.1.room ∙ sym c.requires.3
-
 abbrev S-at-Then-not-holds_at : Then-not-holds_at → Store
 S-at-Then-not-holds_at c = lent c.args.counts c.args.literals.now c.args.ends.now c.args.images.now
 
@@ -162,14 +159,11 @@ told-at-After-slice_known-in-loop-q-1 c =
 
 pub loop-q-preserved : goal.loop-q-preserved
 loop-q-preserved c =
-    let r = c.next-at.ensures.?clauses-from-0 in
+    let r = (c.next-at.ensures.stands, (c.next-at.ensures.remaining, c.next-at.ensures.marks)) in
     let is = r.1.0 (plain_of (S-at-After-slice_known-in-loop-q-1 c)) (plain-length (S-at-After-slice_known-in-loop-q-1 c) c.requires.0) in (
       try-on (S-at-After-slice_known-in-loop-q-1 c) c.requires.0 c.args.a.now c.loop-q.invariant.0 (_ ∷ []) c.next-at.result is r.0 (one_holds _ _ (sym (told-at-After-slice_known-in-loop-q-1 c) ∙ not-false _ c.if-not-holds_at.false-raw)),
       r.1.1,
     )
-
-pub shape_of-marks : goal.shape_of-marks
-shape_of-marks c = c.loop-q.invariant.1.room ∙ sym c.requires.3
 
 abbrev S-at-After-loop-q : After-loop-q → Store
 S-at-After-loop-q c = lent c.args.counts c.args.literals.now c.args.ends.now c.args.images.now
@@ -177,3 +171,9 @@ S-at-After-loop-q c = lent c.args.counts c.args.literals.now c.args.ends.now c.a
 pub returns : goal.returns
 returns c =
     try-all (S-at-After-loop-q c) c.requires.0 c.args.a.now c.loop-q.invariant.0 (omega arith)
+
+pub shape_of-marks-then-not-holds_at : goal.shape_of-marks-then-not-holds_at
+shape_of-marks-then-not-holds_at c = c.loop-q.invariant.1.room ∙ sym c.requires.3
+
+pub shape_of-marks : goal.shape_of-marks
+shape_of-marks c = c.loop-q.invariant.1.room ∙ sym c.requires.3

@@ -19,7 +19,7 @@ shape_of-marks c = c.leave_out.auto.marks
 
 pub returns-then-cursor-counts : goal.returns-then-cursor-counts
 returns-then-cursor-counts c =
-    record { room = same_length c ∙ c.requires.1; are = λ h. c.leave_out.ensures ∙ ap marks_of c.row.ensures }
+    record { room = shape_of-marks c ∙ c.requires.1; are = λ h. c.leave_out.ensures ∙ ap marks_of c.row.ensures }
 
 pub returns-else-cursor-counts : goal.returns-else-cursor-counts
 returns-else-cursor-counts c = record { room = c.requires.1; are = λ h. absurd (omega (arith, c.if-cursor-counts.false)) }

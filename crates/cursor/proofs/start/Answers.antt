@@ -22,7 +22,7 @@ pub returns : goal.returns
 unfolding remaining made
 returns c = let a = c.args in
     let n = a.counts.variables in
-    let r = c.row_from.ensures.?clauses-from-0 in
+    let r = (c.row_from.ensures.stands, (c.row_from.ensures.remaining, c.row_from.ensures.marks)) in
     let all = r.1.0 ∙ ap (rows_clauses (n + 1)) (from_first n a.counts.rows a.images.now) in
     record {
       stands = r.0.0;

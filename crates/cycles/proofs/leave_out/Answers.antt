@@ -29,4 +29,4 @@ shape_of-marks c =
 pub returns : goal.returns
 returns c =
     let last : c.loop-v.v ≡ 0 = omega arith in
-    scanned-all _ _ (same_length c ∙ c.requires.2) (rw last at c.loop-v.invariant.2)
+    scanned-all _ _ (shape_of-marks c ∙ c.requires.2) (rw last at c.loop-v.invariant.2)

@@ -9,12 +9,12 @@ use Rattle.descent.proofs.descend.Goals as goal
 pub slice_bounds-tabulate-end : goal.slice_bounds-tabulate-end
 slice_bounds-tabulate-end c = refl
 
+pub slice_bounds-note-end : goal.slice_bounds-note-end
+slice_bounds-note-end c = refl
+
 pub tabulate-requires : goal.tabulate-requires
 tabulate-requires c =
     (form-room c.args.n c.args.a.now c.requires.1, omega (arith, c.requires.0.small))
-
-pub slice_bounds-note-end : goal.slice_bounds-note-end
-slice_bounds-note-end c = refl
 
 pub note-requires : goal.note-requires
 note-requires c =

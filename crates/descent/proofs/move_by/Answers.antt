@@ -6,6 +6,9 @@ use lib.ListN.{length}
 use Rattle.descent.proofs.move_by.Goals as goal
 use Rattle.descent.proofs.move_by.Goals.{After-struct_known-1, After-struct_known-2-1}
 
+pub move_span-requires : goal.move_span-requires
+move_span-requires c = c.requires
+
 -- the part that is copied lies in the table
 within : (c : After-struct_known-1) → (c.args.span.first ≤ c.args.span.end) × (2 * c.args.span.end + 2 ≤ length c.args.values.now)
 within c = (c.requires.1.order, omega (arith, c.requires.1.within, c.requires.2.room))
@@ -25,9 +28,6 @@ overflow_add-to c = omega (arith, within-at-After-struct_known-2-1 c)
 
 pub overflow_mul-to : goal.overflow_mul-to
 overflow_mul-to c = omega (arith, within-at-After-struct_known-2-1 c)
-
-pub move_span-requires : goal.move_span-requires
-move_span-requires c = c.requires
 
 pub copy-requires : goal.copy-requires
 copy-requires c = c.move_span.ensures.others

@@ -13,18 +13,24 @@ use Rattle.descent.proofs.DescentLaws.{reached-none, reached-more, ends-settled,
 use Rattle.descent.proofs.settle.Goals as goal
 use Rattle.descent.proofs.settle.Goals.{After-move_by-arg-in-loop-rows-1, After-row, After-slice_known-in-loop-rows-2-1, Else-moves-limit, Then-moves-limit}
 
+pub shape_of-next-then-r-rows : goal.shape_of-next-then-r-rows
+shape_of-next-then-r-rows c = c.loop-rows.invariant.2
+
+pub shape_of-values-then-r-rows : goal.shape_of-values-then-r-rows
+shape_of-values-then-r-rows c = c.loop-rows.invariant.3
+
+pub shape_of-next-then-moves-limit : goal.shape_of-next-then-moves-limit
+shape_of-next-then-moves-limit c = c.loop-rows.invariant.2
+
+pub shape_of-values-then-moves-limit : goal.shape_of-values-then-moves-limit
+shape_of-values-then-moves-limit c = c.loop-rows.invariant.3
+
 pub loop-rows-init : goal.loop-rows-init
 loop-rows-init c = (reached-none _ _ _ _ c.requires.2, c.requires.3, refl, refl)
 
 pub first_lowering-r-requires : goal.first_lowering-r-requires
 first_lowering-r-requires c =
     (c.requires.0, c.requires.1, c.loop-rows.invariant.0.table)
-
-pub shape_of-next-then-r-rows : goal.shape_of-next-then-r-rows
-shape_of-next-then-r-rows c = c.loop-rows.invariant.2
-
-pub shape_of-values-then-r-rows : goal.shape_of-values-then-r-rows
-shape_of-values-then-r-rows c = c.loop-rows.invariant.3
 
 pub returns-then-r-rows : goal.returns-then-r-rows
 returns-then-r-rows c = let ends = ends-settled _ _ _ _ _ _ c.loop-rows.invariant.0 (c.first_lowering-r.ensures.none (omega arith)) in
@@ -34,12 +40,6 @@ returns-then-r-rows c = let ends = ends-settled _ _ _ _ _ _ c.loop-rows.invarian
       reached = ends.1.1;
       same = c.loop-rows.invariant.1;
     }
-
-pub shape_of-next-then-moves-limit : goal.shape_of-next-then-moves-limit
-shape_of-next-then-moves-limit c = c.loop-rows.invariant.2
-
-pub shape_of-values-then-moves-limit : goal.shape_of-values-then-moves-limit
-shape_of-values-then-moves-limit c = c.loop-rows.invariant.3
 
 -- a row lowers the assignment
 inside : (c : Then-moves-limit) → c.first_lowering-r.result < c.args.rows

@@ -76,7 +76,7 @@ is c =
 
 pub returns : goal.returns
 returns c = let room = length c.args.out.now in
-    let wrote = same_line (ap clause_line (is c)) c.args.out.now c.write_codes.result _ c.write_codes.ensures.?clauses-from-0 in
+    let wrote = same_line (ap clause_line (is c)) c.args.out.now c.write_codes.result _ (c.write_codes.ensures.answer, c.write_codes.ensures.buffer) in
     record {
       answer = wrote.0 ∙ sym (added-there (clauses-at-After-slice_known-4-1 c) c.args.c room (c.find-spot.ensures.some (there (goal.at.returns c).Else-spot-counts)));
       buffer = wrote.1;

@@ -46,7 +46,7 @@ pub returns-then-c-counts : goal.returns-then-c-counts
 unfolding line_of
 returns-then-c-counts c = let high : c.args.q ≤ clauses_of (S-at-After-slice_known-then-c-counts-1 c) = omega (arith, clauses-are (S-at-After-slice_known-then-c-counts-1 c) c.requires, c.if-c-counts.true) in
     let line = ap clause_line (c.clause.ensures ∙ sym (made_plain (S-at-After-slice_known-then-c-counts-1 c) c.requires (c.args.q - 1) c.if-c-counts.true)) in
-    let wrote = same_line line c.args.out.now c.write_stored.result _ c.write_stored.ensures.?clauses-from-0 in
+    let wrote = same_line line c.args.out.now c.write_stored.result _ (c.write_stored.ensures.answer, c.write_stored.ensures.buffer) in
     record {
       answer = wrote.0 ∙ sym (clause-there (S-at-After-slice_known-then-c-counts-1 c) c.args.q (length c.args.out.now) c.if-q-eq0.false high);
       buffer = wrote.1;
@@ -75,7 +75,7 @@ S-at-After-added-arg-1 c = lent c.args.counts c.args.literals.now c.args.ends.no
 
 pub added-requires : goal.added-requires
 added-requires c =
-    (formed-rows (S-at-After-added-arg-1 c) c.requires, sym (slice-aggregate-added c))
+    (formed-rows (S-at-After-added-arg-1 c) c.requires, sym (slice_bounds-added-end c))
 
 abbrev S-at-After-slice_known-2-1 : After-slice_known-2-1 → Store
 S-at-After-slice_known-2-1 c = lent c.args.counts c.args.literals.now c.args.ends.now c.args.images.now

@@ -50,9 +50,6 @@ pub returns-then-tried-eq0 : goal.returns-then-tried-eq0
 returns-then-tried-eq0 c =
     c.pair_count.ensures ∙ sym (pairs-unmarked _ c.requires.3) ∙ sym (agreeing-none (value_of (bits c)) c.args.row.now _ (decided c) c.if-tried-eq0.true)
 
-pub slice_bounds-pair_count-count : goal.slice_bounds-pair_count-count
-slice_bounds-pair_count-count c = search rules
-
 -- the variable is one of the row's
 within : (c : After-struct_known-2-1) → c.try_row-tried.result.variable ≤ length c.args.row.now
 within c = omega (arith, c.try_row-tried.ensures.variable, (table-answers _ _ _ c.requires.1 c.requires.2).within)
@@ -63,7 +60,10 @@ slice_bounds-pair_count-length c =
 
 pub pair_count-requires-2 : goal.pair_count-requires-2
 pair_count-requires-2 c =
-    omega (arith, c.requires.0, within c, slice-aggregate-pair-count c)
+    omega (arith, c.requires.0, within c, slice_bounds-pair_count-length c)
+
+pub slice_bounds-pair_count-count : goal.slice_bounds-pair_count-count
+slice_bounds-pair_count-count c = search rules
 
 -- the assignment in the table
 abbrev bits-at-After-pair_count-2 : After-pair_count-2 → List Bool

@@ -44,7 +44,7 @@ fill_rows-all-requires c =
     let size = length-in c.args.n c.tabulate.new.values in (
       c.requires.0,
       c.tabulate.ensures.table,
-      sym (slice-aggregate-fill-rows-2 c),
+      sym (slice_bounds-fill_rows-end-2 c),
       room_for c.write-plain.ensures (all_auxiliaries (held c)) (omega (arith, size, made-room c.requires.0 _ c.requires.2)) (omega (arith, size, made-bounded c.requires.0 _ c.requires.2)),
     )
 
@@ -84,7 +84,7 @@ pub returns : goal.returns
 unfolding filled_words
 returns c = let h = holds-at-After-slice_known-4-1 c in
     let size = length-filled c.args.n (held-at-After-slice_known-4-1 c) c.args.a.now in
-    let end = c.finish.ensures.?clauses-from-0 in
+    let end = (c.finish.ensures.words, c.finish.ensures.buffer) in
     record {
       words = end.0 ∙ ap word_count (h.count ∙ size);
       buffer = end.1 (filled-at-After-slice_known-4-1 c) c.args.out.now h ∙ rw size;

@@ -9,6 +9,9 @@ use Rattle.keys.proofs.RightLaws.{right-short, right-here, wrong-here, right_end
 use Rattle.keys.proofs.are_right.Goals as goal
 use Rattle.keys.proofs.are_right.Goals.{After-loop-c, Else-keys-c, Then-keys-c, Then-keys-m}
 
+pub slice_bounds-key_at-end : goal.slice_bounds-key_at-end
+slice_bounds-key_at-end c = sym c.loop-c.invariant.1.room
+
 abbrev formula : Then-keys-m → List (List ℕ)
 formula c = clauses_in c.args.m c.args.literals.now c.args.ends.now
 
@@ -20,9 +23,6 @@ returns-then-keys-m c = sym (right-short (formula c) c.args.keys.now (omega (ari
 
 pub loop-c-init : goal.loop-c-init
 loop-c-init c = (refl, unmarked)
-
-pub slice_bounds-key_at-end : goal.slice_bounds-key_at-end
-slice_bounds-key_at-end c = sym c.loop-c.invariant.1.room
 
 pub key_at-requires : goal.key_at-requires
 key_at-requires c = (c.requires.0, omega arith, own-places c.own_places-own.result c.own_places-own.ensures, c.loop-c.invariant.1)

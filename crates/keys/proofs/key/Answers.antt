@@ -11,6 +11,29 @@ use Rattle.keys.proofs.MarkLaws.{came, is-new, marked-none, marked-again, marked
 use Rattle.keys.proofs.key.Goals as goal
 use Rattle.keys.proofs.key.Goals.{After-loop-i, After-sent-place, After-slice_known-1, After-wide, After-wrapping_add_u64-sum, Else-marks-place}
 
+-- the literal at hand is one of the clause's
+good : (c : After-wide) → is_literal max_variables c.wide.result ≡ true
+good c =
+    rw c.wide.ensures.0 (all-at (is_literal max_variables) c.args.clause.now 0 c.requires.0 (c.loop-i.i - 1) (omega (arith, c.loop-i.invariant.2)))
+
+pub sent-place-requires : goal.sent-place-requires
+sent-place-requires c = (good c, c.requires.1)
+
+pub offset_bounds-marks-place : goal.offset_bounds-marks-place
+offset_bounds-marks-place c = omega (arith, c.sent-place.ensures.1)
+
+pub offset_bounds-marks-place-then-marks-place : goal.offset_bounds-marks-place-then-marks-place
+offset_bounds-marks-place-then-marks-place c = omega (arith, c.sent-place.ensures.1)
+
+pub bounds-marks-place-then-marks-place : goal.bounds-marks-place-then-marks-place
+bounds-marks-place-then-marks-place c = bounds-marks-place c
+
+pub offset_bounds-table-place : goal.offset_bounds-table-place
+offset_bounds-table-place c = omega (arith, c.sent-place.ensures.1)
+
+pub bounds-table-place : goal.bounds-table-place
+bounds-table-place c = c.sent-place.ensures.1
+
 -- what the clause is sent to
 abbrev sent : After-slice_known-1 → List ℕ
 sent c = sent_clause c.args.places.now c.args.clause.now
@@ -23,32 +46,9 @@ loop-i-init c =
     let end : length (sent c) ≤ length c.args.clause.now = omega (arith, size c) in
     (sym (key-none c.args.table.now (sent c) _ end), marked-none c.args.mark (sent c) c.args.marks.now _ end c.requires.2, omega arith, below_next _ _ c.requires.2)
 
--- the literal at hand is one of the clause's
-good : (c : After-wide) → is_literal max_variables c.wide.result ≡ true
-good c =
-    rw c.wide.ensures.0 (all-at (is_literal max_variables) c.args.clause.now 0 c.requires.0 (c.loop-i.i - 1) (omega (arith, c.loop-i.invariant.2)))
-
-pub sent-place-requires : goal.sent-place-requires
-sent-place-requires c = (good c, c.requires.1)
-
-pub offset_bounds-marks-place : goal.offset_bounds-marks-place
-offset_bounds-marks-place c = omega (arith, c.sent-place.ensures.1)
-
 -- it has a mark
 pub bounds-marks-place : goal.bounds-marks-place
 bounds-marks-place c = omega (arith, c.sent-place.ensures.1, c.loop-i.invariant.3.room)
-
-pub offset_bounds-marks-place-then-marks-place : goal.offset_bounds-marks-place-then-marks-place
-offset_bounds-marks-place-then-marks-place c = omega (arith, c.sent-place.ensures.1)
-
-pub bounds-marks-place-then-marks-place : goal.bounds-marks-place-then-marks-place
-bounds-marks-place-then-marks-place c = slice-read-if1 c
-
-pub offset_bounds-table-place : goal.offset_bounds-table-place
-offset_bounds-table-place c = omega (arith, c.sent-place.ensures.1)
-
-pub bounds-table-place : goal.bounds-table-place
-bounds-table-place c = c.sent-place.ensures.1
 
 -- what the clause is sent to
 abbrev sent-at-After-wrapping_add_u64-sum : After-wrapping_add_u64-sum → List ℕ
@@ -76,8 +76,8 @@ hand c =
 pub loop-i-preserved-then-marks-place : goal.loop-i-preserved-then-marks-place
 loop-i-preserved-then-marks-place c =
     let new = is-new c.args.mark (sent-at-After-wrapping_add_u64-sum c) c.loop-i.marks _ _ _ _ (hand (goal.at.loop-i-preserved-then-marks-place c).After-sent-place) c.loop-i.invariant.1 c.if-marks-place.true in (
-      c.wrapping_add_u64-sum.ensures.value ∙ key_more c.args.table.now (sent-at-After-wrapping_add_u64-sum c) _ _ _ _ (hand (goal.at.loop-i-preserved-then-marks-place c).After-sent-place) new _ c.loop-i.invariant.0,
-      marked_more c.args.mark (sent-at-After-wrapping_add_u64-sum c) c.loop-i.marks _ _ _ _ (hand (goal.at.loop-i-preserved-then-marks-place c).After-sent-place) c.loop-i.invariant.1 (slice-read-if1 c),
+      c.wrapping_add_u64-sum.ensures ∙ key_more c.args.table.now (sent-at-After-wrapping_add_u64-sum c) _ _ _ _ (hand (goal.at.loop-i-preserved-then-marks-place c).After-sent-place) new _ c.loop-i.invariant.0,
+      marked_more c.args.mark (sent-at-After-wrapping_add_u64-sum c) c.loop-i.marks _ _ _ _ (hand (goal.at.loop-i-preserved-then-marks-place c).After-sent-place) c.loop-i.invariant.1 (bounds-marks-place c),
       omega (arith, c.loop-i.invariant.2),
       below_more c.args.mark c.loop-i.marks _ c.sent-place.ensures.1 c.loop-i.invariant.3,
     )
@@ -95,9 +95,6 @@ loop-i-preserved c =
       c.loop-i.invariant.3,
     )
 
-pub shape_of-marks : goal.shape_of-marks
-shape_of-marks c = c.loop-i.invariant.3.room ∙ sym c.requires.2.room
-
 -- what the clause is sent to
 abbrev sent-at-After-loop-i : After-loop-i → List ℕ
 sent-at-After-loop-i c = sent_clause c.args.places.now c.args.clause.now
@@ -109,3 +106,6 @@ returns c = let none : c.loop-i.i ≡ 0 = omega arith in
       marked = rw none c c.loop-i.invariant.1;
       below = c.loop-i.invariant.3;
     }
+
+pub shape_of-marks : goal.shape_of-marks
+shape_of-marks c = c.loop-i.invariant.3.room ∙ sym c.requires.2.room

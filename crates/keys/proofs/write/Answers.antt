@@ -13,6 +13,9 @@ use Rattle.keys.proofs.MarkLaws.{unmarked, own-places, own_key}
 use Rattle.keys.proofs.write.Goals as goal
 use Rattle.keys.proofs.write.Goals.{After-loop-c, After-marks-in-loop-c-1, After-own_places-own}
 
+pub slice_bounds-key_at-end : goal.slice_bounds-key_at-end
+slice_bounds-key_at-end c = sym c.loop-c.invariant.1.room
+
 abbrev formula : After-own_places-own → List (List ℕ)
 formula c = clauses_in c.args.m c.args.literals.now c.args.ends.now
 
@@ -22,9 +25,6 @@ count c = length-map (formula c) key_of ∙ clauses-count c.args.literals.now c.
 pub loop-c-init : goal.loop-c-init
 loop-c-init c =
     (sets-front c.args.keys.now (keys_of (formula c)) (omega (arith, count c, c.requires.1)), unmarked, omega arith, refl)
-
-pub slice_bounds-key_at-end : goal.slice_bounds-key_at-end
-slice_bounds-key_at-end c = sym c.loop-c.invariant.1.room
 
 pub key_at-requires : goal.key_at-requires
 key_at-requires c = (c.requires.0, omega arith, own-places c.own_places-own.result c.own_places-own.ensures, c.loop-c.invariant.1)
@@ -40,7 +40,7 @@ count-at-After-marks-in-loop-c-1 c = length-map (formula-at-After-marks-in-loop-
 
 pub loop-c-preserved : goal.loop-c-preserved
 loop-c-preserved c =
-    let key = c.key_at.ensures.?clauses-from-0 in
+    let key = (c.key_at.ensures.key, (c.key_at.ensures.marked, c.key_at.ensures.below)) in
     let low : c.loop-c.c < c.args.m = omega arith in
     let is = clause-is c.args.literals.now c.args.ends.now c.args.m c.loop-c.c c.requires.0.clauses.known low in
     let good = clause-good max_variables c.args.m c.args.literals.now c.args.ends.now c.requires.0 c.loop-c.c low in

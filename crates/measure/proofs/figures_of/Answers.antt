@@ -35,7 +35,7 @@ slice_bounds-literal_bytes-end c = sym (length-take-le _ _ (long c))
 
 pub literal_bytes-words-requires : goal.literal_bytes-words-requires
 literal_bytes-words-requires c =
-    (omega (arith, sym (slice-aggregate-literal-bytes c), counted c, (rest_of (S-at-After-literal_count-used c) c.requires).literals-fit), rw (counted c) (literals-small (S-at-After-literal_count-used c) c.requires))
+    (omega (arith, sym (slice_bounds-literal_bytes-end c), counted c, (rest_of (S-at-After-literal_count-used c) c.requires).literals-fit), rw (counted c) (literals-small (S-at-After-literal_count-used c) c.requires))
 
 abbrev S-at-After-literal_bytes-words : After-literal_bytes-words → Store
 S-at-After-literal_bytes-words c = lent c.args.counts c.args.literals.now c.args.ends.now c.args.images.now
@@ -56,7 +56,7 @@ pub slice_bounds-added_figures-end : goal.slice_bounds-added_figures-end
 slice_bounds-added_figures-end c = sym (length-take-le _ _ (omega (arith, small-at-After-marks-1 c)))
 
 pub added_figures-added-requires : goal.added_figures-added-requires
-added_figures-added-requires c = (formed-rows (S-at-After-marks-1 c) c.requires, sym (slice-aggregate-added-figures c))
+added_figures-added-requires c = (formed-rows (S-at-After-marks-1 c) c.requires, sym (slice_bounds-added_figures-end c))
 
 abbrev S-at-After-struct_known-1 : After-struct_known-1 → Store
 S-at-After-struct_known-1 c = lent c.args.counts c.args.literals.now c.args.ends.now c.args.images.now

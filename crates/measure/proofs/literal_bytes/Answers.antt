@@ -21,7 +21,7 @@ overflow_add-sum c = omega arith
 
 pub loop-i-preserved : goal.loop-i-preserved
 loop-i-preserved c =
-    (omega arith, omega (arith, c.word_Bytes.ensures.1), omega (arith, c.word_Bytes.ensures.0, sum_step word_bytes c.args.literals.now c.loop-i.i 0 (omega arith)))
+    (omega arith, omega (arith, c.word_bytes-sum.ensures.1), omega (arith, c.word_bytes-sum.ensures.0, sum_step word_bytes c.args.literals.now c.loop-i.i 0 (omega arith)))
 
 pub returns : goal.returns
 returns c =

@@ -12,10 +12,6 @@ use Rattle.measure.proofs.Walk.{index-inside, index-small, passed_none, passed-m
 use Rattle.measure.proofs.pairs_of.Goals as goal
 use Rattle.measure.proofs.pairs_of.Goals.{After-larger-last, After-loop-i, After-pair_bytes}
 
-most : (b : Bool) (k : ℕ) → bool_byte b * k ≤ k
-most true k = omega arith
-most false k = omega arith
-
 pub loop-i-init : goal.loop-i-init
 loop-i-init c = passed_none c.args.row.now c.requires.2
 
@@ -27,6 +23,10 @@ pub pair_bytes-requires : goal.pair_bytes-requires
 pair_bytes-requires c =
     let small = index-small c.args.row.now c.requires.0 c.requires.1 c.requires.2 c.loop-i.i (omega arith) in
     (omega (arith, c.loop-i.invariant.own, small.0), small.1)
+
+most : (b : Bool) (k : ℕ) → bool_byte b * k ≤ k
+most true k = omega arith
+most false k = omega arith
 
 -- whether the variable at i counts, and what it then counts at most
 abbrev counts : After-pair_bytes → Bool

@@ -79,8 +79,7 @@ pub overflow_cast-ends : goal.overflow_cast-ends
 overflow_cast-ends c = omega (arith, c.loop-number.invariant.used-within)
 
 found : (c : Then-number-eq0) → let text = c.args.text.now in
-    let read = c.number-1.given.0 in
-    NextNumber text (words_past text) c.loop-number.at c.next_word-word.result read.0 read.1.0.at
+    NextNumber text (words_past text) c.loop-number.at c.next_word-word.result c.in-Found.number c.in-Found.next.at
 found c = body-found _ _ _ c.next_word-word.ensures _ _ (sym c.read.ensures ∙ c.in-Found.is)
 
 zero-here : (c : Then-number-eq0) → ZeroTurn _ _ _ _ _ _ _ c.loop-number.invariant.done _ _ (found c).words _ (found c).number
@@ -96,8 +95,7 @@ pub overflow_add-closed : goal.overflow_add-closed
 overflow_add-closed c = omega (arith, zero-here c)
 
 found-at-After-struct_known-else-number-eq0-1 : (c : After-struct_known-else-number-eq0-1) → let text = c.args.text.now in
-    let read = c.number-1.given.0 in
-    NextNumber text (words_past text) c.loop-number.at c.next_word-word.result read.0 read.1.0.at
+    NextNumber text (words_past text) c.loop-number.at c.next_word-word.result c.in-Found.number c.in-Found.next.at
 found-at-After-struct_known-else-number-eq0-1 c = body-found _ _ _ c.next_word-word.ensures _ _ (sym c.read.ensures ∙ c.in-Found.is)
 
 literal-here : (c : After-struct_known-else-number-eq0-1) → LiteralTurn _ _ _ _ _ _ _ c.loop-number.invariant.done _ _ (found-at-After-struct_known-else-number-eq0-1 c).words _ (found-at-After-struct_known-else-number-eq0-1 c).number
@@ -110,8 +108,7 @@ pub code-requires : goal.code-requires
 code-requires c = omega (arith, literal-here c)
 
 found-at-After-code : (c : After-code) → let text = c.args.text.now in
-    let read = c.number-1.given.0 in
-    NextNumber text (words_past text) c.loop-number.at c.next_word-word.result read.0 read.1.0.at
+    NextNumber text (words_past text) c.loop-number.at c.next_word-word.result c.in-Found.number c.in-Found.next.at
 found-at-After-code c = body-found _ _ _ c.next_word-word.ensures _ _ (sym c.read.ensures ∙ c.in-Found.is)
 
 literal-here-at-After-code : (c : After-code) → LiteralTurn _ _ _ _ _ _ _ c.loop-number.invariant.done _ _ (found-at-After-code c).words _ (found-at-After-code c).number

@@ -15,6 +15,15 @@ use Rattle.opening.proofs.Theorem.{opened_store, opened-formula, opened-plain}
 use Rattle.opening.proofs.open.Goals as goal
 use Rattle.opening.proofs.open.Goals.{After-slice_known-in-Done-3-1, After-write-arg-1, In-Line, In-Refused-scan, Then-ends-m, Then-keys-m, Then-literals-count}
 
+pub shape_of-literals-in-Done : goal.shape_of-literals-in-Done
+shape_of-literals-in-Done c = c.fill.auto.literals
+
+pub shape_of-ends-in-Done : goal.shape_of-ends-in-Done
+shape_of-ends-in-Done c = c.fill.auto.ends
+
+pub shape_of-keys-in-Done : goal.shape_of-keys-in-Done
+shape_of-keys-in-Done c = c.write.auto.keys
+
 pub returns-in-Refused : goal.returns-in-Refused
 returns-in-Refused c = record {
   answer = sym (opened-refused _ _ _ _ _ (sym c.problem_of.ensures ∙ c.in-Refused.is));
@@ -24,24 +33,21 @@ returns-in-Refused c = record {
 }
 
 -- the problem line, what the scan then decides, and that the text opens where there is room
-line : (c : In-Line) → let n = c.n-1.given.0 in
-    problem_of c.args.text.now ≡ Problem.Line n.0 n.1.0 n.1.1.0
+line : (c : In-Line) → problem_of c.args.text.now ≡ Problem.Line c.in-Line.n c.in-Line.m c.in-Line.end
 line c = sym c.problem_of.ensures ∙ c.in-Line.is
 
 pub scan-requires : goal.scan-requires
 scan-requires c = (line-limits _ _ _ _ (line c)).between
 
 -- the problem line, what the scan then decides, and that the text opens where there is room
-line-at-In-Refused-scan : (c : In-Refused-scan) → let n = c.n-1.given.0 in
-    problem_of c.args.text.now ≡ Problem.Line n.0 n.1.0 n.1.1.0
+line-at-In-Refused-scan : (c : In-Refused-scan) → problem_of c.args.text.now ≡ Problem.Line c.in-Line.n c.in-Line.m c.in-Line.end
 line-at-In-Refused-scan c = sym c.problem_of.ensures ∙ c.in-Line.is
 
 judged : (c : In-Refused-scan) (s : Scanned) → let a = c.args in
-    let n = c.n-1.given.0 in
     let literals = length a.literals.now in
     let ends = length a.ends.now in
     let keys = length a.keys.now in
-    c.scan.result ≡ s → opened_by a.text.now literals ends keys ≡ opened_if s n.0 n.1.0 literals ends keys
+    c.scan.result ≡ s → opened_by a.text.now literals ends keys ≡ opened_if s c.in-Line.n c.in-Line.m literals ends keys
 judged c s e = opened-scan _ _ _ _ (line-at-In-Refused-scan c) _ _ _ _ (sym c.scan.ensures ∙ e)
 
 pub returns-in-Refused-scan : goal.returns-in-Refused-scan
@@ -53,39 +59,34 @@ returns-in-Refused-scan c = record {
 }
 
 -- the problem line, what the scan then decides, and that the text opens where there is room
-line-at-Then-literals-count : (c : Then-literals-count) → let n = c.n-1.given.0 in
-    problem_of c.args.text.now ≡ Problem.Line n.0 n.1.0 n.1.1.0
+line-at-Then-literals-count : (c : Then-literals-count) → problem_of c.args.text.now ≡ Problem.Line c.in-Line.n c.in-Line.m c.in-Line.end
 line-at-Then-literals-count c = sym c.problem_of.ensures ∙ c.in-Line.is
 
 judged-at-Then-literals-count : (c : Then-literals-count) (s : Scanned) → let a = c.args in
-    let n = c.n-1.given.0 in
     let literals = length a.literals.now in
     let ends = length a.ends.now in
     let keys = length a.keys.now in
-    c.scan.result ≡ s → opened_by a.text.now literals ends keys ≡ opened_if s n.0 n.1.0 literals ends keys
+    c.scan.result ≡ s → opened_by a.text.now literals ends keys ≡ opened_if s c.in-Line.n c.in-Line.m literals ends keys
 judged-at-Then-literals-count c s e = opened-scan _ _ _ _ (line-at-Then-literals-count c) _ _ _ _ (sym c.scan.ensures ∙ e)
 
 pub returns-then-literals-count : goal.returns-then-literals-count
-returns-then-literals-count c = let n = c.n-1.given.0 in
-    let a = c.args in
+returns-then-literals-count c = let a = c.args in
     record {
-      answer = sym (judged-at-Then-literals-count c _ c.in-Done.is ∙ short-literals n.0 n.1.0 _ _ (length a.ends.now) (length a.keys.now) c.if-literals-count.true);
+      answer = sym (judged-at-Then-literals-count c _ c.in-Done.is ∙ short-literals c.in-Line.n c.in-Line.m _ _ (length a.ends.now) (length a.keys.now) c.if-literals-count.true);
       literals = refl;
       ends = refl;
       keys = refl;
     }
 
 -- the problem line, what the scan then decides, and that the text opens where there is room
-line-at-Then-ends-m : (c : Then-ends-m) → let n = c.n-1.given.0 in
-    problem_of c.args.text.now ≡ Problem.Line n.0 n.1.0 n.1.1.0
+line-at-Then-ends-m : (c : Then-ends-m) → problem_of c.args.text.now ≡ Problem.Line c.in-Line.n c.in-Line.m c.in-Line.end
 line-at-Then-ends-m c = sym c.problem_of.ensures ∙ c.in-Line.is
 
 judged-at-Then-ends-m : (c : Then-ends-m) (s : Scanned) → let a = c.args in
-    let n = c.n-1.given.0 in
     let literals = length a.literals.now in
     let ends = length a.ends.now in
     let keys = length a.keys.now in
-    c.scan.result ≡ s → opened_by a.text.now literals ends keys ≡ opened_if s n.0 n.1.0 literals ends keys
+    c.scan.result ≡ s → opened_by a.text.now literals ends keys ≡ opened_if s c.in-Line.n c.in-Line.m literals ends keys
 judged-at-Then-ends-m c s e = opened-scan _ _ _ _ (line-at-Then-ends-m c) _ _ _ _ (sym c.scan.ensures ∙ e)
 
 pub returns-then-ends-m : goal.returns-then-ends-m
@@ -98,16 +99,14 @@ returns-then-ends-m c = let a = c.args in
     }
 
 -- the problem line, what the scan then decides, and that the text opens where there is room
-line-at-Then-keys-m : (c : Then-keys-m) → let n = c.n-1.given.0 in
-    problem_of c.args.text.now ≡ Problem.Line n.0 n.1.0 n.1.1.0
+line-at-Then-keys-m : (c : Then-keys-m) → problem_of c.args.text.now ≡ Problem.Line c.in-Line.n c.in-Line.m c.in-Line.end
 line-at-Then-keys-m c = sym c.problem_of.ensures ∙ c.in-Line.is
 
 judged-at-Then-keys-m : (c : Then-keys-m) (s : Scanned) → let a = c.args in
-    let n = c.n-1.given.0 in
     let literals = length a.literals.now in
     let ends = length a.ends.now in
     let keys = length a.keys.now in
-    c.scan.result ≡ s → opened_by a.text.now literals ends keys ≡ opened_if s n.0 n.1.0 literals ends keys
+    c.scan.result ≡ s → opened_by a.text.now literals ends keys ≡ opened_if s c.in-Line.n c.in-Line.m literals ends keys
 judged-at-Then-keys-m c s e = opened-scan _ _ _ _ (line-at-Then-keys-m c) _ _ _ _ (sym c.scan.ensures ∙ e)
 
 pub returns-then-keys-m : goal.returns-then-keys-m
@@ -124,25 +123,22 @@ fill-requires c =
     (limits.between, (_, _, _, limits.variables, sym c.scan.ensures ∙ c.in-Done.is, c.if-literals-count.false, c.if-ends-m.false))
 
 -- the problem line, what the scan then decides, and that the text opens where there is room
-line-at-After-write-arg-1 : (c : After-write-arg-1) → let n = c.n-1.given.0 in
-    problem_of c.args.text.now ≡ Problem.Line n.0 n.1.0 n.1.1.0
+line-at-After-write-arg-1 : (c : After-write-arg-1) → problem_of c.args.text.now ≡ Problem.Line c.in-Line.n c.in-Line.m c.in-Line.end
 line-at-After-write-arg-1 c = sym c.problem_of.ensures ∙ c.in-Line.is
 
 -- the slices as they are filled are those of the opened store
 filled : (c : After-write-arg-1) → let a = c.args in
-    let n = c.n-1.given.0 in
-    let s = opened_store a.text.now a.literals.now a.ends.now [] n.0 n.1.0 in
+    let s = opened_store a.text.now a.literals.now a.ends.now [] c.in-Line.n c.in-Line.m in
     (c.fill.new.literals ≡ s.literals) × (c.fill.new.ends ≡ s.ends)
 filled c =
     let body = body-past _ _ _ _ (line-at-After-write-arg-1 c) in
     (rw body c.fill.ensures.literals, rw body c.fill.ensures.ends)
 
 judged-at-After-write-arg-1 : (c : After-write-arg-1) (s : Scanned) → let a = c.args in
-    let n = c.n-1.given.0 in
     let literals = length a.literals.now in
     let ends = length a.ends.now in
     let keys = length a.keys.now in
-    c.scan.result ≡ s → opened_by a.text.now literals ends keys ≡ opened_if s n.0 n.1.0 literals ends keys
+    c.scan.result ≡ s → opened_by a.text.now literals ends keys ≡ opened_if s c.in-Line.n c.in-Line.m literals ends keys
 judged-at-After-write-arg-1 c s e = opened-scan _ _ _ _ (line-at-After-write-arg-1 c) _ _ _ _ (sym c.scan.ensures ∙ e)
 
 opens : (c : After-write-arg-1) → let a = c.args in
@@ -156,35 +152,23 @@ write-requires c =
     let f = filled c in
     (rw (f.0, f.1) (opened-formula a.text.now a.literals.now a.ends.now a.keys.now [] _ _ (opens c)), c.if-keys-m.false)
 
-pub shape_of-literals-in-Done : goal.shape_of-literals-in-Done
-shape_of-literals-in-Done c = c.fill.auto.literals
-
-pub shape_of-ends-in-Done : goal.shape_of-ends-in-Done
-shape_of-ends-in-Done c = c.fill.auto.ends
-
-pub shape_of-keys-in-Done : goal.shape_of-keys-in-Done
-shape_of-keys-in-Done c = c.write.auto.keys
-
 -- the problem line, what the scan then decides, and that the text opens where there is room
-line-at-After-slice_known-in-Done-3-1 : (c : After-slice_known-in-Done-3-1) → let n = c.n-1.given.0 in
-    problem_of c.args.text.now ≡ Problem.Line n.0 n.1.0 n.1.1.0
+line-at-After-slice_known-in-Done-3-1 : (c : After-slice_known-in-Done-3-1) → problem_of c.args.text.now ≡ Problem.Line c.in-Line.n c.in-Line.m c.in-Line.end
 line-at-After-slice_known-in-Done-3-1 c = sym c.problem_of.ensures ∙ c.in-Line.is
 
 -- the slices as they are filled are those of the opened store
 filled-at-After-slice_known-in-Done-3-1 : (c : After-slice_known-in-Done-3-1) → let a = c.args in
-    let n = c.n-1.given.0 in
-    let s = opened_store a.text.now a.literals.now a.ends.now [] n.0 n.1.0 in
+    let s = opened_store a.text.now a.literals.now a.ends.now [] c.in-Line.n c.in-Line.m in
     (c.fill.new.literals ≡ s.literals) × (c.fill.new.ends ≡ s.ends)
 filled-at-After-slice_known-in-Done-3-1 c =
     let body = body-past _ _ _ _ (line-at-After-slice_known-in-Done-3-1 c) in
     (rw body c.fill.ensures.literals, rw body c.fill.ensures.ends)
 
 judged-at-After-slice_known-in-Done-3-1 : (c : After-slice_known-in-Done-3-1) (s : Scanned) → let a = c.args in
-    let n = c.n-1.given.0 in
     let literals = length a.literals.now in
     let ends = length a.ends.now in
     let keys = length a.keys.now in
-    c.scan.result ≡ s → opened_by a.text.now literals ends keys ≡ opened_if s n.0 n.1.0 literals ends keys
+    c.scan.result ≡ s → opened_by a.text.now literals ends keys ≡ opened_if s c.in-Line.n c.in-Line.m literals ends keys
 judged-at-After-slice_known-in-Done-3-1 c s e = opened-scan _ _ _ _ (line-at-After-slice_known-in-Done-3-1 c) _ _ _ _ (sym c.scan.ensures ∙ e)
 
 opens-at-After-slice_known-in-Done-3-1 : (c : After-slice_known-in-Done-3-1) → let a = c.args in

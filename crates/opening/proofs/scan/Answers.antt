@@ -38,8 +38,7 @@ returns-in_default c =
 
 -- the number that was read
 found : (c : Then-n-variable) → let text = c.args.text.now in
-    let read = c.number-1.given.0 in
-    NextNumber text (words_past text) c.loop-closed.at c.next_word-place.result read.0 read.1.0.at
+    NextNumber text (words_past text) c.loop-closed.at c.next_word-place.result c.in-Found.number c.in-Found.next.at
 found c = body-found _ _ _ c.next_word-place.ensures _ _ (sym c.read.ensures ∙ c.in-Found.is)
 
 pub returns-then-n-variable : goal.returns-then-n-variable
@@ -50,8 +49,7 @@ returns-then-n-variable c =
 
 -- the number that was read
 found-at-Then-count-eq-MAX_LITERALS : (c : Then-count-eq-MAX_LITERALS) → let text = c.args.text.now in
-    let read = c.number-1.given.0 in
-    NextNumber text (words_past text) c.loop-closed.at c.next_word-place.result read.0 read.1.0.at
+    NextNumber text (words_past text) c.loop-closed.at c.next_word-place.result c.in-Found.number c.in-Found.next.at
 found-at-Then-count-eq-MAX_LITERALS c = body-found _ _ _ c.next_word-place.ensures _ _ (sym c.read.ensures ∙ c.in-Found.is)
 
 pub returns-then-count-eq-MAX_LITERALS : goal.returns-then-count-eq-MAX_LITERALS
@@ -62,8 +60,7 @@ returns-then-count-eq-MAX_LITERALS c =
 
 -- the number that was read
 found-at-Then-variable-eq0 : (c : Then-variable-eq0) → let text = c.args.text.now in
-    let read = c.number-1.given.0 in
-    NextNumber text (words_past text) c.loop-closed.at c.next_word-place.result read.0 read.1.0.at
+    NextNumber text (words_past text) c.loop-closed.at c.next_word-place.result c.in-Found.number c.in-Found.next.at
 found-at-Then-variable-eq0 c = body-found _ _ _ c.next_word-place.ensures _ _ (sym c.read.ensures ∙ c.in-Found.is)
 
 pub loop-closed-smaller-then-variable-eq0 : goal.loop-closed-smaller-then-variable-eq0
@@ -81,8 +78,7 @@ loop-closed-preserved-then-variable-eq0 c =
 
 -- the number that was read
 found-at-Else-count-eq-MAX_LITERALS : (c : Else-count-eq-MAX_LITERALS) → let text = c.args.text.now in
-    let read = c.number-1.given.0 in
-    NextNumber text (words_past text) c.loop-closed.at c.next_word-place.result read.0 read.1.0.at
+    NextNumber text (words_past text) c.loop-closed.at c.next_word-place.result c.in-Found.number c.in-Found.next.at
 found-at-Else-count-eq-MAX_LITERALS c = body-found _ _ _ c.next_word-place.ensures _ _ (sym c.read.ensures ∙ c.in-Found.is)
 
 pub loop-closed-smaller : goal.loop-closed-smaller

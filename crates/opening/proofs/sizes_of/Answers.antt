@@ -12,11 +12,11 @@ use Rattle.opening.proofs.sizes_of.Goals as goal
 use Rattle.opening.proofs.sizes_of.Goals.{Else-not-is_word, Else-not-is_word-2}
 
 pub returns-then-not-is_word : goal.returns-then-not-is_word
-returns-then-not-is_word c = sym (no-p _ (sym c.is_Is_word.ensures ∙ not-true _ c.if-not-is_word.true-raw))
+returns-then-not-is_word c = sym (no-p _ (sym c.is_word.ensures ∙ not-true _ c.if-not-is_word.true-raw))
 
 -- what is known after the word `p`, and after the word `cnf`
 starts : (c : Else-not-is_word) → StartsP c.args.line.now
-starts c = starts-p _ (sym c.is_Is_word.ensures ∙ not-false _ c.if-not-is_word.false-raw)
+starts c = starts-p _ (sym c.is_word.ensures ∙ not-false _ c.if-not-is_word.false-raw)
 
 pub is_word-requires-2 : goal.is_word-requires-2
 is_word-requires-2 c =
@@ -36,7 +36,7 @@ overflow_add-cnf c = omega (arith, goes_on c)
 pub returns : goal.returns
 returns c =
     let line = c.args.line.now in
-    let is-p = sym c.is_Is_word.ensures ∙ not-false _ c.if-not-is_word.false-raw in
+    let is-p = sym c.is_word.ensures ∙ not-false _ c.if-not-is_word.false-raw in
     let is-cnf = sym c.is_word-2.ensures ∙ not-false _ c.if-not-is_word-2.false-raw in
     c.two_numbers.ensures (piece_at line 0) (piece_at line c.next_word-cnf.result) is-p is-cnf
     ∙ sym ((starts (goal.at.returns c).Else-not-is_word).sizes ∙ ap (λ (ws : List Piece). four_words (piece_at line 0 ∷ ws)) (goes_on (goal.at.returns c).Else-not-is_word-2).words)

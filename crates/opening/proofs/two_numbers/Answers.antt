@@ -20,8 +20,7 @@ returns-in_default c =
 
 -- the first number, and the second
 first : (c : In-Found) → let line = c.args.line.now in
-    let read = c.n-1.given.0 in
-    NextNumber line (words_at line) c.args.at c.next_word-first.result read.0 read.1.0.at
+    NextNumber line (words_at line) c.args.at c.next_word-first.result c.in-Found.n c.in-Found.past_n.at
 first c = line-found _ _ _ c.next_word-first.ensures _ _ (sym c.read.ensures ∙ c.in-Found.is)
 
 pub returns-in_default-read : goal.returns-in_default-read
@@ -33,14 +32,12 @@ returns-in_default-read c =
     sym (ap (λ (ws : List Piece). four_words (p ∷ cnf ∷ ws)) n.words ∙ second-missing p cnf is-p is-cnf _ _ n.number _ no_number)
 
 second : (c : In-Found-read) → let line = c.args.line.now in
-    let read = c.m-1.given.0 in
-    NextNumber line (words_at line) c.in-Found.past_n.at c.next_word-second.result read.0 read.1.0.at
+    NextNumber line (words_at line) c.in-Found.past_n.at c.next_word-second.result c.in-Found-read.m c.in-Found-read.past_m.at
 second c = line-found _ _ _ c.next_word-second.ensures _ _ (sym c.read-2.ensures ∙ c.in-Found-read.is)
 
 -- the first number, and the second
 first-at-In-Found-read : (c : In-Found-read) → let line = c.args.line.now in
-    let read = c.n-1.given.0 in
-    NextNumber line (words_at line) c.args.at c.next_word-first.result read.0 read.1.0.at
+    NextNumber line (words_at line) c.args.at c.next_word-first.result c.in-Found.n c.in-Found.past_n.at
 first-at-In-Found-read c = line-found _ _ _ c.next_word-first.ensures _ _ (sym c.read.ensures ∙ c.in-Found.is)
 
 -- both numbers, and then the words after them
@@ -57,14 +54,12 @@ returns-then-next_word-line c =
     sym (both (goal.at.returns-then-next_word-line c).In-Found-read p cnf _ more ∙ five-words _ _ _ _ _ _)
 
 second-at-Then-n : (c : Then-n) → let line = c.args.line.now in
-    let read = c.m-1.given.0 in
-    NextNumber line (words_at line) c.in-Found.past_n.at c.next_word-second.result read.0 read.1.0.at
+    NextNumber line (words_at line) c.in-Found.past_n.at c.next_word-second.result c.in-Found-read.m c.in-Found-read.past_m.at
 second-at-Then-n c = line-found _ _ _ c.next_word-second.ensures _ _ (sym c.read-2.ensures ∙ c.in-Found-read.is)
 
 -- the first number, and the second
 first-at-Then-n : (c : Then-n) → let line = c.args.line.now in
-    let read = c.n-1.given.0 in
-    NextNumber line (words_at line) c.args.at c.next_word-first.result read.0 read.1.0.at
+    NextNumber line (words_at line) c.args.at c.next_word-first.result c.in-Found.n c.in-Found.past_n.at
 first-at-Then-n c = line-found _ _ _ c.next_word-first.ensures _ _ (sym c.read.ensures ∙ c.in-Found.is)
 
 -- both numbers, and then the words after them
@@ -88,14 +83,12 @@ pub returns-then-n : goal.returns-then-n
 returns-then-n c = λ p cnf is-p is-cnf. sym (four c p cnf is-p is-cnf ∙ rw c.if-n.true)
 
 second-at-Then-m : (c : Then-m) → let line = c.args.line.now in
-    let read = c.m-1.given.0 in
-    NextNumber line (words_at line) c.in-Found.past_n.at c.next_word-second.result read.0 read.1.0.at
+    NextNumber line (words_at line) c.in-Found.past_n.at c.next_word-second.result c.in-Found-read.m c.in-Found-read.past_m.at
 second-at-Then-m c = line-found _ _ _ c.next_word-second.ensures _ _ (sym c.read-2.ensures ∙ c.in-Found-read.is)
 
 -- the first number, and the second
 first-at-Then-m : (c : Then-m) → let line = c.args.line.now in
-    let read = c.n-1.given.0 in
-    NextNumber line (words_at line) c.args.at c.next_word-first.result read.0 read.1.0.at
+    NextNumber line (words_at line) c.args.at c.next_word-first.result c.in-Found.n c.in-Found.past_n.at
 first-at-Then-m c = line-found _ _ _ c.next_word-first.ensures _ _ (sym c.read.ensures ∙ c.in-Found.is)
 
 -- both numbers, and then the words after them
@@ -119,14 +112,12 @@ pub returns-then-m : goal.returns-then-m
 returns-then-m c = λ p cnf is-p is-cnf. sym (four-at-Then-m c p cnf is-p is-cnf ∙ rw (c.if-n.false, c.if-m.true))
 
 second-at-Else-m : (c : Else-m) → let line = c.args.line.now in
-    let read = c.m-1.given.0 in
-    NextNumber line (words_at line) c.in-Found.past_n.at c.next_word-second.result read.0 read.1.0.at
+    NextNumber line (words_at line) c.in-Found.past_n.at c.next_word-second.result c.in-Found-read.m c.in-Found-read.past_m.at
 second-at-Else-m c = line-found _ _ _ c.next_word-second.ensures _ _ (sym c.read-2.ensures ∙ c.in-Found-read.is)
 
 -- the first number, and the second
 first-at-Else-m : (c : Else-m) → let line = c.args.line.now in
-    let read = c.n-1.given.0 in
-    NextNumber line (words_at line) c.args.at c.next_word-first.result read.0 read.1.0.at
+    NextNumber line (words_at line) c.args.at c.next_word-first.result c.in-Found.n c.in-Found.past_n.at
 first-at-Else-m c = line-found _ _ _ c.next_word-first.ensures _ _ (sym c.read.ensures ∙ c.in-Found.is)
 
 -- both numbers, and then the words after them

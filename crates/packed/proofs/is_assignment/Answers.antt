@@ -26,7 +26,7 @@ pub overflow_shl-result : goal.overflow_shl-result
 overflow_shl-result c = search rules
 
 pub overflow_sub-result-2 : goal.overflow_sub-result-2
-overflow_sub-result-2 c = mask_fits _ (shl-result c)
+overflow_sub-result-2 c = mask_fits _ (overflow_shl-result c)
 
 pub returns : goal.returns
 returns c =

@@ -80,7 +80,7 @@ is-at-After-slice_known-4-1 c =
 pub returns : goal.returns
 returns c = let a = c.args in
     let line = ap (λ (x : List ℕ). length (clause_line x)) (is-at-After-slice_known-4-1 c) in
-    let next = c.next_added.ensures.?clauses-from-0 in
+    let next = (c.next_added.ensures.after, c.next_added.ensures.marks) in
     record {
       step = λ plain many. adds plain a.counts a.images.now a.cursor c.requires.0 a.at a.out.now c.requires.3 _ _ (next.0.passed plain many) (omega (arith, line, c.clause_length-size.ensures, c.if-out-at.false)) _ next.0.stands refl _ _ (omega (arith, line, c.put_clause-past.ensures.next)) (c.put_clause-past.ensures.bytes ∙ ap (λ (x : List ℕ). written_at a.at (clause_line x) a.out.now) (is-at-After-slice_known-4-1 c));
       marks = next.1;

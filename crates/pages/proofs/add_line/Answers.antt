@@ -20,9 +20,6 @@ add_plain-requires c =
     let f = c.requires.0 in
     (formed-clauses (S c) (formed (S c) f), c.if-cursor-counts.true, c.requires.3, plain-short (S c) f c.args.cursor.plain c.if-cursor-counts.true)
 
-pub shape_of-out-then-cursor-counts : goal.shape_of-out-then-cursor-counts
-shape_of-out-then-cursor-counts c = (returns c).0.size
-
 abbrev S-at-After-slice_known-then-cursor-counts-1 : After-slice_known-then-cursor-counts-1 → Store
 S-at-After-slice_known-then-cursor-counts-1 c = lent c.args.counts c.args.literals.now c.args.ends.now c.args.images.now
 
@@ -34,15 +31,12 @@ returns-then-cursor-counts c = let f = c.requires.0 in
       marks = record { room = c.requires.2.room; are = λ h. c.requires.2.are (rw here at h) ∙ ap (λ (r : ℕ). marks_of (row_at c.args.counts.variables r c.args.images.now)) (sym here) };
     }
 
+pub shape_of-out-then-cursor-counts : goal.shape_of-out-then-cursor-counts
+shape_of-out-then-cursor-counts c = (returns-then-cursor-counts c).0.size
+
 pub add_added-requires : goal.add_added-requires
 add_added-requires c =
     (c.requires.1, record { past = c.if-cursor-counts.false; row = c.if-cursor-counts-2.true }, c.requires.2, c.requires.3)
-
-pub shape_of-marks-then-cursor-counts-2 : goal.shape_of-marks-then-cursor-counts-2
-shape_of-marks-then-cursor-counts-2 c = (returns-2 c).1.room ∙ sym c.requires.2.room
-
-pub shape_of-out-then-cursor-counts-2 : goal.shape_of-out-then-cursor-counts-2
-shape_of-out-then-cursor-counts-2 c = (returns-2 c).0.size
 
 abbrev S-at-After-slice_known-then-cursor-counts-2-2-1 : After-slice_known-then-cursor-counts-2-2-1 → Store
 S-at-After-slice_known-then-cursor-counts-2-2-1 c = lent c.args.counts c.args.literals.now c.args.ends.now c.args.images.now
@@ -52,6 +46,12 @@ returns-then-cursor-counts-2 c = record {
   step = c.add_added.ensures.step (plain_of (S-at-After-slice_known-then-cursor-counts-2-2-1 c)) (plain-length (S-at-After-slice_known-then-cursor-counts-2-2-1 c) c.requires.0);
   marks = c.add_added.ensures.marks;
 }
+
+pub shape_of-marks-then-cursor-counts-2 : goal.shape_of-marks-then-cursor-counts-2
+shape_of-marks-then-cursor-counts-2 c = (returns-then-cursor-counts-2 c).1.room ∙ sym c.requires.2.room
+
+pub shape_of-out-then-cursor-counts-2 : goal.shape_of-out-then-cursor-counts-2
+shape_of-out-then-cursor-counts-2 c = (returns-then-cursor-counts-2 c).0.size
 
 abbrev S-at-Else-cursor-counts-2 : Else-cursor-counts-2 → Store
 S-at-Else-cursor-counts-2 c = lent c.args.counts c.args.literals.now c.args.ends.now c.args.images.now

@@ -29,16 +29,14 @@ returns-in_default c =
     listing-outside c.loop-n.invariant stray.words (no_name _ _ stray.code)
 
 -- the number that `read` found, and what `name_of` says of it
-found : (c : In-Found) → let read = c.number-1.given.0 in
-    let names = c.args.names.now in
-    Word names c.loop-n.at c.next_word-place.result read.0 read.1.0.at
+found : (c : In-Found) → let names = c.args.names.now in
+    Word names c.loop-n.at c.next_word-place.result c.in-Found.number c.in-Found.next.at
 found c =
     word_read _ _ _ c.next_word-place.ensures _ _ (sym c.read.ensures ∙ c.in-Found.is)
 
 -- the number that `read` found, and what `name_of` says of it
-found-at-Then-name-eq0 : (c : Then-name-eq0) → let read = c.number-1.given.0 in
-    let names = c.args.names.now in
-    Word names c.loop-n.at c.next_word-place.result read.0 read.1.0.at
+found-at-Then-name-eq0 : (c : Then-name-eq0) → let names = c.args.names.now in
+    Word names c.loop-n.at c.next_word-place.result c.in-Found.number c.in-Found.next.at
 found-at-Then-name-eq0 c =
     word_read _ _ _ c.next_word-place.ensures _ _ (sym c.read.ensures ∙ c.in-Found.is)
 
@@ -51,9 +49,8 @@ returns-then-name-eq0 c =
     listing-outside inv (found (goal.at.returns-then-name-eq0 c).In-Found).words (size_none _ _ (name-literal _) _ _ (says c) c.if-name-eq0.true)
 
 -- the number that `read` found, and what `name_of` says of it
-found-at-After-way_told-1 : (c : After-way_told-1) → let read = c.number-1.given.0 in
-    let names = c.args.names.now in
-    Word names c.loop-n.at c.next_word-place.result read.0 read.1.0.at
+found-at-After-way_told-1 : (c : After-way_told-1) → let names = c.args.names.now in
+    Word names c.loop-n.at c.next_word-place.result c.in-Found.number c.in-Found.next.at
 found-at-After-way_told-1 c =
     word_read _ _ _ c.next_word-place.ensures _ _ (sym c.read.ensures ∙ c.in-Found.is)
 
@@ -67,9 +64,8 @@ pub bounds-marks-name : goal.bounds-marks-name
 bounds-marks-name c = small c
 
 -- the number that `read` found, and what `name_of` says of it
-found-at-Then-marks-name : (c : Then-marks-name) → let read = c.number-1.given.0 in
-    let names = c.args.names.now in
-    Word names c.loop-n.at c.next_word-place.result read.0 read.1.0.at
+found-at-Then-marks-name : (c : Then-marks-name) → let names = c.args.names.now in
+    Word names c.loop-n.at c.next_word-place.result c.in-Found.number c.in-Found.next.at
 found-at-Then-marks-name c =
     word_read _ _ _ c.next_word-place.ensures _ _ (sym c.read.ensures ∙ c.in-Found.is)
 
@@ -85,9 +81,8 @@ returns-then-marks-name c =
     listing-twice inv (found (goal.at.returns-then-marks-name c).In-Found).words _ (is_name c) c.if-marks-name.true
 
 -- the number that `read` found, and what `name_of` says of it
-found-at-Else-marks-name : (c : Else-marks-name) → let read = c.number-1.given.0 in
-    let names = c.args.names.now in
-    Word names c.loop-n.at c.next_word-place.result read.0 read.1.0.at
+found-at-Else-marks-name : (c : Else-marks-name) → let names = c.args.names.now in
+    Word names c.loop-n.at c.next_word-place.result c.in-Found.number c.in-Found.next.at
 found-at-Else-marks-name c =
     word_read _ _ _ c.next_word-place.ensures _ _ (sym c.read.ensures ∙ c.in-Found.is)
 
@@ -124,9 +119,8 @@ pub loop-n-smaller : goal.loop-n-smaller
 loop-n-smaller c = omega (arith, (found (goal.at.loop-n-smaller c).In-Found).forward)
 
 -- the number that `read` found, and what `name_of` says of it
-found-at-After-way_told-in-loop-n-1 : (c : After-way_told-in-loop-n-1) → let read = c.number-1.given.0 in
-    let names = c.args.names.now in
-    Word names c.loop-n.at c.next_word-place.result read.0 read.1.0.at
+found-at-After-way_told-in-loop-n-1 : (c : After-way_told-in-loop-n-1) → let names = c.args.names.now in
+    Word names c.loop-n.at c.next_word-place.result c.in-Found.number c.in-Found.next.at
 found-at-After-way_told-in-loop-n-1 c =
     word_read _ _ _ c.next_word-place.ensures _ _ (sym c.read.ensures ∙ c.in-Found.is)
 

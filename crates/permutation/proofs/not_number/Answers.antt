@@ -21,9 +21,8 @@ returns-in_default c =
     sym (c.loop-at.invariant ∙ number-stray stray)
 
 -- the number that `read` found
-found : (c : In-Found) → let read = c.next-1.given.0 in
-    let line = c.args.line.now in
-    Word line c.loop-at.at c.next_word-place.result read.0 read.1.0.at
+found : (c : In-Found) → let line = c.args.line.now in
+    Word line c.loop-at.at c.next_word-place.result c.in-Found.field-0 c.in-Found.next.at
 found c =
     word_read _ _ _ c.next_word-place.ensures _ _ (sym c.read.ensures ∙ c.in-Found.is)
 

@@ -50,9 +50,8 @@ returns-in_default c = let stray = word-refused _ _ _ c.next_word-place.ensures 
     }
 
 -- the number that `read` found, and what `size_of` says of it
-found : (c : After-way_told-1) → let read = c.number-1.given.0 in
-    let values = c.args.values.now in
-    Word values c.loop-n.at c.next_word-place.result read.0 read.1.0.at
+found : (c : After-way_told-1) → let values = c.args.values.now in
+    Word values c.loop-n.at c.next_word-place.result c.in-Found.number c.in-Found.next.at
 found c =
     word_read _ _ _ c.next_word-place.ensures _ _ (sym c.read.ensures ∙ c.in-Found.is)
 
@@ -66,16 +65,14 @@ pub bounds-free-size : goal.bounds-free-size
 bounds-free-size c = small c
 
 -- the number that `read` found, and what `size_of` says of it
-found-at-In-Found : (c : In-Found) → let read = c.number-1.given.0 in
-    let values = c.args.values.now in
-    Word values c.loop-n.at c.next_word-place.result read.0 read.1.0.at
+found-at-In-Found : (c : In-Found) → let values = c.args.values.now in
+    Word values c.loop-n.at c.next_word-place.result c.in-Found.number c.in-Found.next.at
 found-at-In-Found c =
     word_read _ _ _ c.next_word-place.ensures _ _ (sym c.read.ensures ∙ c.in-Found.is)
 
 -- the number that `read` found, and what `size_of` says of it
-found-at-Then-not-free-size : (c : Then-not-free-size) → let read = c.number-1.given.0 in
-    let values = c.args.values.now in
-    Word values c.loop-n.at c.next_word-place.result read.0 read.1.0.at
+found-at-Then-not-free-size : (c : Then-not-free-size) → let values = c.args.values.now in
+    Word values c.loop-n.at c.next_word-place.result c.in-Found.number c.in-Found.next.at
 found-at-Then-not-free-size c =
     word_read _ _ _ c.next_word-place.ensures _ _ (sym c.read.ensures ∙ c.in-Found.is)
 
@@ -89,9 +86,8 @@ returns-then-not-free-size c = record {
 }
 
 -- the number that `read` found, and what `size_of` says of it
-found-at-Else-not-free-size : (c : Else-not-free-size) → let read = c.number-1.given.0 in
-    let values = c.args.values.now in
-    Word values c.loop-n.at c.next_word-place.result read.0 read.1.0.at
+found-at-Else-not-free-size : (c : Else-not-free-size) → let values = c.args.values.now in
+    Word values c.loop-n.at c.next_word-place.result c.in-Found.number c.in-Found.next.at
 found-at-Else-not-free-size c =
     word_read _ _ _ c.next_word-place.ensures _ _ (sym c.read.ensures ∙ c.in-Found.is)
 
@@ -150,9 +146,8 @@ pub loop-n-smaller : goal.loop-n-smaller
 loop-n-smaller c = omega (arith, (found-at-In-Found (goal.at.loop-n-smaller c).In-Found).forward)
 
 -- the number that `read` found, and what `size_of` says of it
-found-at-After-code : (c : After-code) → let read = c.number-1.given.0 in
-    let values = c.args.values.now in
-    Word values c.loop-n.at c.next_word-place.result read.0 read.1.0.at
+found-at-After-code : (c : After-code) → let values = c.args.values.now in
+    Word values c.loop-n.at c.next_word-place.result c.in-Found.number c.in-Found.next.at
 found-at-After-code c =
     word_read _ _ _ c.next_word-place.ensures _ _ (sym c.read.ensures ∙ c.in-Found.is)
 

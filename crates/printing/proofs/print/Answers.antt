@@ -15,8 +15,8 @@ slice_bounds-print_from-end-4 c = search rules
 
 pub print_from-requires : goal.print_from-requires
 print_from-requires c =
-    let b = c.begin-begun.ensures.?clauses-from-0 in
-    (b.1.1, b.0, room (long c) (lit≤ tt))
+    let b = (c.begin-begun.ensures.output, (c.begin-begun.ensures.store, c.begin-begun.ensures.stands)) in
+    (b.1.1, b.0, room (slice_bounds-print_from-end-4 c) (lit≤ tt))
 
 pub returns : goal.returns
 returns c = c.print_from.ensures

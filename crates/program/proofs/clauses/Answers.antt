@@ -15,12 +15,12 @@ slice_bounds-fill-end c = sym (length-take-le _ _ (omega (arith, c.requires.0.1.
 
 pub fill-filled-requires : goal.fill-filled-requires
 fill-filled-requires c =
-    (c.requires.0.0, c.requires.0.1, sym (slice-aggregate-fill c))
+    (c.requires.0.0, c.requires.0.1, sym (slice_bounds-fill-end c))
 
 abbrev S : After-next-1 → Store
 S c = lent c.args.counts c.args.literals.now c.args.ends.now c.args.images.now
 
 pub returns : goal.returns
 returns c =
-    let e = c.fill-filled.ensures.?clauses-from-0 in
+    let e = (c.fill-filled.ensures.filled, (c.fill-filled.ensures.stands, c.fill-filled.ensures.moves)) in
     clauses-step (S c) c.requires.0.0 c.args.cursor _ _ _ _ e.0 e.1.0 (λ none. e.1.1 c.requires.1 none)

@@ -39,7 +39,7 @@ slice_bounds-start-end c =
 
 pub start-first-requires : goal.start-first-requires
 start-first-requires c =
-    (formed-rows (S-at-After-marks-1 c) c.requires.0, sym (slice-aggregate-start c))
+    (formed-rows (S-at-After-marks-1 c) c.requires.0, sym (slice_bounds-start-end c))
 
 abbrev S-at-After-marks-2-1 : After-marks-2-1 → Store
 S-at-After-marks-2-1 c = lent c.args.counts c.args.literals.now c.args.ends.now c.args.images.now

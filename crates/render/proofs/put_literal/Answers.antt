@@ -21,5 +21,5 @@ shape_of-out c = c.put_number.auto.out ∙ simp length-set
 
 pub returns : goal.returns
 returns c =
-    let all = (put-text c.args.code c.variable.result c.variable.ensures c.is_negative.result c.is_negative.ensures (put c.put_number.ensures.?clauses-from-0)).told c.requires in
+    let all = (put-text c.args.code c.variable.result c.variable.ensures c.is_negative.result c.is_negative.ensures (put (c.put_number.ensures.next, c.put_number.ensures.bytes))).told c.requires in
     record { next = all.0; bytes = all.1 }

@@ -53,5 +53,5 @@ shape_of-out c = simp length-set (size c)
 pub returns : goal.returns
 unfolding two_numbers
 returns c =
-    let all = (put_then (put_then (put_then (put c.put_number-space.ensures.?clauses-from-0) (put_byte _ 32 _)) (put c.put_number-end.ensures.?clauses-from-0)) (put_byte _ 10 _)).told c.requires in
+    let all = (put_then (put_then (put_then (put (c.put_number-space.ensures.next, c.put_number-space.ensures.bytes)) (put_byte _ 32 _)) (put (c.put_number-end.ensures.next, c.put_number-end.ensures.bytes))) (put_byte _ 10 _)).told c.requires in
     record { next = all.0; bytes = all.1 }

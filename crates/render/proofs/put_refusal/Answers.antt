@@ -15,5 +15,5 @@ put_numbers-requires c = omega (arith, c.requires)
 pub returns : goal.returns
 unfolding refusal_line
 returns c =
-    let all = (put_then (put c.put_bytes-first.ensures.?clauses-from-0) (put c.put_numbers.ensures.?clauses-from-0)).told c.requires in
+    let all = (put_then (put (c.put_bytes-first.ensures.next, c.put_bytes-first.ensures.bytes)) (put (c.put_numbers.ensures.next, c.put_numbers.ensures.bytes))).told c.requires in
     record { next = all.0; bytes = all.1 }

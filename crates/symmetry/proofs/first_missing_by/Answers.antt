@@ -34,14 +34,17 @@ loop-c-init c = (λ row places good. refl, unmarked)
 pub slice_bounds-key_at-end : goal.slice_bounds-key_at-end
 slice_bounds-key_at-end c = sym c.loop-c.invariant.1.room
 
-pub key_at-key-requires : goal.key_at-key-requires
-key_at-key-requires c = (c.requires.0.formula, omega arith, c.requires.1, c.loop-c.invariant.1)
-
 pub overflow_cast-mark : goal.overflow_cast-mark
 overflow_cast-mark c = omega (arith, c.requires.0.formula.clauses-fit)
 
 pub slice_bounds-has_image-end : goal.slice_bounds-has_image-end
 slice_bounds-has_image-end c = sym c.key_at-key.ensures.below.room
+
+pub slice_bounds-has_opposites-end : goal.slice_bounds-has_opposites-end
+slice_bounds-has_opposites-end c = sym c.key_at-key.ensures.below.room
+
+pub key_at-key-requires : goal.key_at-key-requires
+key_at-key-requires c = (c.requires.0.formula, omega arith, c.requires.1, c.loop-c.invariant.1)
 
 abbrev sent : After-marks-in-loop-c-2-1 → List ℕ
 sent c = sent_clause c.args.places.now (clause_at c.args.literals.now c.args.ends.now c.loop-c.c)
@@ -64,9 +67,6 @@ has_image-requires c =
 
 pub clause-requires : goal.clause-requires
 clause-requires c = (c.requires.0.formula.clauses, omega arith)
-
-pub slice_bounds-has_opposites-end : goal.slice_bounds-has_opposites-end
-slice_bounds-has_opposites-end c = sym c.key_at-key.ensures.below.room
 
 pub has_opposites-requires : goal.has_opposites-requires
 has_opposites-requires c =

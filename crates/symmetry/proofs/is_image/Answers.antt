@@ -18,17 +18,17 @@ use native.Mathlib.Omega.{arith}
 use Rattle.symmetry.proofs.is_image.Goals as goal
 use Rattle.symmetry.proofs.is_image.Goals.{After-place, After-wide}
 
--- each literal of the clause among those that have the mark is enough, as the keys agree
-pub loop-i-init : goal.loop-i-init
-unfolding within
-loop-i-init c image s = same-by-part image c.args.clause.now s.literals c.requires.1 (c.requires.0 image s)
-
 good : (c : After-wide) → is_literal max_variables c.wide.result ≡ true
 good c =
     rw c.wide.ensures.0 (all-at (is_literal max_variables) c.args.clause.now 0 c.requires.1 c.loop-i.i (omega arith))
 
 pub place-requires : goal.place-requires
 place-requires c = good c
+
+-- each literal of the clause among those that have the mark is enough, as the keys agree
+pub loop-i-init : goal.loop-i-init
+unfolding within
+loop-i-init c image s = same-by-part image c.args.clause.now s.literals c.requires.1 (c.requires.0 image s)
 
 pub bounds-marks-place : goal.bounds-marks-place
 bounds-marks-place c = omega (arith, c.place.ensures.1, c.requires.2)

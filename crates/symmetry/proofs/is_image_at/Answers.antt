@@ -27,6 +27,9 @@ long c = omega (arith, right-long _ _ c.requires.0.keys-right, count c, c.requir
 pub bounds-keys-other : goal.bounds-keys-other
 bounds-keys-other c = long c
 
+pub clause-requires : goal.clause-requires
+clause-requires c = (c.requires.0.formula.clauses, c.requires.1)
+
 -- the other clause
 abbrev clause-of : Then-keys-other → List ℕ
 clause-of c = clause_at c.args.literals.now c.args.ends.now c.args.other
@@ -45,9 +48,6 @@ key-is c =
 pub returns-then-keys-other : goal.returns-then-keys-other
 returns-then-keys-other c image sought =
     sym (other_keys image (clause-of c) (λ e. omega (arith, key-is c ∙ e ∙ c.requires.2 image sought, c.if-keys-other.true)))
-
-pub clause-requires : goal.clause-requires
-clause-requires c = (c.requires.0.formula.clauses, c.requires.1)
 
 -- the other clause
 abbrev clause-of-at-After-clause : After-clause → List ℕ

@@ -8,12 +8,12 @@ use Rattle.trial.proofs.PairLaws.{found-start, Trying, trying-on, trying-here, t
 use Rattle.trial.proofs.try_row.Goals as goal
 use Rattle.trial.proofs.try_row.Goals.{At-loop-i, Else-decides}
 
-past : {row : List ℕ} {first end : ℕ} → Covers row first end → (i : ℕ) → i ≡ end → moved_at i row ≡ []
-past {row} c i e = ap (λ (k : ℕ). moved_at k row) e ∙ c.none_after
-
 pub loop-i-init : goal.loop-i-init
 loop-i-init c =
     (omega (arith, c.requires.0.order), record { found = found-start _ c.requires.0.none_before; places = rw c.requires.0.none_before at c.requires.1 })
+
+past : {row : List ℕ} {first end : ℕ} → Covers row first end → (i : ℕ) → i ≡ end → moved_at i row ≡ []
+past {row} c i e = ap (λ (k : ℕ). moved_at k row) e ∙ c.none_after
 
 -- the span ends within the row, and nothing is moved past it
 covers : (c : At-loop-i) → let a = c.args in Covers a.row.now a.span.first a.span.end

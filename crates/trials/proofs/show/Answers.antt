@@ -35,4 +35,4 @@ good-at-After-values-3-1 c = sym c.is_row.ensures ∙ not-false _ c.if-not-is_ro
 
 pub try_row-requires : goal.try_row-requires
 try_row-requires c =
-    (span-covers c.Span-of.ensures, table-places _ _ _ (good-at-After-values-3-1 c) c.tabulate.ensures.table)
+    (span-covers c.span_of.ensures, table-places _ _ _ (good-at-After-values-3-1 c) c.tabulate.ensures.table)

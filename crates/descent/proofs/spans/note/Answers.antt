@@ -31,10 +31,10 @@ size-at-After-struct_known-1 c =
 
 -- the span of row r
 span : (c : After-struct_known-1) → let a = c.args in
-    IsSpan (row_at a.n c.loop-r.r a.images.now) c.Span-of.result.first c.Span-of.result.end
-    × (c.Span-of.result.first ≤ max_variables) × (c.Span-of.result.end ≤ max_variables)
+    IsSpan (row_at a.n c.loop-r.r a.images.now) c.span_of-span.result.first c.span_of-span.result.end
+    × (c.span_of-span.result.first ≤ max_variables) × (c.span_of-span.result.end ≤ max_variables)
 span c =
-    let is = c.Span-of.ensures in (
+    let is = c.span_of-span.ensures in (
       rw c.row.ensures at is,
       omega (arith, is.order, is.within, size-at-After-struct_known-1 c, c.requires.0.small),
       omega (arith, is.within, size-at-After-struct_known-1 c, c.requires.0.small),
@@ -57,10 +57,10 @@ size-at-After-struct_known-in-loop-r-1 c =
 
 -- the span of row r
 span-at-After-struct_known-in-loop-r-1 : (c : After-struct_known-in-loop-r-1) → let a = c.args in
-    IsSpan (row_at a.n c.loop-r.r a.images.now) c.Span-of.result.first c.Span-of.result.end
-    × (c.Span-of.result.first ≤ max_variables) × (c.Span-of.result.end ≤ max_variables)
+    IsSpan (row_at a.n c.loop-r.r a.images.now) c.span_of-span.result.first c.span_of-span.result.end
+    × (c.span_of-span.result.first ≤ max_variables) × (c.span_of-span.result.end ≤ max_variables)
 span-at-After-struct_known-in-loop-r-1 c =
-    let is = c.Span-of.ensures in (
+    let is = c.span_of-span.ensures in (
       rw c.row.ensures at is,
       omega (arith, is.order, is.within, size-at-After-struct_known-in-loop-r-1 c, c.requires.0.small),
       omega (arith, is.within, size-at-After-struct_known-in-loop-r-1 c, c.requires.0.small),

@@ -13,7 +13,7 @@ pub slice_bounds-added_by_rows-end : goal.slice_bounds-added_by_rows-end
 slice_bounds-added_by_rows-end c = sym (length-take-le _ _ (omega (arith, c.requires.1.small)))
 
 pub added_by_rows-added-requires : goal.added_by_rows-added-requires
-added_by_rows-added-requires c = (c.requires.1, sym (slice-aggregate-added-by-rows c))
+added_by_rows-added-requires c = (c.requires.1, sym (slice_bounds-added_by_rows-end c))
 
 pub returns : goal.returns
 unfolding made_variables

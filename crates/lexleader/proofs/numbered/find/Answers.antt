@@ -55,7 +55,7 @@ tells c = subst (Adds _ _) c.row.ensures c.added_by-more.ensures.added
 pub returns-then-left-more : goal.returns-then-left-more
 returns-then-left-more c =
     let a = c.args in
-    let here = sought-here a.n a.rows a.images.now a.q c.loop-r.e c.loop-r.false c.loop-r.r c.loop-r.inv.1 (omega arith) (omega (arith, (tells c).1 c.loop-r.e)) in
+    let here = sought-here a.n a.rows a.images.now a.q c.loop-r.e c.loop-r.left c.loop-r.r c.loop-r.inv.1 (omega arith) (omega (arith, (tells c).1 c.loop-r.e)) in
     record {
       upto = c.loop-r.inv.1.upto;
       none = λ h. absurd (omega arith);
@@ -73,10 +73,10 @@ tells-at-After-struct_known-in-loop-r-2-1 c = subst (Adds _ _) c.row.ensures c.a
 
 -- the clause is looked for in the rows after row r
 later : (c : After-struct_known-in-loop-r-2-1) → let a = c.args in
-    Sought a.n a.rows a.images.now a.q (c.loop-r.e + c.added_by-more.result.auxiliaries) (c.loop-r.false - c.added_by-more.result.clauses) (c.loop-r.r + 1)
+    Sought a.n a.rows a.images.now a.q (c.loop-r.e + c.added_by-more.result.auxiliaries) (c.loop-r.left - c.added_by-more.result.clauses) (c.loop-r.r + 1)
 later c =
     let a = c.args in
-    sought-later a.n a.rows a.images.now a.q c.loop-r.e c.loop-r.false c.loop-r.r c.loop-r.inv.1 (omega arith) c.requires.0 (tells-at-After-struct_known-in-loop-r-2-1 c) (omega (arith, (tells-at-After-struct_known-in-loop-r-2-1 c).1 c.loop-r.e))
+    sought-later a.n a.rows a.images.now a.q c.loop-r.e c.loop-r.left c.loop-r.r c.loop-r.inv.1 (omega arith) c.requires.0 (tells-at-After-struct_known-in-loop-r-2-1 c) (omega (arith, (tells-at-After-struct_known-in-loop-r-2-1 c).1 c.loop-r.e))
 
 pub overflow_add-e-in-loop-r : goal.overflow_add-e-in-loop-r
 overflow_add-e-in-loop-r c = omega (arith, (later c).low, c.requires.0.rows_fit)
@@ -93,7 +93,7 @@ returns c =
     let a = c.args in
     record {
       upto = omega arith;
-      none = λ h. sought-none a.n a.rows a.images.now a.q c.loop-r.e c.loop-r.false c.loop-r.r c.loop-r.invariant.1 (omega arith);
+      none = λ h. sought-none a.n a.rows a.images.now a.q c.loop-r.e c.loop-r.left c.loop-r.r c.loop-r.invariant.1 (omega arith);
       some = λ h. absurd (omega arith);
       few = λ h. absurd (omega arith);
       inside = λ h. absurd (omega arith);

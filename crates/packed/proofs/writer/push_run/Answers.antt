@@ -14,7 +14,7 @@ pub push-taken-requires : goal.push-taken-requires
 push-taken-requires c =
     let o = c.at_once-here.ensures in
     let v = c.args.value in (
-      run_room c.requires c.loop-left.invariant (sym (length-replicate c.args.k v)) _ (omega (arith, o.1, length-replicate c.loop-left.false v)),
+      run_room c.requires c.loop-left.invariant (sym (length-replicate c.args.k v)) _ (omega (arith, o.1, length-replicate c.loop-left.left v)),
       o.0,
       o.2,
       o.3,
@@ -30,9 +30,9 @@ pub loop-left-preserved : goal.loop-left-preserved
 loop-left-preserved c =
     let o = c.at_once-here in
     let v = c.args.value in
-    let whole : o.result + (c.loop-left.false - o.result) ≡ c.loop-left.false = omega (arith, o.ensures.1) in
-    let split : replicate c.loop-left.false v ≡ replicate o.result v ++ replicate (c.loop-left.false - o.result) v =
-    sym (replicate-append-replicate o.result (c.loop-left.false - o.result) v ∙ ap (λ (m : ℕ). replicate m v) whole) in
+    let whole : o.result + (c.loop-left.left - o.result) ≡ c.loop-left.left = omega (arith, o.ensures.1) in
+    let split : replicate c.loop-left.left v ≡ replicate o.result v ++ replicate (c.loop-left.left - o.result) v =
+    sym (replicate-append-replicate o.result (c.loop-left.left - o.result) v ∙ ap (λ (m : ℕ). replicate m v) whole) in
     run_more (rw split at c.loop-left.invariant) c.push-taken.ensures
 
 pub shape_of-out : goal.shape_of-out
@@ -40,5 +40,5 @@ shape_of-out c = run-size c.requires c.loop-left.invariant
 
 pub returns : goal.returns
 returns c =
-    let none : c.loop-left.false ≡ 0 = omega arith in
+    let none : c.loop-left.left ≡ 0 = omega arith in
     run_end (rw none at c.loop-left.invariant)

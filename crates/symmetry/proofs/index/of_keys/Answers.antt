@@ -9,11 +9,17 @@ use native.Mathlib.Omega.{arith}
 use Rattle.symmetry.proofs.index.of_keys.Goals as goal
 use Rattle.symmetry.proofs.index.of_keys.Goals.{After-bucket, After-loop-c}
 
-pub loop-c-init : goal.loop-c-init
-loop-c-init c = (rw c.requires.2 (holds-none _ bucket_count c.args.nexts.now), omega arith, refl, refl)
-
 pub bounds-keys-c : goal.bounds-keys-c
 bounds-keys-c c = omega (arith, c.requires.0)
+
+pub shape_of-heads : goal.shape_of-heads
+shape_of-heads c = c.loop-c.invariant.2
+
+pub shape_of-nexts : goal.shape_of-nexts
+shape_of-nexts c = c.loop-c.invariant.3
+
+pub loop-c-init : goal.loop-c-init
+loop-c-init c = (rw c.requires.2 (holds-none _ bucket_count c.args.nexts.now), omega arith, refl, refl)
 
 heads-long : (c : After-bucket) → length c.args.heads.now ≡ bucket_count
 heads-long c = ap length c.requires.2 ∙ length-replicate {A = ℕ} bucket_count 0
@@ -27,12 +33,6 @@ pub loop-c-preserved : goal.loop-c-preserved
 loop-c-preserved c =
     let inv = c.loop-c.invariant in
     (c.put.ensures (clause_bucket c.args.keys.now) (sym c.bucket.ensures) inv.0, omega arith, c.put.auto.heads ∙ inv.2, c.put.auto.nexts ∙ inv.3)
-
-pub shape_of-heads : goal.shape_of-heads
-shape_of-heads c = c.loop-c.invariant.2
-
-pub shape_of-nexts : goal.shape_of-nexts
-shape_of-nexts c = c.loop-c.invariant.3
 
 heads-long-at-After-loop-c : (c : After-loop-c) → length c.args.heads.now ≡ bucket_count
 heads-long-at-After-loop-c c = ap length c.requires.2 ∙ length-replicate {A = ℕ} bucket_count 0

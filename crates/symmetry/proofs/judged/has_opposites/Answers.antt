@@ -18,10 +18,6 @@ use native.Mathlib.Omega.{arith}
 use Rattle.symmetry.proofs.judged.has_opposites.Goals as goal
 use Rattle.symmetry.proofs.judged.has_opposites.Goals.{After-loop-i, After-opposite, After-place, After-wide, Else-marks-place, Then-marks-place}
 
-pub loop-i-init : goal.loop-i-init
-unfolding has_opposites
-loop-i-init c = refl
-
 -- the literal at hand
 good : (c : After-wide) → is_literal max_variables c.wide.result ≡ true
 good c =
@@ -62,6 +58,10 @@ good-opposite c =
 
 pub place-requires : goal.place-requires
 place-requires c = good-opposite c
+
+pub loop-i-init : goal.loop-i-init
+unfolding has_opposites
+loop-i-init c = refl
 
 pub bounds-marks-place : goal.bounds-marks-place
 bounds-marks-place c = omega (arith, c.place.ensures.1, c.requires.3)

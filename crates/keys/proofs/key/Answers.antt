@@ -53,8 +53,8 @@ hand c =
 pub loop-i-preserved-then-marks-place : goal.loop-i-preserved-then-marks-place
 loop-i-preserved-then-marks-place c =
     let new = is-new c.args.mark (sent-at-After-wrapping_add_u64-sum c) c.loop-i.marks _ _ _ _ (hand (goal.at.loop-i-preserved-then-marks-place c).After-sent-place) c.loop-i.invariant.1 c.if-marks-place.true in (
-      c.wrapping_add_u64-sum.ensures ∙ key_more c.args.table.now (sent-at-After-wrapping_add_u64-sum c) _ _ _ _ (hand (goal.at.loop-i-preserved-then-marks-place c).After-sent-place) new _ c.loop-i.invariant.0,
-      marked_more c.args.mark (sent-at-After-wrapping_add_u64-sum c) c.loop-i.marks _ _ _ _ (hand (goal.at.loop-i-preserved-then-marks-place c).After-sent-place) c.loop-i.invariant.1 (bounds-marks-place c),
+      c.wrapping_add_u64-sum.ensures.value ∙ key_more c.args.table.now (sent-at-After-wrapping_add_u64-sum c) _ _ _ _ (hand (goal.at.loop-i-preserved-then-marks-place c).After-sent-place) new _ c.loop-i.invariant.0,
+      marked_more c.args.mark (sent-at-After-wrapping_add_u64-sum c) c.loop-i.marks _ _ _ _ (hand (goal.at.loop-i-preserved-then-marks-place c).After-sent-place) c.loop-i.invariant.1 (omega (arith, c.sent-place.ensures.1, c.loop-i.invariant.3.room)),
       omega (arith, c.loop-i.invariant.2),
       below_more c.args.mark c.loop-i.marks _ c.sent-place.ensures.1 c.loop-i.invariant.3,
     )
@@ -102,7 +102,7 @@ pub offset_bounds-marks-place-then-marks-place : goal.offset_bounds-marks-place-
 offset_bounds-marks-place-then-marks-place c = omega (arith, c.sent-place.ensures.1)
 
 pub bounds-marks-place-then-marks-place : goal.bounds-marks-place-then-marks-place
-bounds-marks-place-then-marks-place c = bounds-marks-place c
+bounds-marks-place-then-marks-place c = omega (arith, c.sent-place.ensures.1, c.loop-i.invariant.3.room)
 
 pub offset_bounds-table-place : goal.offset_bounds-table-place
 offset_bounds-table-place c = omega (arith, c.sent-place.ensures.1)

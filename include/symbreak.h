@@ -1,5 +1,5 @@
 /* symbreak: lex-leader symmetry breaking for propositional formulas, proved correct. For C99 or C++98 and later. docs/MANUAL.md explains every term, call and
- * refusal, with examples. In the project's folder, `rt staticlib symbreak` writes target/staticlib/libsymbreak.a; a host is linked with it by
+ * refusal, with examples. In the project's folder, `tools/build library` writes target/staticlib/libsymbreak.a; a host is linked with it by
  *     cc host.c -Iinclude target/staticlib/libsymbreak.a
  *
  * Every call takes any numbers and any slices. It answers, or refuses with a number and a place; a refusal changes nothing that was lent.

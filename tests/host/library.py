@@ -62,7 +62,7 @@ def rounds(default):
 def archive():
     """The static library: what the environment names as LIBSYMBREAK, or this repository's, which is proved and built first."""
     if "LIBSYMBREAK" not in os.environ:
-        subprocess.run(["rt", "staticlib", "symbreak"], cwd=ROOT, check=True, stdout=subprocess.DEVNULL)
+        subprocess.run([os.path.join(ROOT, "tools", "build"), "library"], cwd=ROOT, check=True, stdout=subprocess.DEVNULL)
     return os.environ.get("LIBSYMBREAK", os.path.join(ROOT, "target", "staticlib", "libsymbreak.a"))
 
 

@@ -185,7 +185,7 @@ class Function:
         return [f"?clauses-from-{i}"] + parts
 
 
-def alias_rewrite(text, var, navs):
+def alias_rewrite(text, var, navs, more=()):
     """Place expressions become c; lets that name a place go."""
     if var != "c":
         text = re.sub(rf"(?<![\w.'-]){re.escape(var)}(?![\w'-])", "c", text)
@@ -204,9 +204,13 @@ def alias_rewrite(text, var, navs):
             if name != "c":
                 if re.search(rf"(λ|\()[^.)\n]*(?<![\w.'-]){re.escape(name)}(?![\w'-])[^.)\n]*[.:]", rest) and re.search(rf"λ[^.]*(?<![\w.'-]){re.escape(name)}(?![\w'-])[^.]*\.\s|\({re.escape(name)} :", rest):
                     say("binder that looks like the alias", name)
-                rest = re.sub(rf"(?<![\w.'-]){re.escape(name)}(?![\w'-])(?!\s*=[^≡])", "c", rest)
+                after = r"(?=\.)" if name == "at" else r"(?!\s*=[^≡])"
+                rest = re.sub(rf"(?<![\w.'-]){re.escape(name)}(?![\w'-]){after}", "c", rest)
+                if name == "at":
+                    for nav in [*navs, *more]:
+                        rest = re.sub(rf"(?<![\w.'-])({re.escape(nav)}\s+)at(?![\w'-])", r"\1c", rest)
             text = text[:m.start()] + rest
-        m = re.search(rf"\blet ({ID}) = (c\.{ID}\.given\.0)\s+in\b[ \t]*\n?", text)
+        m = re.search(rf"\blet ({ID}) = (c\.{ID}\.(?:given\.0|ensures))\s+in\b[ \t]*\n?", text)
         if m:
             rest = text[m.end():]
             rest = re.sub(rf"(?<![\w.'-]){re.escape(m.group(1))}(?![\w'-])(?!\s*=[^≡])", m.group(2), rest)
@@ -398,10 +402,10 @@ def turn(fn):
         ms = re.search(rf"\(({ID}) : tie\.{ID}\)", sig)
         if ms:
             sig = sig.replace(ms.group(0), "(c : @PLACE)", 1)
-            sig = alias_rewrite(sig, ms.group(1), navs)
+            sig = alias_rewrite(sig, ms.group(1), navs, helpers)
         else:
             sig = re.sub(rf"tie\.{ID}", "@PLACE", sig, 1)
-        eqs = alias_rewrite(eqs, var, navs)
+        eqs = alias_rewrite(eqs, var, navs, helpers)
         sig, eqs = flatten(fn, sig), flatten(fn, eqs)
         sig, eqs = calls(sig, None, place), calls(eqs, None, place)
         sig = sig.replace("@PLACE", place)
@@ -493,7 +497,7 @@ def turn(fn):
                 params, body = ml.group(1).split(), " " + ml.group(2)
         var = params[0]
         params = [p for p in params if p != "κs"]
-        body = alias_rewrite(body, var, navs)
+        body = alias_rewrite(body, var, navs, helpers)
         params[0] = "c"
         body = flatten(fn, body)
         body = cited(body, new)
@@ -529,14 +533,14 @@ def turn(fn):
         out.append("\n".join(chunk))
 
     index = {id(a[1]): k for k, a in answers.items() if a[0] == "decl"}
-    for k in sorted(answers):
-        if answers[k][0] == "term":
-            answer(k, *answers[k])
     for d in order:
         if d.get("plain"):
             out.append("\n".join(d["comment"] + d["lines"]))
         elif id(d) in index:
             answer(index[id(d)], "decl", d)
+    for k in sorted(answers):
+        if answers[k][0] == "term":
+            answer(k, *answers[k])
     for name, d in helpers.items():
         if not any(key[0] == name for key in helper_uses):
             say(f"{fn_name}: helper {name} is not used")

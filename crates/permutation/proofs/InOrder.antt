@@ -62,7 +62,7 @@ unfolding bad_name_after
 names-sifted n seen [] e = sifted-none (is_name n) seen
 names-sifted n seen (w ∷ words) e =
     let p = clear _ _ w.place e in
-    sifted-more (is_name n) seen (code_in w) (map code_in words) p.0 (names-sifted n _ words p.1)
+    sifted-more (is_name n) seen (code_in w) (map code_in words) p.0 (names-sifted n (variable_of (code_in w) ∷ seen) words p.1)
 
 -- ---- the names
 

@@ -15,42 +15,24 @@ use native.Mathlib.Omega.{arith}
 use Rattle.calls.proofs.offer.Goals as goal
 use Rattle.calls.proofs.offer.Goals.{After-struct_known-2-1, After-table-2-1, After-turned_back, After-turned_back-then-counts-eq-MAX_ROWS, In_default-answer}
 
-pub admit_by-requires : goal.admit_by-requires
-admit_by-requires c = c.numbers-table.ensures
-
-abbrev S : After-struct_known-2-1 → Keyed
+abbrev S : After-turned_back → Keyed
 S c = with_keys (lent c.args.counts c.args.literals.now c.args.ends.now c.args.images.now) c.args.keys.now
-
-admitted : (c : After-struct_known-2-1) → standing_of (S c) ≡ Standing.Ready
-admitted c = sym c.admit_by.ensures ∙ c.in_default.is
-
-well : (c : After-struct_known-2-1) → well_formed (S c) ≡ true
-well c = (ready (S c) (admitted c)).1
-
-few : (c : After-struct_known-2-1) → (S c).store.counts.rows ≤ max_rows
-few c = let lent = S c in (rest_of lent.store (its-form lent (well c))).rows_fit
-
-pub overflow_add-result : goal.overflow_add-result
-overflow_add-result c = omega (arith, few c)
-
-abbrev S-at-After-turned_back : After-turned_back → Keyed
-S-at-After-turned_back c = with_keys (lent c.args.counts c.args.literals.now c.args.ends.now c.args.images.now) c.args.keys.now
 
 pub returns-in-Refused : goal.returns-in-Refused
 returns-in-Refused c =
-    let all = let s = S-at-After-turned_back c in
+    let all = let s = S c in
     turned-back s _ _ _ _ c.turned_back.ensures (unready s _ _ _ (sym c.admit_by.ensures ∙ c.in-Refused.is)) in
     record { says = all.0; leaves = all.1 }
 
 abbrev S-at-After-turned_back-then-counts-eq-MAX_ROWS : After-turned_back-then-counts-eq-MAX_ROWS → Keyed
 S-at-After-turned_back-then-counts-eq-MAX_ROWS c = with_keys (lent c.args.counts c.args.literals.now c.args.ends.now c.args.images.now) c.args.keys.now
 
-admitted-at-After-turned_back-then-counts-eq-MAX_ROWS : (c : After-turned_back-then-counts-eq-MAX_ROWS) → standing_of (S-at-After-turned_back-then-counts-eq-MAX_ROWS c) ≡ Standing.Ready
-admitted-at-After-turned_back-then-counts-eq-MAX_ROWS c = sym c.admit_by.ensures ∙ c.in_default.is
+admitted : (c : After-turned_back-then-counts-eq-MAX_ROWS) → standing_of (S-at-After-turned_back-then-counts-eq-MAX_ROWS c) ≡ Standing.Ready
+admitted c = sym c.admit_by.ensures ∙ c.in_default.is
 
 pub returns-then-counts-eq-MAX_ROWS : goal.returns-then-counts-eq-MAX_ROWS
 returns-then-counts-eq-MAX_ROWS c =
-    let all = turned-back (S-at-After-turned_back-then-counts-eq-MAX_ROWS c) _ _ _ _ c.turned_back-then-counts-eq-MAX_ROWS.ensures (full (S-at-After-turned_back-then-counts-eq-MAX_ROWS c) _ _ (admitted-at-After-turned_back-then-counts-eq-MAX_ROWS c) c.if-counts-eq-MAX_ROWS.true) in
+    let all = turned-back (S-at-After-turned_back-then-counts-eq-MAX_ROWS c) _ _ _ _ c.turned_back-then-counts-eq-MAX_ROWS.ensures (full (S-at-After-turned_back-then-counts-eq-MAX_ROWS c) _ _ (admitted c) c.if-counts-eq-MAX_ROWS.true) in
     record { says = all.0; leaves = all.1 }
 
 abbrev S-at-After-table-2-1 : After-table-2-1 → Keyed
@@ -59,17 +41,17 @@ S-at-After-table-2-1 c = with_keys (lent c.args.counts c.args.literals.now c.arg
 admitted-at-After-table-2-1 : (c : After-table-2-1) → standing_of (S-at-After-table-2-1 c) ≡ Standing.Ready
 admitted-at-After-table-2-1 c = sym c.admit_by.ensures ∙ c.in_default.is
 
-well-at-After-table-2-1 : (c : After-table-2-1) → well_formed (S-at-After-table-2-1 c) ≡ true
-well-at-After-table-2-1 c = (ready (S-at-After-table-2-1 c) (admitted-at-After-table-2-1 c)).1
+well : (c : After-table-2-1) → well_formed (S-at-After-table-2-1 c) ≡ true
+well c = (ready (S-at-After-table-2-1 c) (admitted-at-After-table-2-1 c)).1
 
-few-at-After-table-2-1 : (c : After-table-2-1) → (S-at-After-table-2-1 c).store.counts.rows ≤ max_rows
-few-at-After-table-2-1 c = let lent = S-at-After-table-2-1 c in (rest_of lent.store (its-form lent (well-at-After-table-2-1 c))).rows_fit
+few : (c : After-table-2-1) → (S-at-After-table-2-1 c).store.counts.rows ≤ max_rows
+few c = let lent = S-at-After-table-2-1 c in (rest_of lent.store (its-form lent (well c))).rows_fit
 
 pub offer-answer-requires : goal.offer-answer-requires
 offer-answer-requires c =
-    let w = well-at-After-table-2-1 c in
+    let w = well c in
     let lent = S-at-After-table-2-1 c in
-    (its-form lent w, its-keys lent w, lt_of_le-ne (few-at-After-table-2-1 c) c.if-counts-eq-MAX_ROWS.false, c.numbers-table.ensures)
+    (its-form lent w, its-keys lent w, lt_of_le-ne (few c) c.if-counts-eq-MAX_ROWS.false, c.numbers-table.ensures)
 
 abbrev S-at-In_default-answer : In_default-answer → Keyed
 S-at-In_default-answer c = with_keys (lent c.args.counts c.args.literals.now c.args.ends.now c.args.images.now) c.args.keys.now
@@ -88,13 +70,31 @@ returns-in_default-answer c =
     let all = refuses (S-at-In_default-answer c) _ _ c.offer-answer.result c.offer-answer.ensures.answer (said c) c.offer-answer.new.images c.offer-answer.ensures.images _ c.in_default-answer.is in
     record { says = all.0; leaves = all.1 }
 
+abbrev S-at-After-struct_known-2-1 : After-struct_known-2-1 → Keyed
+S-at-After-struct_known-2-1 c = with_keys (lent c.args.counts c.args.literals.now c.args.ends.now c.args.images.now) c.args.keys.now
+
+admitted-at-After-struct_known-2-1 : (c : After-struct_known-2-1) → standing_of (S-at-After-struct_known-2-1 c) ≡ Standing.Ready
+admitted-at-After-struct_known-2-1 c = sym c.admit_by.ensures ∙ c.in_default.is
+
 -- an offer that came so far was tried
 said-at-After-struct_known-2-1 : (c : After-struct_known-2-1) → let names = c.args.names.now in
     let values = c.args.values.now in
-    offer_says (S c) names values ≡ said_offered (offered_by (S c).store names values)
-said-at-After-struct_known-2-1 c = tried (S c) _ _ (admitted c) c.if-counts-eq-MAX_ROWS.false
+    offer_says (S-at-After-struct_known-2-1 c) names values ≡ said_offered (offered_by (S-at-After-struct_known-2-1 c).store names values)
+said-at-After-struct_known-2-1 c = tried (S-at-After-struct_known-2-1 c) _ _ (admitted-at-After-struct_known-2-1 c) c.if-counts-eq-MAX_ROWS.false
 
 pub returns : goal.returns
 returns c =
-    let all = accepts (S c) _ _ c.offer-answer.result c.offer-answer.ensures.answer (said-at-After-struct_known-2-1 c) c.offer-answer.new.images c.offer-answer.ensures.images c.in-Accepted.is in
+    let all = accepts (S-at-After-struct_known-2-1 c) _ _ c.offer-answer.result c.offer-answer.ensures.answer (said-at-After-struct_known-2-1 c) c.offer-answer.new.images c.offer-answer.ensures.images c.in-Accepted.is in
     record { says = all.0; leaves = all.1 }
+
+pub admit_by-requires : goal.admit_by-requires
+admit_by-requires c = c.numbers-table.ensures
+
+well-at-After-struct_known-2-1 : (c : After-struct_known-2-1) → well_formed (S-at-After-struct_known-2-1 c) ≡ true
+well-at-After-struct_known-2-1 c = (ready (S-at-After-struct_known-2-1 c) (admitted-at-After-struct_known-2-1 c)).1
+
+few-at-After-struct_known-2-1 : (c : After-struct_known-2-1) → (S-at-After-struct_known-2-1 c).store.counts.rows ≤ max_rows
+few-at-After-struct_known-2-1 c = let lent = S-at-After-struct_known-2-1 c in (rest_of lent.store (its-form lent (well-at-After-struct_known-2-1 c))).rows_fit
+
+pub overflow_add-result : goal.overflow_add-result
+overflow_add-result c = omega (arith, few-at-After-struct_known-2-1 c)

@@ -27,9 +27,6 @@ use Rattle.checking.proofs.CheckLaws.{LeftToTry, try-first, left-some, head-with
 use Rattle.checking.proofs.first_false.Goals as goal
 use Rattle.checking.proofs.first_false.Goals.{After-loop-q, After-next-arg-1, After-slice_known-2-1, After-slice_known-in-loop-q-1, After-slice_known-then-six_hold-1, After-start-arg-1, After-values-1, After-values-in-loop-q-1, After-values-in-loop-q-2-1, Then-not-holds_at}
 
-pub slice_bounds-tabulate-end : goal.slice_bounds-tabulate-end
-slice_bounds-tabulate-end c = refl
-
 abbrev S : After-values-1 → Store
 S c = lent c.args.counts c.args.literals.now c.args.ends.now c.args.images.now
 
@@ -53,8 +50,7 @@ S-at-After-slice_known-2-1 c = lent c.args.counts c.args.literals.now c.args.end
 
 pub loop-q-init : goal.loop-q-init
 loop-q-init c =
-    let r = (c.start-at.ensures.stands, (c.start-at.ensures.remaining, c.start-at.ensures.marks)) in
-    (try-first (S-at-After-slice_known-2-1 c) c.requires.0 c.args.a.now c.requires.2 r.0 (start_left (S-at-After-slice_known-2-1 c) c.start-at.result r.1.0), r.1.1)
+    (try-first (S-at-After-slice_known-2-1 c) c.requires.0 c.args.a.now c.requires.2 c.start-at.ensures.stands (start_left (S-at-After-slice_known-2-1 c) c.start-at.result c.start-at.ensures.remaining), c.start-at.ensures.marks)
 
 pub slice_bounds-six_hold-end : goal.slice_bounds-six_hold-end
 slice_bounds-six_hold-end c = sym c.tabulate.kept.1.1.0
@@ -159,10 +155,9 @@ told-at-After-slice_known-in-loop-q-1 c =
 
 pub loop-q-preserved : goal.loop-q-preserved
 loop-q-preserved c =
-    let r = (c.next-at.ensures.stands, (c.next-at.ensures.remaining, c.next-at.ensures.marks)) in
-    let is = r.1.0 (plain_of (S-at-After-slice_known-in-loop-q-1 c)) (plain-length (S-at-After-slice_known-in-loop-q-1 c) c.requires.0) in (
-      try-on (S-at-After-slice_known-in-loop-q-1 c) c.requires.0 c.args.a.now c.loop-q.invariant.0 (_ ∷ []) c.next-at.result is r.0 (one_holds _ _ (sym (told-at-After-slice_known-in-loop-q-1 c) ∙ not-false _ c.if-not-holds_at.false-raw)),
-      r.1.1,
+    let is = c.next-at.ensures.remaining (plain_of (S-at-After-slice_known-in-loop-q-1 c)) (plain-length (S-at-After-slice_known-in-loop-q-1 c) c.requires.0) in (
+      try-on (S-at-After-slice_known-in-loop-q-1 c) c.requires.0 c.args.a.now c.loop-q.invariant.0 (_ ∷ []) c.next-at.result is c.next-at.ensures.stands (one_holds _ _ (sym (told-at-After-slice_known-in-loop-q-1 c) ∙ not-false _ c.if-not-holds_at.false-raw)),
+      c.next-at.ensures.marks,
     )
 
 abbrev S-at-After-loop-q : After-loop-q → Store
@@ -177,3 +172,6 @@ shape_of-marks-then-not-holds_at c = c.loop-q.invariant.1.room ∙ sym c.require
 
 pub shape_of-marks : goal.shape_of-marks
 shape_of-marks c = c.loop-q.invariant.1.room ∙ sym c.requires.3
+
+pub slice_bounds-tabulate-end : goal.slice_bounds-tabulate-end
+slice_bounds-tabulate-end c = refl

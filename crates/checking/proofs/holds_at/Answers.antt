@@ -64,10 +64,10 @@ clause_at-clause-requires c =
     rw c.row-row.ensures (clause-stands c.args.counts c.args.images.now c.args.at c.requires.1 (at_added (goal.at.clause_at-clause-requires c).Else-at-counts).row)
 
 pub slice_bounds-codes-end : goal.slice_bounds-codes-end
-slice_bounds-codes-end c = let h = c.clause_at-clause.ensures in omega (arith, h.most, h.room)
+slice_bounds-codes-end c = omega (arith, c.clause_at-clause.ensures.most, c.clause_at-clause.ensures.room)
 
 pub slice_bounds-codes_hold-end : goal.slice_bounds-codes_hold-end
-slice_bounds-codes_hold-end c = let h = c.clause_at-clause.ensures in sym (length-take-le _ _ (omega (arith, h.most, h.room)))
+slice_bounds-codes_hold-end c = sym (length-take-le _ _ (omega (arith, c.clause_at-clause.ensures.most, c.clause_at-clause.ensures.room)))
 
 abbrev S-at-After-codes-2-1 : After-codes-2-1 → Store
 S-at-After-codes-2-1 c = lent c.args.counts c.args.literals.now c.args.ends.now c.args.images.now

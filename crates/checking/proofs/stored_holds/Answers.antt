@@ -6,9 +6,6 @@ use Rattle.lists.proofs.Steps.{any-drop-hit, any-drop-miss, any-drop-end}
 use Rattle.valuation.specs.Tables.{by_code}
 use Rattle.checking.proofs.stored_holds.Goals as goal
 
-pub loop-i-init : goal.loop-i-init
-loop-i-init c = refl
-
 pub overflow_cast-clause : goal.overflow_cast-clause
 overflow_cast-clause c = omega (arith, c.shared_slice_known-1.given c.loop-i.i)
 
@@ -29,3 +26,6 @@ pub returns : goal.returns
 returns c =
     let a = c.args in
     sym (c.loop-i.invariant ∙ any-drop-end (by_code a.values.now) a.clause.now c.loop-i.i (omega arith))
+
+pub loop-i-init : goal.loop-i-init
+loop-i-init c = refl

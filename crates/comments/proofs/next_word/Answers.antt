@@ -15,10 +15,6 @@ use Rattle.comments.proofs.Walk.{left, left-start, left_word, left-blank, inked,
 use Rattle.comments.proofs.next_word.Goals as goal
 use Rattle.comments.proofs.next_word.Goals.{Else-not-starts_comment}
 
-record Inv (text : List ℕ) (at i : ℕ) : Type 0 where
-  words : words_past text at ≡ left text i
-  within : i ≤ length text
-  begun : i ≡ 0 → is_blank (get_or text 0 32) ≡ true
 
 pub loop-i-init : goal.loop-i-init
 loop-i-init c =

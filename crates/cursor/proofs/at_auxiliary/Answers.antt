@@ -3,9 +3,6 @@ use Rattle.lists.proofs.Cases.{never}
 use borrow.Author.Rules.{rules}
 use Rattle.cursor.proofs.at_auxiliary.Goals as goal
 
-pub returns : goal.returns
-returns c = search rules
-
 pub returns-then-cursor-counts : goal.returns-then-cursor-counts
 returns-then-cursor-counts c = never
 
@@ -14,3 +11,6 @@ returns-then-cursor-counts-2 c = never
 
 pub returns-then-place-ne1 : goal.returns-then-place-ne1
 returns-then-place-ne1 c = never
+
+pub returns : goal.returns
+returns c = search rules

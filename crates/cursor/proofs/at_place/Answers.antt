@@ -50,9 +50,8 @@ next-at-After-slice_known-2-1 c clauses z = let a = c.args in after-here a.count
 
 pub returns : goal.returns
 returns c = let a = c.args in
-    let r = (c.row_from.ensures.stands, (c.row_from.ensures.remaining, c.row_from.ensures.marks)) in
-    let on = place-past a.counts a.images.now a.cursor.row c.requires.0.rows c.requires.1.row a.place c.if-place-counts.false ∙ sym r.1.0 in
+    let on = place-past a.counts a.images.now a.cursor.row c.requires.0.rows c.requires.1.row a.place c.if-place-counts.false ∙ sym c.row_from.ensures.remaining in
     record {
-      after = λ clauses z. let left = next-at-After-slice_known-2-1 c clauses z ∙ ap (λ (l : List (List ℕ)). clauses ++ l) on in record { stands = r.0.0; passed = past-added a.counts a.images.now a.cursor c.row_from.result c.requires.1.past r.0.1 clauses left };
-      marks = r.1.1;
+      after = λ clauses z. let left = next-at-After-slice_known-2-1 c clauses z ∙ ap (λ (l : List (List ℕ)). clauses ++ l) on in record { stands = c.row_from.ensures.stands.0; passed = past-added a.counts a.images.now a.cursor c.row_from.result c.requires.1.past c.row_from.ensures.stands.1 clauses left };
+      marks = c.row_from.ensures.marks;
     }

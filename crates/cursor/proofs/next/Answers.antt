@@ -19,9 +19,8 @@ next_added-requires c =
     (c.requires.0, record { past = c.if-cursor-counts.false; row = c.requires.1 c.if-cursor-counts.false }, c.requires.2)
 
 pub returns : goal.returns
-returns c = let next = (c.next_added.ensures.after, c.next_added.ensures.marks) in
-    record {
-      stands = next.0.stands;
-      remaining = λ plain many. by-head (next.0.passed plain many);
-      marks = next.1;
-    }
+returns c = record {
+  stands = c.next_added.ensures.after.stands;
+  remaining = λ plain many. by-head (c.next_added.ensures.after.passed plain many);
+  marks = c.next_added.ensures.marks;
+}

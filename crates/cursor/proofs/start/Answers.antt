@@ -22,10 +22,9 @@ pub returns : goal.returns
 unfolding remaining made
 returns c = let a = c.args in
     let n = a.counts.variables in
-    let r = (c.row_from.ensures.stands, (c.row_from.ensures.remaining, c.row_from.ensures.marks)) in
-    let all = r.1.0 ∙ ap (rows_clauses (n + 1)) (from_first n a.counts.rows a.images.now) in
+    let all = c.row_from.ensures.remaining ∙ ap (rows_clauses (n + 1)) (from_first n a.counts.rows a.images.now) in
     record {
-      stands = r.0.0;
-      remaining = λ plain. ap₂ (λ (k : ℕ) (l : List (List ℕ)). drop k plain ++ l) r.0.1 all;
-      marks = r.1.1;
+      stands = c.row_from.ensures.stands.0;
+      remaining = λ plain. ap₂ (λ (k : ℕ) (l : List (List ℕ)). drop k plain ++ l) c.row_from.ensures.stands.1 all;
+      marks = c.row_from.ensures.marks;
     }

@@ -6,12 +6,6 @@ use Rattle.packed.proofs.Form.{form-count, form-room}
 use Rattle.descent.specs.Words.{descended}
 use Rattle.descent.proofs.descend.Goals as goal
 
-pub slice_bounds-tabulate-end : goal.slice_bounds-tabulate-end
-slice_bounds-tabulate-end c = refl
-
-pub slice_bounds-note-end : goal.slice_bounds-note-end
-slice_bounds-note-end c = refl
-
 pub tabulate-requires : goal.tabulate-requires
 tabulate-requires c =
     (form-room c.args.n c.args.a.now c.requires.1, omega (arith, c.requires.0.small))
@@ -50,3 +44,9 @@ returns c = record {
   answer = rw c.tabulate.ensures.bits at c.settle-ended.ensures.answer;
   reached = c.write_back.ensures ∙ ap words_of (rw c.tabulate.ensures.bits at c.settle-ended.ensures.reached);
 }
+
+pub slice_bounds-tabulate-end : goal.slice_bounds-tabulate-end
+slice_bounds-tabulate-end c = refl
+
+pub slice_bounds-note-end : goal.slice_bounds-note-end
+slice_bounds-note-end c = refl

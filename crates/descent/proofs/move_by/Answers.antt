@@ -6,9 +6,6 @@ use lib.ListN.{length}
 use Rattle.descent.proofs.move_by.Goals as goal
 use Rattle.descent.proofs.move_by.Goals.{After-struct_known-1, After-struct_known-2-1}
 
-pub move_span-requires : goal.move_span-requires
-move_span-requires c = c.requires
-
 -- the part that is copied lies in the table
 within : (c : After-struct_known-1) → (c.args.span.first ≤ c.args.span.end) × (2 * c.args.span.end + 2 ≤ length c.args.values.now)
 within c = (c.requires.1.order, omega (arith, c.requires.1.within, c.requires.2.room))
@@ -44,3 +41,6 @@ returns c = record {
   bits = rw c.copy.ensures c.move_span.ensures.bits;
   same = sym c.copy.ensures;
 }
+
+pub move_span-requires : goal.move_span-requires
+move_span-requires c = c.requires

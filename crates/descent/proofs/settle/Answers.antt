@@ -13,18 +13,6 @@ use Rattle.descent.proofs.DescentLaws.{reached-none, reached-more, ends-settled,
 use Rattle.descent.proofs.settle.Goals as goal
 use Rattle.descent.proofs.settle.Goals.{After-move_by-arg-in-loop-rows-1, After-row, After-slice_known-in-loop-rows-2-1, Else-moves-limit, Then-moves-limit}
 
-pub shape_of-next-then-r-rows : goal.shape_of-next-then-r-rows
-shape_of-next-then-r-rows c = c.loop-rows.invariant.2
-
-pub shape_of-values-then-r-rows : goal.shape_of-values-then-r-rows
-shape_of-values-then-r-rows c = c.loop-rows.invariant.3
-
-pub shape_of-next-then-moves-limit : goal.shape_of-next-then-moves-limit
-shape_of-next-then-moves-limit c = c.loop-rows.invariant.2
-
-pub shape_of-values-then-moves-limit : goal.shape_of-values-then-moves-limit
-shape_of-values-then-moves-limit c = c.loop-rows.invariant.3
-
 pub loop-rows-init : goal.loop-rows-init
 loop-rows-init c = (reached-none _ _ _ _ c.requires.2, c.requires.3, refl, refl)
 
@@ -109,3 +97,15 @@ loop-rows-preserved c =
       c.move_by.auto.next ∙ c.loop-rows.invariant.2,
       c.move_by.auto.values ∙ c.loop-rows.invariant.3,
     )
+
+pub shape_of-next-then-r-rows : goal.shape_of-next-then-r-rows
+shape_of-next-then-r-rows c = c.loop-rows.invariant.2
+
+pub shape_of-values-then-r-rows : goal.shape_of-values-then-r-rows
+shape_of-values-then-r-rows c = c.loop-rows.invariant.3
+
+pub shape_of-next-then-moves-limit : goal.shape_of-next-then-moves-limit
+shape_of-next-then-moves-limit c = c.loop-rows.invariant.2
+
+pub shape_of-values-then-moves-limit : goal.shape_of-values-then-moves-limit
+shape_of-values-then-moves-limit c = c.loop-rows.invariant.3

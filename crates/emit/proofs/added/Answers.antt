@@ -40,20 +40,19 @@ row-row-requires c = part_room c.requires.0 c.find-spot.result.row (there c)
 
 pub row_clause-clause-requires : goal.row_clause-clause-requires
 row_clause-clause-requires c =
-    let z = c.find-spot.ensures in
     let here = there (goal.at.row_clause-clause-requires c).Else-spot-counts in
     let size = part-size c.requires.0 c.find-spot.result.row here _ c.row-row.ensures in (
       omega (arith, size, c.requires.0.small),
-      z.marked here ∙ ap marks_of (sym c.row-row.ensures),
-      rw c.row-row.ensures (z.few here),
-      rw c.row-row.ensures (z.inside here),
+      c.find-spot.ensures.marked here ∙ ap marks_of (sym c.row-row.ensures),
+      rw c.row-row.ensures (c.find-spot.ensures.few here),
+      rw c.row-row.ensures (c.find-spot.ensures.inside here),
     )
 
 pub slice_bounds-codes-end : goal.slice_bounds-codes-end
-slice_bounds-codes-end c = let h = c.row_clause-clause.ensures in omega (arith, h.most, h.room)
+slice_bounds-codes-end c = omega (arith, c.row_clause-clause.ensures.most, c.row_clause-clause.ensures.room)
 
 pub slice_bounds-write_codes-end : goal.slice_bounds-write_codes-end
-slice_bounds-write_codes-end c = let h = c.row_clause-clause.ensures in sym (length-take-le _ _ (omega (arith, h.most, h.room)))
+slice_bounds-write_codes-end c = sym (length-take-le _ _ (omega (arith, c.row_clause-clause.ensures.most, c.row_clause-clause.ensures.room)))
 
 pub write_codes-requires : goal.write_codes-requires
 write_codes-requires c =

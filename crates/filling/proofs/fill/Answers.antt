@@ -84,8 +84,7 @@ pub returns : goal.returns
 unfolding filled_words
 returns c = let h = holds-at-After-slice_known-4-1 c in
     let size = length-filled c.args.n (held-at-After-slice_known-4-1 c) c.args.a.now in
-    let end = (c.finish.ensures.words, c.finish.ensures.buffer) in
     record {
-      words = end.0 ∙ ap word_count (h.count ∙ size);
-      buffer = end.1 (filled-at-After-slice_known-4-1 c) c.args.out.now h ∙ rw size;
+      words = c.finish.ensures.words ∙ ap word_count (h.count ∙ size);
+      buffer = c.finish.ensures.buffer (filled-at-After-slice_known-4-1 c) c.args.out.now h ∙ rw size;
     }

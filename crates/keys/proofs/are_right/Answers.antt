@@ -9,9 +9,6 @@ use Rattle.keys.proofs.RightLaws.{right-short, right-here, wrong-here, right_end
 use Rattle.keys.proofs.are_right.Goals as goal
 use Rattle.keys.proofs.are_right.Goals.{After-loop-c, Else-keys-c, Then-keys-c, Then-keys-m}
 
-pub slice_bounds-key_at-end : goal.slice_bounds-key_at-end
-slice_bounds-key_at-end c = sym c.loop-c.invariant.1.room
-
 abbrev formula : Then-keys-m → List (List ℕ)
 formula c = clauses_in c.args.m c.args.literals.now c.args.ends.now
 
@@ -62,7 +59,7 @@ pub loop-c-preserved : goal.loop-c-preserved
 loop-c-preserved c =
     let f = found-at-Else-keys-c c in
     let next : c.loop-c.c + 2 ≡ c.loop-c.c + 1 + 1 = omega arith in
-    (c.loop-c.invariant.0 ∙ right-here _ _ c.loop-c.c f.1 f.2 (c.if-keys-c.false ∙ f.0), rw next c c.key_at.ensures.below)
+    (c.loop-c.invariant.0 ∙ right-here _ _ c.loop-c.c f.1 f.2 (c.if-keys-c.false ∙ f.0), rw next at c.key_at.ensures.below)
 
 abbrev formula-at-After-loop-c : After-loop-c → List (List ℕ)
 formula-at-After-loop-c c = clauses_in c.args.m c.args.literals.now c.args.ends.now
@@ -72,3 +69,6 @@ count-at-After-loop-c c = clauses-count c.args.literals.now c.args.ends.now c.ar
 
 pub returns : goal.returns
 returns c = sym (c.loop-c.invariant.0 ∙ right_end _ _ c.loop-c.c (omega (arith, count-at-After-loop-c c)))
+
+pub slice_bounds-key_at-end : goal.slice_bounds-key_at-end
+slice_bounds-key_at-end c = sym c.loop-c.invariant.1.room

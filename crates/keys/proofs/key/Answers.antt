@@ -11,29 +11,6 @@ use Rattle.keys.proofs.MarkLaws.{came, is-new, marked-none, marked-again, marked
 use Rattle.keys.proofs.key.Goals as goal
 use Rattle.keys.proofs.key.Goals.{After-loop-i, After-sent-place, After-slice_known-1, After-wide, After-wrapping_add_u64-sum, Else-marks-place}
 
--- the literal at hand is one of the clause's
-good : (c : After-wide) → is_literal max_variables c.wide.result ≡ true
-good c =
-    rw c.wide.ensures.0 (all-at (is_literal max_variables) c.args.clause.now 0 c.requires.0 (c.loop-i.i - 1) (omega (arith, c.loop-i.invariant.2)))
-
-pub sent-place-requires : goal.sent-place-requires
-sent-place-requires c = (good c, c.requires.1)
-
-pub offset_bounds-marks-place : goal.offset_bounds-marks-place
-offset_bounds-marks-place c = omega (arith, c.sent-place.ensures.1)
-
-pub offset_bounds-marks-place-then-marks-place : goal.offset_bounds-marks-place-then-marks-place
-offset_bounds-marks-place-then-marks-place c = omega (arith, c.sent-place.ensures.1)
-
-pub bounds-marks-place-then-marks-place : goal.bounds-marks-place-then-marks-place
-bounds-marks-place-then-marks-place c = bounds-marks-place c
-
-pub offset_bounds-table-place : goal.offset_bounds-table-place
-offset_bounds-table-place c = omega (arith, c.sent-place.ensures.1)
-
-pub bounds-table-place : goal.bounds-table-place
-bounds-table-place c = c.sent-place.ensures.1
-
 -- what the clause is sent to
 abbrev sent : After-slice_known-1 → List ℕ
 sent c = sent_clause c.args.places.now c.args.clause.now
@@ -76,8 +53,8 @@ hand c =
 pub loop-i-preserved-then-marks-place : goal.loop-i-preserved-then-marks-place
 loop-i-preserved-then-marks-place c =
     let new = is-new c.args.mark (sent-at-After-wrapping_add_u64-sum c) c.loop-i.marks _ _ _ _ (hand (goal.at.loop-i-preserved-then-marks-place c).After-sent-place) c.loop-i.invariant.1 c.if-marks-place.true in (
-      c.wrapping_add_u64-sum.ensures ∙ key_more c.args.table.now (sent-at-After-wrapping_add_u64-sum c) _ _ _ _ (hand (goal.at.loop-i-preserved-then-marks-place c).After-sent-place) new _ c.loop-i.invariant.0,
-      marked_more c.args.mark (sent-at-After-wrapping_add_u64-sum c) c.loop-i.marks _ _ _ _ (hand (goal.at.loop-i-preserved-then-marks-place c).After-sent-place) c.loop-i.invariant.1 (bounds-marks-place c),
+      c.wrapping_add_u64-sum.ensures.value ∙ key_more c.args.table.now (sent-at-After-wrapping_add_u64-sum c) _ _ _ _ (hand (goal.at.loop-i-preserved-then-marks-place c).After-sent-place) new _ c.loop-i.invariant.0,
+      marked_more c.args.mark (sent-at-After-wrapping_add_u64-sum c) c.loop-i.marks _ _ _ _ (hand (goal.at.loop-i-preserved-then-marks-place c).After-sent-place) c.loop-i.invariant.1 (omega (arith, c.sent-place.ensures.1, c.loop-i.invariant.3.room)),
       omega (arith, c.loop-i.invariant.2),
       below_more c.args.mark c.loop-i.marks _ c.sent-place.ensures.1 c.loop-i.invariant.3,
     )
@@ -103,9 +80,32 @@ pub returns : goal.returns
 returns c = let none : c.loop-i.i ≡ 0 = omega arith in
     record {
       key = c.loop-i.invariant.0 ∙ ap (λ (k : ℕ). key_by c.args.table.now (drop k (sent-at-After-loop-i c))) none;
-      marked = rw none c c.loop-i.invariant.1;
+      marked = rw none at c.loop-i.invariant.1;
       below = c.loop-i.invariant.3;
     }
 
 pub shape_of-marks : goal.shape_of-marks
 shape_of-marks c = c.loop-i.invariant.3.room ∙ sym c.requires.2.room
+
+-- the literal at hand is one of the clause's
+good : (c : After-wide) → is_literal max_variables c.wide.result ≡ true
+good c =
+    rw c.wide.ensures.0 (all-at (is_literal max_variables) c.args.clause.now 0 c.requires.0 (c.loop-i.i - 1) (omega (arith, c.loop-i.invariant.2)))
+
+pub sent-place-requires : goal.sent-place-requires
+sent-place-requires c = (good c, c.requires.1)
+
+pub offset_bounds-marks-place : goal.offset_bounds-marks-place
+offset_bounds-marks-place c = omega (arith, c.sent-place.ensures.1)
+
+pub offset_bounds-marks-place-then-marks-place : goal.offset_bounds-marks-place-then-marks-place
+offset_bounds-marks-place-then-marks-place c = omega (arith, c.sent-place.ensures.1)
+
+pub bounds-marks-place-then-marks-place : goal.bounds-marks-place-then-marks-place
+bounds-marks-place-then-marks-place c = omega (arith, c.sent-place.ensures.1, c.loop-i.invariant.3.room)
+
+pub offset_bounds-table-place : goal.offset_bounds-table-place
+offset_bounds-table-place c = omega (arith, c.sent-place.ensures.1)
+
+pub bounds-table-place : goal.bounds-table-place
+bounds-table-place c = c.sent-place.ensures.1

@@ -4,12 +4,6 @@ use Rattle.store.specs.Stores.{max_variables}
 use Rattle.store.proofs.Within.{clause-good}
 use Rattle.keys.proofs.key_at.Goals as goal
 
-pub overflow_cast-c : goal.overflow_cast-c
-overflow_cast-c c = omega (arith, c.requires.0.clauses-fit, c.requires.1)
-
-pub shape_of-marks : goal.shape_of-marks
-shape_of-marks c = c.key.auto.marks
-
 pub clause-requires : goal.clause-requires
 clause-requires c = (c.requires.0.clauses, c.requires.1)
 
@@ -18,11 +12,15 @@ key-requires c =
     (rw c.clause.ensures (clause-good max_variables c.args.m c.args.literals.now c.args.ends.now c.requires.0 c.args.c c.requires.1), c.requires.2, c.requires.3)
 
 pub returns : goal.returns
-returns c = let e = (c.key.ensures.key, (c.key.ensures.marked, c.key.ensures.below)) in
-    let is = c.clause.ensures in
-    let next : c.args.c + 1 + 1 ≡ c.args.c + 2 = omega arith in
+returns c = let next : c.args.c + 1 + 1 ≡ c.args.c + 2 = omega arith in
     record {
-      key = e.0 ∙ rw is;
-      marked = rw is at e.1.0;
-      below = rw next at e.1.1;
+      key = c.key.ensures.key ∙ rw c.clause.ensures;
+      marked = rw c.clause.ensures at c.key.ensures.marked;
+      below = rw next at c.key.ensures.below;
     }
+
+pub overflow_cast-c : goal.overflow_cast-c
+overflow_cast-c c = omega (arith, c.requires.0.clauses-fit, c.requires.1)
+
+pub shape_of-marks : goal.shape_of-marks
+shape_of-marks c = c.key.auto.marks

@@ -5,11 +5,11 @@ use Rattle.store.proofs.FormLaws.{literal-low, literal-high}
 use Rattle.keys.proofs.place.Goals as goal
 use Rattle.keys.proofs.place.Goals.{Start}
 
+pub returns : goal.returns
+returns c = (refl, omega (arith, literal-high max_variables c.args.code c.requires))
+
 low : (c : Start) → 2 ≤ c.args.code
 low c = omega (arith, literal-low max_variables c.args.code c.requires)
 
 pub overflow_sub-result : goal.overflow_sub-result
 overflow_sub-result c = low c
-
-pub returns : goal.returns
-returns c = (refl, omega (arith, literal-high max_variables c.args.code c.requires))

@@ -13,9 +13,6 @@ use Rattle.keys.proofs.MarkLaws.{unmarked, own-places, own_key}
 use Rattle.keys.proofs.write.Goals as goal
 use Rattle.keys.proofs.write.Goals.{After-loop-c, After-marks-in-loop-c-1, After-own_places-own}
 
-pub slice_bounds-key_at-end : goal.slice_bounds-key_at-end
-slice_bounds-key_at-end c = sym c.loop-c.invariant.1.room
-
 abbrev formula : After-own_places-own → List (List ℕ)
 formula c = clauses_in c.args.m c.args.literals.now c.args.ends.now
 
@@ -40,16 +37,15 @@ count-at-After-marks-in-loop-c-1 c = length-map (formula-at-After-marks-in-loop-
 
 pub loop-c-preserved : goal.loop-c-preserved
 loop-c-preserved c =
-    let key = (c.key_at.ensures.key, (c.key_at.ensures.marked, c.key_at.ensures.below)) in
     let low : c.loop-c.c < c.args.m = omega arith in
     let is = clause-is c.args.literals.now c.args.ends.now c.args.m c.loop-c.c c.requires.0.clauses.known low in
     let good = clause-good max_variables c.args.m c.args.literals.now c.args.ends.now c.requires.0 c.loop-c.c low in
     let many = clauses-count c.args.literals.now c.args.ends.now c.args.m c.requires.0.clauses.known in
     let value : get_or (keys_of (formula-at-After-marks-in-loop-c-1 c)) c.loop-c.c 0 ≡ c.key_at.result =
-    map_at key_of (formula-at-After-marks-in-loop-c-1 c) c.loop-c.c [] 0 (omega arith) ∙ sym (key.0 ∙ own_key c.own_places-own.result c.own_places-own.ensures _ _ _ c.numbers-table.ensures good is) in
+    map_at key_of (formula-at-After-marks-in-loop-c-1 c) c.loop-c.c [] 0 (omega arith) ∙ sym (c.key_at.ensures.key ∙ own_key c.own_places-own.result c.own_places-own.ensures _ _ _ c.numbers-table.ensures good is) in
     let next : c.loop-c.c + 2 ≡ c.loop-c.c + 1 + 1 = omega arith in (
       stored c.loop-c.keys c.loop-c.c c.loop-c.invariant.0 (drop-step (keys_of (formula-at-After-marks-in-loop-c-1 c)) c.loop-c.c 0 (omega (arith, count-at-After-marks-in-loop-c-1 c))) value,
-      rw next c key.1.1,
+      rw next at c.key_at.ensures.below,
       omega arith,
       simp length-set c.loop-c.invariant.3,
     )
@@ -67,3 +63,6 @@ pub returns : goal.returns
 returns c =
     let none = drop_of_length-le (keys_of (formula-at-After-loop-c c)) {i = c.loop-c.c} (omega (arith, count-at-After-loop-c c)) in
     sym (c.loop-c.invariant.0 ∙ ap (sets c.loop-c.keys c.loop-c.c) none)
+
+pub slice_bounds-key_at-end : goal.slice_bounds-key_at-end
+slice_bounds-key_at-end c = sym c.loop-c.invariant.1.room

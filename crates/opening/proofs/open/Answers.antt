@@ -15,15 +15,6 @@ use Rattle.opening.proofs.Theorem.{opened_store, opened-formula, opened-plain}
 use Rattle.opening.proofs.open.Goals as goal
 use Rattle.opening.proofs.open.Goals.{After-slice_known-in-Done-3-1, After-write-arg-1, In-Line, In-Refused-scan, Then-ends-m, Then-keys-m, Then-literals-count}
 
-pub shape_of-literals-in-Done : goal.shape_of-literals-in-Done
-shape_of-literals-in-Done c = c.fill.auto.literals
-
-pub shape_of-ends-in-Done : goal.shape_of-ends-in-Done
-shape_of-ends-in-Done c = c.fill.auto.ends
-
-pub shape_of-keys-in-Done : goal.shape_of-keys-in-Done
-shape_of-keys-in-Done c = c.write.auto.keys
-
 pub returns-in-Refused : goal.returns-in-Refused
 returns-in-Refused c = record {
   answer = sym (opened-refused _ _ _ _ _ (sym c.problem_of.ensures ∙ c.in-Refused.is));
@@ -186,3 +177,12 @@ returns-in-Done c = let a = c.args in
       ends = f.1;
       keys = c.write.ensures ∙ rw (f.0, f.1, opened-plain a.text.now a.literals.now a.ends.now a.keys.now [] _ _ (opens-at-After-slice_known-in-Done-3-1 c));
     }
+
+pub shape_of-literals-in-Done : goal.shape_of-literals-in-Done
+shape_of-literals-in-Done c = c.fill.auto.literals
+
+pub shape_of-ends-in-Done : goal.shape_of-ends-in-Done
+shape_of-ends-in-Done c = c.fill.auto.ends
+
+pub shape_of-keys-in-Done : goal.shape_of-keys-in-Done
+shape_of-keys-in-Done c = c.write.auto.keys

@@ -22,10 +22,10 @@ clause_at-clause-requires c =
     rw c.row-row.ensures (clause-stands c.args.counts c.args.images.now c.args.cursor c.requires.0 c.requires.1.row)
 
 pub slice_bounds-codes-end : goal.slice_bounds-codes-end
-slice_bounds-codes-end c = let h = c.clause_at-clause.ensures in omega (arith, h.most, h.room)
+slice_bounds-codes-end c = omega (arith, c.clause_at-clause.ensures.most, c.clause_at-clause.ensures.room)
 
 size : (c : After-codes-2-1) → length (clause_of c.clause_at-clause.result) ≡ c.clause_at-clause.result.count
-size c = let h = c.clause_at-clause.ensures in length-take-le _ _ (omega (arith, h.most, h.room))
+size c = length-take-le _ _ (omega (arith, c.clause_at-clause.ensures.most, c.clause_at-clause.ensures.room))
 
 pub slice_bounds-clause_length-end : goal.slice_bounds-clause_length-end
 slice_bounds-clause_length-end c = sym (size c)
@@ -34,7 +34,7 @@ pub clause_length-size-requires : goal.clause_length-size-requires
 clause_length-size-requires c = omega (arith, size c, c.clause_at-clause.ensures.most)
 
 size-at-Then-out-at : (c : Then-out-at) → length (clause_of c.clause_at-clause.result) ≡ c.clause_at-clause.result.count
-size-at-Then-out-at c = let h = c.clause_at-clause.ensures in length-take-le _ _ (omega (arith, h.most, h.room))
+size-at-Then-out-at c = length-take-le _ _ (omega (arith, c.clause_at-clause.ensures.most, c.clause_at-clause.ensures.room))
 
 -- the clause at the cursor's place, of as many codes as it says
 is : (c : Then-out-at) → let a = c.args in
@@ -52,10 +52,10 @@ returns-then-out-at c = let a = c.args in
     }
 
 pub slice_bounds-codes-end-2 : goal.slice_bounds-codes-end-2
-slice_bounds-codes-end-2 c = let h = c.clause_at-clause.ensures in omega (arith, h.most, h.room)
+slice_bounds-codes-end-2 c = omega (arith, c.clause_at-clause.ensures.most, c.clause_at-clause.ensures.room)
 
 size-at-After-codes-3-1 : (c : After-codes-3-1) → length (clause_of c.clause_at-clause.result) ≡ c.clause_at-clause.result.count
-size-at-After-codes-3-1 c = let h = c.clause_at-clause.ensures in length-take-le _ _ (omega (arith, h.most, h.room))
+size-at-After-codes-3-1 c = length-take-le _ _ (omega (arith, c.clause_at-clause.ensures.most, c.clause_at-clause.ensures.room))
 
 pub slice_bounds-put_clause-end : goal.slice_bounds-put_clause-end
 slice_bounds-put_clause-end c = sym (size-at-After-codes-3-1 c)
@@ -80,8 +80,7 @@ is-at-After-slice_known-4-1 c =
 pub returns : goal.returns
 returns c = let a = c.args in
     let line = ap (λ (x : List ℕ). length (clause_line x)) (is-at-After-slice_known-4-1 c) in
-    let next = (c.next_added.ensures.after, c.next_added.ensures.marks) in
     record {
-      step = λ plain many. adds plain a.counts a.images.now a.cursor c.requires.0 a.at a.out.now c.requires.3 _ _ (next.0.passed plain many) (omega (arith, line, c.clause_length-size.ensures, c.if-out-at.false)) _ next.0.stands refl _ _ (omega (arith, line, c.put_clause-past.ensures.next)) (c.put_clause-past.ensures.bytes ∙ ap (λ (x : List ℕ). written_at a.at (clause_line x) a.out.now) (is-at-After-slice_known-4-1 c));
-      marks = next.1;
+      step = λ plain many. adds plain a.counts a.images.now a.cursor c.requires.0 a.at a.out.now c.requires.3 _ _ (c.next_added.ensures.after.passed plain many) (omega (arith, line, c.clause_length-size.ensures, c.if-out-at.false)) _ c.next_added.ensures.after.stands refl _ _ (omega (arith, line, c.put_clause-past.ensures.next)) (c.put_clause-past.ensures.bytes ∙ ap (λ (x : List ℕ). written_at a.at (clause_line x) a.out.now) (is-at-After-slice_known-4-1 c));
+      marks = c.next_added.ensures.marks;
     }

@@ -72,13 +72,13 @@ found-at-Then-marks-name c =
 says-at-Then-marks-name : (c : Then-marks-name) → c.name_of-name.result ≡ size_in (is_name c.args.n) (code_in (piece_at c.args.names.now c.next_word-place.result))
 says-at-Then-marks-name c = size-read (is_name _) _ (found-at-Then-marks-name c) c.name_of-name.ensures
 
-is_name : (c : Then-marks-name) → Passes (is_name c.args.n) (code_in (piece_at c.args.names.now c.next_word-place.result)) c.name_of-name.result
-is_name c = size-some _ _ (name-literal _) _ _ (says-at-Then-marks-name c) c.if-name-eq0.false
+name_known : (c : Then-marks-name) → Passes (is_name c.args.n) (code_in (piece_at c.args.names.now c.next_word-place.result)) c.name_of-name.result
+name_known c = size-some _ _ (name-literal _) _ _ (says-at-Then-marks-name c) c.if-name-eq0.false
 
 pub returns-then-marks-name : goal.returns-then-marks-name
 returns-then-marks-name c =
     let inv = c.loop-n.invariant in
-    listing-twice inv (found (goal.at.returns-then-marks-name c).In-Found).words _ (is_name c) c.if-marks-name.true
+    listing-twice inv (found (goal.at.returns-then-marks-name c).In-Found).words _ (name_known c) c.if-marks-name.true
 
 -- the number that `read` found, and what `name_of` says of it
 found-at-Else-marks-name : (c : Else-marks-name) → let names = c.args.names.now in
@@ -98,13 +98,13 @@ bounds-marks-name-in-loop-n c = small-at-Else-marks-name c
 pub overflow_cast-order : goal.overflow_cast-order
 overflow_cast-order c = omega (arith, small-at-Else-marks-name c)
 
-is_name-at-Else-marks-name : (c : Else-marks-name) → Passes (is_name c.args.n) (code_in (piece_at c.args.names.now c.next_word-place.result)) c.name_of-name.result
-is_name-at-Else-marks-name c = size-some _ _ (name-literal _) _ _ (says-at-Else-marks-name c) c.if-name-eq0.false
+name_known-at-Else-marks-name : (c : Else-marks-name) → Passes (is_name c.args.n) (code_in (piece_at c.args.names.now c.next_word-place.result)) c.name_of-name.result
+name_known-at-Else-marks-name c = size-some _ _ (name-literal _) _ _ (says-at-Else-marks-name c) c.if-name-eq0.false
 
 -- there is room for a name that is new
 room : (c : Else-marks-name) → c.loop-n.count < c.args.n
 room c =
-    listing-room c.loop-n.invariant (is_name-at-Else-marks-name c) c.if-marks-name.false
+    listing-room c.loop-n.invariant (name_known-at-Else-marks-name c) c.if-marks-name.false
 
 pub offset_bounds-order-count : goal.offset_bounds-order-count
 offset_bounds-order-count c = omega (arith, room c)
@@ -127,8 +127,8 @@ found-at-After-way_told-in-loop-n-1 c =
 says-at-After-way_told-in-loop-n-1 : (c : After-way_told-in-loop-n-1) → c.name_of-name.result ≡ size_in (is_name c.args.n) (code_in (piece_at c.args.names.now c.next_word-place.result))
 says-at-After-way_told-in-loop-n-1 c = size-read (is_name _) _ (found-at-After-way_told-in-loop-n-1 c) c.name_of-name.ensures
 
-is_name-at-After-way_told-in-loop-n-1 : (c : After-way_told-in-loop-n-1) → Passes (is_name c.args.n) (code_in (piece_at c.args.names.now c.next_word-place.result)) c.name_of-name.result
-is_name-at-After-way_told-in-loop-n-1 c = size-some _ _ (name-literal _) _ _ (says-at-After-way_told-in-loop-n-1 c) c.if-name-eq0.false
+name_known-at-After-way_told-in-loop-n-1 : (c : After-way_told-in-loop-n-1) → Passes (is_name c.args.n) (code_in (piece_at c.args.names.now c.next_word-place.result)) c.name_of-name.result
+name_known-at-After-way_told-in-loop-n-1 c = size-some _ _ (name-literal _) _ _ (says-at-After-way_told-in-loop-n-1 c) c.if-name-eq0.false
 
 small-at-After-way_told-in-loop-n-1 : (c : After-way_told-in-loop-n-1) → c.name_of-name.result < 513
 small-at-After-way_told-in-loop-n-1 c = omega (arith, size-high _ _ (name-literal _) _ _ (says-at-After-way_told-in-loop-n-1 c))
@@ -136,4 +136,4 @@ small-at-After-way_told-in-loop-n-1 c = omega (arith, size-high _ _ (name-litera
 pub loop-n-preserved : goal.loop-n-preserved
 loop-n-preserved c =
     let inv = c.loop-n.invariant in
-    listing-more inv (found (goal.at.loop-n-preserved c).In-Found) _ (is_name-at-After-way_told-in-loop-n-1 c) c.if-marks-name.false (small-at-After-way_told-in-loop-n-1 c)
+    listing-more inv (found (goal.at.loop-n-preserved c).In-Found) _ (name_known-at-After-way_told-in-loop-n-1 c) c.if-marks-name.false (small-at-After-way_told-in-loop-n-1 c)

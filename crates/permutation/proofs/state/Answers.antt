@@ -12,9 +12,6 @@ use borrow.Author.Rules.{rules}
 use Rattle.permutation.proofs.state.Goals as goal
 use Rattle.permutation.proofs.state.Goals.{After-order-in-Listed-1, After-place_values-arg-1, After-refuse_values, After-slice_known-in-Listed-1, In_default}
 
-pub list_names-requires : goal.list_names-requires
-list_names-requires c = search rules
-
 -- the marks and the names in their order
 abbrev marks : After-slice_known-in-Listed-1 → List Bool
 marks c = c.list_names.new.marks
@@ -93,3 +90,6 @@ returns-in_default c = let l = listed-at-In_default c in
       answer = values-stated _ _ _ l c.place_values.ensures.answer told;
       row = λ _. row-stated _ _ _ l _ _ _ c.identity.ensures (c.place_values.ensures.row told);
     }
+
+pub list_names-requires : goal.list_names-requires
+list_names-requires c = search rules

@@ -22,5 +22,4 @@ S c = lent c.args.counts c.args.literals.now c.args.ends.now c.args.images.now
 
 pub returns : goal.returns
 returns c =
-    let e = (c.fill-filled.ensures.filled, (c.fill-filled.ensures.stands, c.fill-filled.ensures.moves)) in
-    clauses-step (S c) c.requires.0.0 c.args.cursor _ _ _ _ e.0 e.1.0 (λ none. e.1.1 c.requires.1 none)
+    clauses-step (S c) c.requires.0.0 c.args.cursor _ _ _ _ c.fill-filled.ensures.filled c.fill-filled.ensures.stands (λ none. c.fill-filled.ensures.moves c.requires.1 none)

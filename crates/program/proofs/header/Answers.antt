@@ -46,6 +46,5 @@ S-at-After-marks-2-1 c = lent c.args.counts c.args.literals.now c.args.ends.now 
 
 pub returns : goal.returns
 returns c =
-    let total = c.totals_of-total.ensures in
-    header-step (S-at-After-marks-2-1 c) c.requires.0 c.args.out.now c.requires.1 _ _ _ _ (counted-variables (S-at-After-marks-2-1 c) total) (counted-clauses (S-at-After-marks-2-1 c) c.requires.0 total) c.put_header-bytes.ensures.next c.put_header-bytes.ensures.bytes
+    header-step (S-at-After-marks-2-1 c) c.requires.0 c.args.out.now c.requires.1 _ _ _ _ (counted-variables (S-at-After-marks-2-1 c) c.totals_of-total.ensures) (counted-clauses (S-at-After-marks-2-1 c) c.requires.0 c.totals_of-total.ensures) c.put_header-bytes.ensures.next c.put_header-bytes.ensures.bytes
     c.start-first.result c.start-first.ensures.stands (start_left (S-at-After-marks-2-1 c) c.start-first.result c.start-first.ensures.remaining)

@@ -22,13 +22,12 @@ overflow_add-at-in-loop-at c =
 
 pub loop-at-preserved : goal.loop-at-preserved
 loop-at-preserved c =
-    let end = c.line_end-end.ensures in
     c.loop-at.invariant
     ∙ ⊎_elim
-    (λ w. other-line _ c.loop-at.at (search rules) (sym end ∙ w.0.taken) w.2.left)
-    (λ w. other_length _ c.loop-at.at (search rules) (λ e. w.left (end ∙ e)))
+    (λ w. other-line _ c.loop-at.at (search rules) (sym c.line_end-end.ensures ∙ w.0.taken) w.2.left)
+    (λ w. other_length _ c.loop-at.at (search rules) (λ e. w.left (c.line_end-end.ensures ∙ e)))
     c.if-end-at.branch
-    ∙ rw (← end)
+    ∙ rw (← c.line_end-end.ensures)
 
 pub returns : goal.returns
 returns c = sym (c.loop-at.invariant ∙ no-divider _ c.loop-at.at (search rules))

@@ -4,9 +4,6 @@ use borrow.Author.Tests.{not-true, not-false}
 use Rattle.standing.proofs.StandingLaws.{not-open, badly-formed, ready_of}
 use Rattle.standing.proofs.admit_by.Goals as goal
 
-pub well_formed-requires : goal.well_formed-requires
-well_formed-requires c = c.requires
-
 pub returns-then-not-counts : goal.returns-then-not-counts
 returns-then-not-counts c = sym (not-open _ (not-true _ c.if-not-counts.true))
 
@@ -15,3 +12,6 @@ returns-then-not-well_formed c = sym (badly-formed _ (not-false _ c.if-not-count
 
 pub returns : goal.returns
 returns c = sym (ready_of _ (not-false _ c.if-not-counts.false) (sym c.well_formed-2.ensures ∙ not-false _ c.if-not-well_formed.false-raw))
+
+pub well_formed-requires : goal.well_formed-requires
+well_formed-requires c = c.requires

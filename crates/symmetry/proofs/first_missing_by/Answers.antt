@@ -28,21 +28,6 @@ use native.Mathlib.Omega.{arith}
 use Rattle.symmetry.proofs.first_missing_by.Goals as goal
 use Rattle.symmetry.proofs.first_missing_by.Goals.{After-loop-c, After-marks-in-loop-c-2-1, Joined-not-has_image, Then-not-has_opposites}
 
-pub loop-c-init : goal.loop-c-init
-loop-c-init c = (λ row places good. refl, unmarked)
-
-pub slice_bounds-key_at-end : goal.slice_bounds-key_at-end
-slice_bounds-key_at-end c = sym c.loop-c.invariant.1.room
-
-pub overflow_cast-mark : goal.overflow_cast-mark
-overflow_cast-mark c = omega (arith, c.requires.0.formula.clauses-fit)
-
-pub slice_bounds-has_image-end : goal.slice_bounds-has_image-end
-slice_bounds-has_image-end c = sym c.key_at-key.ensures.below.room
-
-pub slice_bounds-has_opposites-end : goal.slice_bounds-has_opposites-end
-slice_bounds-has_opposites-end c = sym c.key_at-key.ensures.below.room
-
 pub key_at-key-requires : goal.key_at-key-requires
 key_at-key-requires c = (c.requires.0.formula, omega arith, c.requires.1, c.loop-c.invariant.1)
 
@@ -69,13 +54,12 @@ pub clause-requires : goal.clause-requires
 clause-requires c = (c.requires.0.formula.clauses, omega arith)
 
 pub has_opposites-requires : goal.has_opposites-requires
-has_opposites-requires c =
-    let is = c.clause.ensures in (
-      rw is (clause-good max_variables c.args.m c.args.literals.now c.args.ends.now c.requires.0.formula c.loop-c.c (omega arith)),
-      c.requires.1,
-      rw is c.key_at-key.ensures.marked,
-      c.key_at-key.ensures.below.room,
-    )
+has_opposites-requires c = (
+  rw c.clause.ensures (clause-good max_variables c.args.m c.args.literals.now c.args.ends.now c.requires.0.formula c.loop-c.c (omega arith)),
+  c.requires.1,
+  rw c.clause.ensures c.key_at-key.ensures.marked,
+  c.key_at-key.ensures.below.room,
+)
 
 abbrev formula : Then-not-has_opposites → List (List ℕ)
 formula c = clauses_in c.args.m c.args.literals.now c.args.ends.now
@@ -185,7 +169,7 @@ loop-c-preserved c =
           (λ f. opposites-later _ _ _ c.loop-c.c _ h.1 h.0 (sym (f.3.ensures ∙ found-opposites-at-Joined-not-has_image c _ f.1.ensures row places good) ∙ not-false _ f.4.left))
           (λ f. found-later _ _ _ c.loop-c.c _ h.1 h.0 (sym (found-image-at-Joined-not-has_image c row places good) ∙ not-false _ f.left))
           c.if-not-has_image.branch,
-      rw next c c.key_at-key.ensures.below,
+      rw next at c.key_at-key.ensures.below,
     )
 
 abbrev formula-at-After-loop-c : After-loop-c → List (List ℕ)
@@ -196,3 +180,18 @@ count-at-After-loop-c c = clauses-count c.args.literals.now c.args.ends.now c.ar
 
 pub returns : goal.returns
 returns c row places good = sym (c.loop-c.invariant.0 row places good ∙ missing-end _ _ _ c.loop-c.c (omega (arith, count-at-After-loop-c c)))
+
+pub loop-c-init : goal.loop-c-init
+loop-c-init c = (λ row places good. refl, unmarked)
+
+pub slice_bounds-key_at-end : goal.slice_bounds-key_at-end
+slice_bounds-key_at-end c = sym c.loop-c.invariant.1.room
+
+pub overflow_cast-mark : goal.overflow_cast-mark
+overflow_cast-mark c = omega (arith, c.requires.0.formula.clauses-fit)
+
+pub slice_bounds-has_image-end : goal.slice_bounds-has_image-end
+slice_bounds-has_image-end c = sym c.key_at-key.ensures.below.room
+
+pub slice_bounds-has_opposites-end : goal.slice_bounds-has_opposites-end
+slice_bounds-has_opposites-end c = sym c.key_at-key.ensures.below.room

@@ -15,60 +15,25 @@ use native.Mathlib.Omega.{arith}
 use Rattle.symmetry.proofs.has_image.Goals as goal
 use Rattle.symmetry.proofs.has_image.Goals.{After-nearer-number, After-next-number, After-shared_slice_known-7-1, After-shared_slice_known-7-1-unread, Else-head-eq0, In-loop-number, Then-head-eq0, Then-is_image_at}
 
-head-is : (c : Else-head-eq0) → c.head-head.result ≡ get_or c.args.heads.now (bucket_of c.args.key) 0
-head-is c = c.head-head.ensures ∙ ap (λ (b : ℕ). get_or c.args.heads.now b 0) c.bucket.ensures
-
-head-low : (c : Else-head-eq0) → c.head-head.result ≤ c.args.m
-head-low c = head-within c.args.m c.args.keys.now c.args.heads.now c.args.nexts.now c.requires.3 (bucket_of c.args.key) _ (bucket-low c.args.key) (head-is c)
-
-pub offset_bounds-keys-head : goal.offset_bounds-keys-head
-offset_bounds-keys-head c = omega (arith, head-low c, c.requires.0.formula.clauses-fit)
-
-head-is-at-After-shared_slice_known-7-1-unread : (c : After-shared_slice_known-7-1-unread) → c.head-head.result ≡ get_or c.args.heads.now (bucket_of c.args.key) 0
-head-is-at-After-shared_slice_known-7-1-unread c = c.head-head.ensures ∙ ap (λ (b : ℕ). get_or c.args.heads.now b 0) c.bucket.ensures
-
-head-low-at-After-shared_slice_known-7-1-unread : (c : After-shared_slice_known-7-1-unread) → c.head-head.result ≤ c.args.m
-head-low-at-After-shared_slice_known-7-1-unread c = head-within c.args.m c.args.keys.now c.args.heads.now c.args.nexts.now c.requires.3 (bucket_of c.args.key) _ (bucket-low c.args.key) (head-is-at-After-shared_slice_known-7-1-unread c)
-
-abbrev formula : After-shared_slice_known-7-1-unread → List (List ℕ)
-formula c = clauses_in c.args.m c.args.literals.now c.args.ends.now
-
-count : (c : After-shared_slice_known-7-1-unread) → length (formula c) ≡ c.args.m
-count c = clauses-count c.args.literals.now c.args.ends.now c.args.m c.requires.0.formula.clauses.known
-
--- each clause has a key
-long : (c : After-shared_slice_known-7-1-unread) → c.args.m ≤ length c.args.keys.now
-long c = omega (arith, right-long _ _ c.requires.0.keys-right, count c)
-
-pub bounds-keys-head : goal.bounds-keys-head
-bounds-keys-head c = omega (arith, head-low-at-After-shared_slice_known-7-1-unread c, long c)
-
-falls : (c : After-next-number) → c.next-number.result < c.loop-number.number
-falls c =
-    omega (arith, c.next-number.ensures, next-within c.args.m c.args.keys.now c.args.heads.now c.args.nexts.now c.requires.3 c.loop-number.number (c.loop-number.number - 1) (omega arith) c.loop-number.invariant.0)
-
-pub loop-number-smaller : goal.loop-number-smaller
-loop-number-smaller c = falls c
-
 pub head-head-requires : goal.head-head-requires
 head-head-requires c = omega (arith, c.bucket.ensures, bucket-low c.args.key, c.requires.3.heads-long)
 
-abbrev formula-at-Then-head-eq0 : Then-head-eq0 → List (List ℕ)
-formula-at-Then-head-eq0 c = clauses_in c.args.m c.args.literals.now c.args.ends.now
+abbrev formula : Then-head-eq0 → List (List ℕ)
+formula c = clauses_in c.args.m c.args.literals.now c.args.ends.now
 
-count-at-Then-head-eq0 : (c : Then-head-eq0) → length (formula-at-Then-head-eq0 c) ≡ c.args.m
-count-at-Then-head-eq0 c = clauses-count c.args.literals.now c.args.ends.now c.args.m c.requires.0.formula.clauses.known
+count : (c : Then-head-eq0) → length (formula c) ≡ c.args.m
+count c = clauses-count c.args.literals.now c.args.ends.now c.args.m c.requires.0.formula.clauses.known
 
-indexed : (c : Then-head-eq0) → Indexed (length (formula-at-Then-head-eq0 c)) c.args.keys.now c.args.heads.now c.args.nexts.now
-indexed c = rw (count-at-Then-head-eq0 c) c.requires.3
+indexed : (c : Then-head-eq0) → Indexed (length (formula c)) c.args.keys.now c.args.heads.now c.args.nexts.now
+indexed c = rw (count c) c.requires.3
 
-head-is-at-Then-head-eq0 : (c : Then-head-eq0) → c.head-head.result ≡ get_or c.args.heads.now (bucket_of c.args.key) 0
-head-is-at-Then-head-eq0 c = c.head-head.ensures ∙ ap (λ (b : ℕ). get_or c.args.heads.now b 0) c.bucket.ensures
+head-is : (c : Then-head-eq0) → c.head-head.result ≡ get_or c.args.heads.now (bucket_of c.args.key) 0
+head-is c = c.head-head.ensures ∙ ap (λ (b : ℕ). get_or c.args.heads.now b 0) c.bucket.ensures
 
-looking : (c : Then-head-eq0) (image : List ℕ) → Sought c.args.mark c.args.marks.now image → Looking image (formula-at-Then-head-eq0 c) c.args.keys.now c.head-head.result
+looking : (c : Then-head-eq0) (image : List ℕ) → Sought c.args.mark c.args.marks.now image → Looking image (formula c) c.args.keys.now c.head-head.result
 looking c image sought =
-    look-begin image (formula-at-Then-head-eq0 c) c.args.keys.now c.args.heads.now c.args.nexts.now (indexed c) c.requires.0.keys-right (bucket_of c.args.key) _
-    (ap bucket_of (sym (c.requires.1 image sought))) (head-is-at-Then-head-eq0 c)
+    look-begin image (formula c) c.args.keys.now c.args.heads.now c.args.nexts.now (indexed c) c.requires.0.keys-right (bucket_of c.args.key) _
+    (ap bucket_of (sym (c.requires.1 image sought))) (head-is c)
 
 pub returns-then-head-eq0 : goal.returns-then-head-eq0
 returns-then-head-eq0 c image sought = sym (look-end image _ c.args.keys.now c.head-head.result (looking c image sought) c.if-head-eq0.true)
@@ -76,11 +41,11 @@ returns-then-head-eq0 c image sought = sym (look-end image _ c.args.keys.now c.h
 head-is-at-After-shared_slice_known-7-1 : (c : After-shared_slice_known-7-1) → c.head-head.result ≡ get_or c.args.heads.now (bucket_of c.args.key) 0
 head-is-at-After-shared_slice_known-7-1 c = c.head-head.ensures ∙ ap (λ (b : ℕ). get_or c.args.heads.now b 0) c.bucket.ensures
 
-head-low-at-After-shared_slice_known-7-1 : (c : After-shared_slice_known-7-1) → c.head-head.result ≤ c.args.m
-head-low-at-After-shared_slice_known-7-1 c = head-within c.args.m c.args.keys.now c.args.heads.now c.args.nexts.now c.requires.3 (bucket_of c.args.key) _ (bucket-low c.args.key) (head-is-at-After-shared_slice_known-7-1 c)
+head-low : (c : After-shared_slice_known-7-1) → c.head-head.result ≤ c.args.m
+head-low c = head-within c.args.m c.args.keys.now c.args.heads.now c.args.nexts.now c.requires.3 (bucket_of c.args.key) _ (bucket-low c.args.key) (head-is-at-After-shared_slice_known-7-1 c)
 
 pub next-requires : goal.next-requires
-next-requires c = omega (arith, head-low-at-After-shared_slice_known-7-1 c, c.requires.3.nexts-long)
+next-requires c = omega (arith, head-low c, c.requires.3.nexts-long)
 
 head-is-at-After-nearer-number : (c : After-nearer-number) → c.head-head.result ≡ get_or c.args.heads.now (bucket_of c.args.key) 0
 head-is-at-After-nearer-number c = c.head-head.ensures ∙ ap (λ (b : ℕ). get_or c.args.heads.now b 0) c.bucket.ensures
@@ -155,6 +120,10 @@ count-at-After-next-number c = clauses-count c.args.literals.now c.args.ends.now
 indexed-at-After-next-number : (c : After-next-number) → Indexed (length (formula-at-After-next-number c)) c.args.keys.now c.args.heads.now c.args.nexts.now
 indexed-at-After-next-number c = rw (count-at-After-next-number c) c.requires.3
 
+falls : (c : After-next-number) → c.next-number.result < c.loop-number.number
+falls c =
+    omega (arith, c.next-number.ensures, next-within c.args.m c.args.keys.now c.args.heads.now c.args.nexts.now c.requires.3 c.loop-number.number (c.loop-number.number - 1) (omega arith) c.loop-number.invariant.0)
+
 pub loop-number-preserved : goal.loop-number-preserved
 loop-number-preserved c = (
   omega (arith, falls c, c.loop-number.invariant.0),
@@ -164,3 +133,34 @@ loop-number-preserved c = (
 
 pub returns : goal.returns
 returns c image sought = sym (look-end image _ c.args.keys.now c.loop-number.number (c.loop-number.invariant.1 image sought) (omega arith))
+
+head-is-at-Else-head-eq0 : (c : Else-head-eq0) → c.head-head.result ≡ get_or c.args.heads.now (bucket_of c.args.key) 0
+head-is-at-Else-head-eq0 c = c.head-head.ensures ∙ ap (λ (b : ℕ). get_or c.args.heads.now b 0) c.bucket.ensures
+
+head-low-at-Else-head-eq0 : (c : Else-head-eq0) → c.head-head.result ≤ c.args.m
+head-low-at-Else-head-eq0 c = head-within c.args.m c.args.keys.now c.args.heads.now c.args.nexts.now c.requires.3 (bucket_of c.args.key) _ (bucket-low c.args.key) (head-is-at-Else-head-eq0 c)
+
+pub offset_bounds-keys-head : goal.offset_bounds-keys-head
+offset_bounds-keys-head c = omega (arith, head-low-at-Else-head-eq0 c, c.requires.0.formula.clauses-fit)
+
+head-is-at-After-shared_slice_known-7-1-unread : (c : After-shared_slice_known-7-1-unread) → c.head-head.result ≡ get_or c.args.heads.now (bucket_of c.args.key) 0
+head-is-at-After-shared_slice_known-7-1-unread c = c.head-head.ensures ∙ ap (λ (b : ℕ). get_or c.args.heads.now b 0) c.bucket.ensures
+
+head-low-at-After-shared_slice_known-7-1-unread : (c : After-shared_slice_known-7-1-unread) → c.head-head.result ≤ c.args.m
+head-low-at-After-shared_slice_known-7-1-unread c = head-within c.args.m c.args.keys.now c.args.heads.now c.args.nexts.now c.requires.3 (bucket_of c.args.key) _ (bucket-low c.args.key) (head-is-at-After-shared_slice_known-7-1-unread c)
+
+abbrev formula-at-After-shared_slice_known-7-1-unread : After-shared_slice_known-7-1-unread → List (List ℕ)
+formula-at-After-shared_slice_known-7-1-unread c = clauses_in c.args.m c.args.literals.now c.args.ends.now
+
+count-at-After-shared_slice_known-7-1-unread : (c : After-shared_slice_known-7-1-unread) → length (formula-at-After-shared_slice_known-7-1-unread c) ≡ c.args.m
+count-at-After-shared_slice_known-7-1-unread c = clauses-count c.args.literals.now c.args.ends.now c.args.m c.requires.0.formula.clauses.known
+
+-- each clause has a key
+long : (c : After-shared_slice_known-7-1-unread) → c.args.m ≤ length c.args.keys.now
+long c = omega (arith, right-long _ _ c.requires.0.keys-right, count-at-After-shared_slice_known-7-1-unread c)
+
+pub bounds-keys-head : goal.bounds-keys-head
+bounds-keys-head c = omega (arith, head-low-at-After-shared_slice_known-7-1-unread c, long c)
+
+pub loop-number-smaller : goal.loop-number-smaller
+loop-number-smaller c = falls c

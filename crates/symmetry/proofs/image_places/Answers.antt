@@ -19,39 +19,6 @@ use native.Mathlib.Omega.{arith}
 use Rattle.symmetry.proofs.image_places.Goals as goal
 use Rattle.symmetry.proofs.image_places.Goals.{After-image, In-loop-places}
 
--- the code at hand is a literal of the row's variables, and so is its image
-literal : (c : In-loop-places) → is_literal (length c.args.row.now) c.loop-places.code ≡ true
-literal c = literal-within _ c.loop-places.code (omega (arith, c.loop-places.invariant.low)) (omega (arith, c.variable.ensures, c.loop-places-test.true))
-
-pub image-requires : goal.image-requires
-image-requires c = literal c
-
--- the code at hand is a literal of the row's variables, and so is its image
-literal-at-After-image : (c : After-image) → is_literal (length c.args.row.now) c.loop-places.code ≡ true
-literal-at-After-image c = literal-within _ c.loop-places.code (omega (arith, c.loop-places.invariant.low)) (omega (arith, c.variable.ensures, c.loop-places-test.true))
-
-image-literal : (c : After-image) → is_literal max_variables c.image.result ≡ true
-image-literal c =
-    rw c.image.ensures (widened _ _ c.requires.0 (image-good _ c.args.row.now (row_of _ c.args.row.now c.requires.1) c.loop-places.code (literal-at-After-image c)))
-
-pub place-requires : goal.place-requires
-place-requires c = image-literal c
-
-pub place-requires-in-loop-places : goal.place-requires-in-loop-places
-place-requires-in-loop-places c = widened _ _ c.requires.0 (literal (goal.at.place-requires-in-loop-places c).In-loop-places)
-
-pub bounds-places-place : goal.bounds-places-place
-bounds-places-place c = omega (arith, c.place-in-loop-places.ensures.1, c.loop-places.invariant.room)
-
-pub overflow_add-code : goal.overflow_add-code
-overflow_add-code c = omega (arith, literal-high _ _ (literal (goal.at.overflow_add-code c).In-loop-places), c.requires.0)
-
-pub loop-places-smaller : goal.loop-places-smaller
-loop-places-smaller c = omega (arith, literal-high _ _ (literal (goal.at.loop-places-smaller c).In-loop-places))
-
-pub shape_of-places : goal.shape_of-places
-shape_of-places c = c.loop-places.invariant.room ∙ sym c.requires.3
-
 record Filled (row table : List ℕ) (code : ℕ) : Type 0 where
   low : 2 ≤ code
   room : length table ≡ number_count
@@ -86,12 +53,19 @@ filled_more row table code f place e h to small is = record { low = omega (arith
 widened : (n code : ℕ) → n ≤ max_variables → is_literal n code ≡ true → is_literal max_variables code ≡ true
 widened n code h g = literal-within max_variables code (literal-low n code g) (omega (arith, literal-high n code g))
 
+-- the code at hand is a literal of the row's variables, and so is its image
+literal : (c : After-image) → is_literal (length c.args.row.now) c.loop-places.code ≡ true
+literal c = literal-within _ c.loop-places.code (omega (arith, c.loop-places.invariant.low)) (omega (arith, c.variable.ensures, c.loop-places-test.true))
+
+image-literal : (c : After-image) → is_literal max_variables c.image.result ≡ true
+image-literal c =
+    rw c.image.ensures (widened _ _ c.requires.0 (image-good _ c.args.row.now (row_of _ c.args.row.now c.requires.1) c.loop-places.code (literal c)))
+
 pub loop-places-preserved : goal.loop-places-preserved
 loop-places-preserved c =
     let to = c.place in
-    let here = c.place-in-loop-places.ensures in
     let is : to.result + 2 ≡ image_of c.args.row.now c.loop-places.code = omega (arith, to.ensures.0, literal-low max_variables _ (image-literal (goal.at.loop-places-preserved c).After-image), c.image.ensures) in
-    filled_more c.args.row.now c.loop-places.places c.loop-places.code c.loop-places.invariant c.place-in-loop-places.result here.0 here.1 _ to.ensures.1 is
+    filled_more c.args.row.now c.loop-places.places c.loop-places.code c.loop-places.invariant c.place-in-loop-places.result c.place-in-loop-places.ensures.0 c.place-in-loop-places.ensures.1 _ to.ensures.1 is
 
 pub returns : goal.returns
 returns c =
@@ -100,3 +74,28 @@ returns c =
       sends = λ code g. c.loop-places.invariant.sends code g (omega (arith, literal-high _ code g, c.variable.ensures, c.loop-places-test.false));
       places = c.loop-places.invariant.places;
     }
+
+-- the code at hand is a literal of the row's variables, and so is its image
+literal-at-In-loop-places : (c : In-loop-places) → is_literal (length c.args.row.now) c.loop-places.code ≡ true
+literal-at-In-loop-places c = literal-within _ c.loop-places.code (omega (arith, c.loop-places.invariant.low)) (omega (arith, c.variable.ensures, c.loop-places-test.true))
+
+pub image-requires : goal.image-requires
+image-requires c = literal-at-In-loop-places c
+
+pub place-requires : goal.place-requires
+place-requires c = image-literal c
+
+pub place-requires-in-loop-places : goal.place-requires-in-loop-places
+place-requires-in-loop-places c = widened _ _ c.requires.0 (literal-at-In-loop-places (goal.at.place-requires-in-loop-places c).In-loop-places)
+
+pub bounds-places-place : goal.bounds-places-place
+bounds-places-place c = omega (arith, c.place-in-loop-places.ensures.1, c.loop-places.invariant.room)
+
+pub overflow_add-code : goal.overflow_add-code
+overflow_add-code c = omega (arith, literal-high _ _ (literal-at-In-loop-places (goal.at.overflow_add-code c).In-loop-places), c.requires.0)
+
+pub loop-places-smaller : goal.loop-places-smaller
+loop-places-smaller c = omega (arith, literal-high _ _ (literal-at-In-loop-places (goal.at.loop-places-smaller c).In-loop-places))
+
+pub shape_of-places : goal.shape_of-places
+shape_of-places c = c.loop-places.invariant.room ∙ sym c.requires.3

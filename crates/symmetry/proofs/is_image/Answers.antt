@@ -18,13 +18,6 @@ use native.Mathlib.Omega.{arith}
 use Rattle.symmetry.proofs.is_image.Goals as goal
 use Rattle.symmetry.proofs.is_image.Goals.{After-place, After-wide}
 
-good : (c : After-wide) → is_literal max_variables c.wide.result ≡ true
-good c =
-    rw c.wide.ensures.0 (all-at (is_literal max_variables) c.args.clause.now 0 c.requires.1 c.loop-i.i (omega arith))
-
-pub place-requires : goal.place-requires
-place-requires c = good c
-
 -- each literal of the clause among those that have the mark is enough, as the keys agree
 pub loop-i-init : goal.loop-i-init
 unfolding within
@@ -33,8 +26,8 @@ loop-i-init c image s = same-by-part image c.args.clause.now s.literals c.requir
 pub bounds-marks-place : goal.bounds-marks-place
 bounds-marks-place c = omega (arith, c.place.ensures.1, c.requires.2)
 
-good-at-After-place : (c : After-place) → is_literal max_variables c.wide.result ≡ true
-good-at-After-place c =
+good : (c : After-place) → is_literal max_variables c.wide.result ≡ true
+good c =
     rw c.wide.ensures.0 (all-at (is_literal max_variables) c.args.clause.now 0 c.requires.1 c.loop-i.i (omega arith))
 
 -- whether the literal at i is one of those that have the mark
@@ -42,7 +35,7 @@ tested : (c : After-place) (image : List ℕ) → Sought c.args.mark c.args.mark
     → (get_or c.args.marks.now c.place.result 0 ≡ c.args.mark → has image (get_or c.args.clause.now c.loop-i.i 0) ≡ true)
     × ((get_or c.args.marks.now c.place.result 0 ≡ c.args.mark → ⊥) → has image (get_or c.args.clause.now c.loop-i.i 0) ≡ false)
 tested c image sought =
-    let here = rw (← c.place.ensures.0) at (sought.marked c.wide.result (omega (arith, literal-low max_variables _ (good-at-After-place c)))) in (
+    let here = rw (← c.place.ensures.0) at (sought.marked c.wide.result (omega (arith, literal-low max_variables _ (good c)))) in (
       λ e. rw c.wide.ensures.0 at (sym here ∙ eq-eqb _ _ e),
       λ n. rw c.wide.ensures.0 at (sym here ∙ ne_eqb _ _ n),
     )
@@ -57,3 +50,10 @@ loop-i-preserved c image s =
 
 pub returns : goal.returns
 returns c image s = sym (c.loop-i.invariant image s ∙ all-drop-end (has image) _ c.loop-i.i (omega arith))
+
+good-at-After-wide : (c : After-wide) → is_literal max_variables c.wide.result ≡ true
+good-at-After-wide c =
+    rw c.wide.ensures.0 (all-at (is_literal max_variables) c.args.clause.now 0 c.requires.1 c.loop-i.i (omega arith))
+
+pub place-requires : goal.place-requires
+place-requires c = good-at-After-wide c

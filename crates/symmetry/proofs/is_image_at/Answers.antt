@@ -14,35 +14,19 @@ use native.Mathlib.Omega.{arith}
 use Rattle.symmetry.proofs.is_image_at.Goals as goal
 use Rattle.symmetry.proofs.is_image_at.Goals.{After-clause, After-shared_slice_known-5-1-unread, Then-keys-other}
 
-abbrev formula : After-shared_slice_known-5-1-unread → List (List ℕ)
-formula c = clauses_in c.args.m c.args.literals.now c.args.ends.now
-
-count : (c : After-shared_slice_known-5-1-unread) → length (formula c) ≡ c.args.m
-count c = clauses-count c.args.literals.now c.args.ends.now c.args.m c.requires.0.formula.clauses.known
-
--- it has a key, and it is its own
-long : (c : After-shared_slice_known-5-1-unread) → c.args.other < length c.args.keys.now
-long c = omega (arith, right-long _ _ c.requires.0.keys-right, count c, c.requires.1)
-
-pub bounds-keys-other : goal.bounds-keys-other
-bounds-keys-other c = long c
-
-pub clause-requires : goal.clause-requires
-clause-requires c = (c.requires.0.formula.clauses, c.requires.1)
-
 -- the other clause
 abbrev clause-of : Then-keys-other → List ℕ
 clause-of c = clause_at c.args.literals.now c.args.ends.now c.args.other
 
-abbrev formula-at-Then-keys-other : Then-keys-other → List (List ℕ)
-formula-at-Then-keys-other c = clauses_in c.args.m c.args.literals.now c.args.ends.now
+abbrev formula : Then-keys-other → List (List ℕ)
+formula c = clauses_in c.args.m c.args.literals.now c.args.ends.now
 
-count-at-Then-keys-other : (c : Then-keys-other) → length (formula-at-Then-keys-other c) ≡ c.args.m
-count-at-Then-keys-other c = clauses-count c.args.literals.now c.args.ends.now c.args.m c.requires.0.formula.clauses.known
+count : (c : Then-keys-other) → length (formula c) ≡ c.args.m
+count c = clauses-count c.args.literals.now c.args.ends.now c.args.m c.requires.0.formula.clauses.known
 
 key-is : (c : Then-keys-other) → get_or c.args.keys.now c.args.other 0 ≡ key_of (clause-of c)
 key-is c =
-    right-at _ _ c.requires.0.keys-right c.args.other (omega (arith, count-at-Then-keys-other c, c.requires.1))
+    right-at _ _ c.requires.0.keys-right c.args.other (omega (arith, count c, c.requires.1))
     ∙ ap key_of (clause-is _ _ c.args.m c.args.other c.requires.0.formula.clauses.known c.requires.1)
 
 pub returns-then-keys-other : goal.returns-then-keys-other
@@ -66,12 +50,27 @@ key-is-at-After-clause c =
 
 pub is_image-requires : goal.is_image-requires
 is_image-requires c =
-    let is = c.clause.ensures in
     let agree : get_or c.args.keys.now c.args.other 0 ≡ c.args.key = omega (arith, c.if-keys-other.false) in (
-      λ image sought. c.requires.2 image sought ∙ sym agree ∙ key-is-at-After-clause c ∙ ap key_of (sym is),
-      rw is (clause-good max_variables c.args.m c.args.literals.now c.args.ends.now c.requires.0.formula c.args.other c.requires.1),
+      λ image sought. c.requires.2 image sought ∙ sym agree ∙ key-is-at-After-clause c ∙ ap key_of (sym c.clause.ensures),
+      rw c.clause.ensures (clause-good max_variables c.args.m c.args.literals.now c.args.ends.now c.requires.0.formula c.args.other c.requires.1),
       c.requires.3,
     )
 
 pub returns : goal.returns
 returns c image sought = c.is_image.ensures image sought ∙ ap (same_set image) c.clause.ensures
+
+abbrev formula-at-After-shared_slice_known-5-1-unread : After-shared_slice_known-5-1-unread → List (List ℕ)
+formula-at-After-shared_slice_known-5-1-unread c = clauses_in c.args.m c.args.literals.now c.args.ends.now
+
+count-at-After-shared_slice_known-5-1-unread : (c : After-shared_slice_known-5-1-unread) → length (formula-at-After-shared_slice_known-5-1-unread c) ≡ c.args.m
+count-at-After-shared_slice_known-5-1-unread c = clauses-count c.args.literals.now c.args.ends.now c.args.m c.requires.0.formula.clauses.known
+
+-- it has a key, and it is its own
+long : (c : After-shared_slice_known-5-1-unread) → c.args.other < length c.args.keys.now
+long c = omega (arith, right-long _ _ c.requires.0.keys-right, count-at-After-shared_slice_known-5-1-unread c, c.requires.1)
+
+pub bounds-keys-other : goal.bounds-keys-other
+bounds-keys-other c = long c
+
+pub clause-requires : goal.clause-requires
+clause-requires c = (c.requires.0.formula.clauses, c.requires.1)

@@ -33,12 +33,11 @@ size-at-After-struct_known-1 c =
 span : (c : After-struct_known-1) → let a = c.args in
     IsSpan (row_at a.n c.loop-r.r a.images.now) c.span_of-span.result.first c.span_of-span.result.end
     × (c.span_of-span.result.first ≤ max_variables) × (c.span_of-span.result.end ≤ max_variables)
-span c =
-    let is = c.span_of-span.ensures in (
-      rw c.row.ensures at is,
-      omega (arith, is.order, is.within, size-at-After-struct_known-1 c, c.requires.0.small),
-      omega (arith, is.within, size-at-After-struct_known-1 c, c.requires.0.small),
-    )
+span c = (
+  rw c.row.ensures at c.span_of-span.ensures,
+  omega (arith, c.span_of-span.ensures.order, c.span_of-span.ensures.within, size-at-After-struct_known-1 c, c.requires.0.small),
+  omega (arith, c.span_of-span.ensures.within, size-at-After-struct_known-1 c, c.requires.0.small),
+)
 
 pub overflow_cast-spans : goal.overflow_cast-spans
 overflow_cast-spans c = omega (arith, (span c).1)
@@ -59,12 +58,11 @@ size-at-After-struct_known-in-loop-r-1 c =
 span-at-After-struct_known-in-loop-r-1 : (c : After-struct_known-in-loop-r-1) → let a = c.args in
     IsSpan (row_at a.n c.loop-r.r a.images.now) c.span_of-span.result.first c.span_of-span.result.end
     × (c.span_of-span.result.first ≤ max_variables) × (c.span_of-span.result.end ≤ max_variables)
-span-at-After-struct_known-in-loop-r-1 c =
-    let is = c.span_of-span.ensures in (
-      rw c.row.ensures at is,
-      omega (arith, is.order, is.within, size-at-After-struct_known-in-loop-r-1 c, c.requires.0.small),
-      omega (arith, is.within, size-at-After-struct_known-in-loop-r-1 c, c.requires.0.small),
-    )
+span-at-After-struct_known-in-loop-r-1 c = (
+  rw c.row.ensures at c.span_of-span.ensures,
+  omega (arith, c.span_of-span.ensures.order, c.span_of-span.ensures.within, size-at-After-struct_known-in-loop-r-1 c, c.requires.0.small),
+  omega (arith, c.span_of-span.ensures.within, size-at-After-struct_known-in-loop-r-1 c, c.requires.0.small),
+)
 
 pub overflow_cast-spans-in-loop-r : goal.overflow_cast-spans-in-loop-r
 overflow_cast-spans-in-loop-r c = let is = span-at-After-struct_known-in-loop-r-1 c in omega (arith, is.1, is.2)

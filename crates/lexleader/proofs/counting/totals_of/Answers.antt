@@ -18,10 +18,9 @@ added_by_rows-added-requires c = (c.requires.1, sym (slice_bounds-added_by_rows-
 pub returns : goal.returns
 unfolding made_variables
 returns c =
-    let added = c.added_by_rows-added.ensures in
     record {
-      variables = ap (λ (k : ℕ). c.args.counts.variables + k) added.0;
-      clauses = ap (λ (k : ℕ). c.args.counts.clauses + k) (added.1 (c.args.counts.variables + 1));
-      few-variables = omega (arith, c.requires.1.small, added.2);
-      few-clauses = omega (arith, c.requires.0, added.3);
+      variables = ap (λ (k : ℕ). c.args.counts.variables + k) c.added_by_rows-added.ensures.0;
+      clauses = ap (λ (k : ℕ). c.args.counts.clauses + k) (c.added_by_rows-added.ensures.1 (c.args.counts.variables + 1));
+      few-variables = omega (arith, c.requires.1.small, c.added_by_rows-added.ensures.2);
+      few-clauses = omega (arith, c.requires.0, c.added_by_rows-added.ensures.3);
     }

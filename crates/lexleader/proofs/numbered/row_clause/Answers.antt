@@ -44,12 +44,11 @@ overflow_add-place-2 c = omega (arith, (number-at-After-next_pair-next c).1)
 pub clause_at-requires : goal.clause_at-requires
 clause_at-requires c =
     let row = c.args.row.now in
-    let found = c.pair_at-i.ensures in
-    let same : drop (c.args.q / 6) (pairs_of row) ≡ pairs_at c.pair_at-i.result row = ap (λ (k : ℕ). drop k (pairs_of row)) {x = c.args.q / 6} {y = c.args.q / 6 + 1 - 1} (omega arith) ∙ found.1 in
+    let same : drop (c.args.q / 6) (pairs_of row) ≡ pairs_at c.pair_at-i.result row = ap (λ (k : ℕ). drop k (pairs_of row)) {x = c.args.q / 6} {y = c.args.q / 6 + 1 - 1} (omega arith) ∙ c.pair_at-i.ensures.1 in
     record {
       small = c.requires.0;
-      stands = number-stands row c.args.e c.args.q c.pair_at-i.result _ refl (omega (arith, (number-at-After-next_pair-next c).0)) same c.requires.3 found.0 found.2 (c.next_pair-next.ensures row c.requires.1) c.requires.2;
-      inside = found.0;
+      stands = number-stands row c.args.e c.args.q c.pair_at-i.result _ refl (omega (arith, (number-at-After-next_pair-next c).0)) same c.requires.3 c.pair_at-i.ensures.0 c.pair_at-i.ensures.2 (c.next_pair-next.ensures row c.requires.1) c.requires.2;
+      inside = c.pair_at-i.ensures.0;
     }
 
 -- the clause's auxiliary is one of the row's
@@ -61,6 +60,5 @@ number-at-After-clause_at c =
 pub returns : goal.returns
 returns c =
     let row = c.args.row.now in
-    let found = c.pair_at-i.ensures in
-    let same : drop (c.args.q / 6) (pairs_of row) ≡ pairs_at c.pair_at-i.result row = ap (λ (k : ℕ). drop k (pairs_of row)) {x = c.args.q / 6} {y = c.args.q / 6 + 1 - 1} (omega arith) ∙ found.1 in
+    let same : drop (c.args.q / 6) (pairs_of row) ≡ pairs_at c.pair_at-i.result row = ap (λ (k : ℕ). drop k (pairs_of row)) {x = c.args.q / 6} {y = c.args.q / 6 + 1 - 1} (omega arith) ∙ c.pair_at-i.ensures.1 in
     clause-same c.clause_at.ensures (numbered row c.args.e c.args.q c.pair_at-i.result _ refl (omega (arith, (number-at-After-clause_at c).0)) same)

@@ -28,6 +28,5 @@ next_auxiliary-requires c = let r = c.requires.0 in (r, c.requires.1, omega (ari
 
 pub returns : goal.returns
 returns c =
-    let z = c.next_auxiliary.ensures in
-    let passed = last-clause c.args.row.now c.args.place (omega (arith, c.requires.0.stands.high)) z.passed in
-    record { stands = z.stands; passed = passed; auxiliary = z.auxiliary }
+    let passed = last-clause c.args.row.now c.args.place (omega (arith, c.requires.0.stands.high)) c.next_auxiliary.ensures.passed in
+    record { stands = c.next_auxiliary.ensures.stands; passed = passed; auxiliary = c.next_auxiliary.ensures.auxiliary }

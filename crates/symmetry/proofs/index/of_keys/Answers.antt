@@ -9,15 +9,6 @@ use native.Mathlib.Omega.{arith}
 use Rattle.symmetry.proofs.index.of_keys.Goals as goal
 use Rattle.symmetry.proofs.index.of_keys.Goals.{After-bucket, After-loop-c}
 
-pub bounds-keys-c : goal.bounds-keys-c
-bounds-keys-c c = omega (arith, c.requires.0)
-
-pub shape_of-heads : goal.shape_of-heads
-shape_of-heads c = c.loop-c.invariant.2
-
-pub shape_of-nexts : goal.shape_of-nexts
-shape_of-nexts c = c.loop-c.invariant.3
-
 pub loop-c-init : goal.loop-c-init
 loop-c-init c = (rw c.requires.2 (holds-none _ bucket_count c.args.nexts.now), omega arith, refl, refl)
 
@@ -41,4 +32,13 @@ pub returns : goal.returns
 returns c =
     let inv = c.loop-c.invariant in
     let all : c.loop-c.c ≡ c.args.m = omega arith in
-    record { holds = rw all c inv.0; heads-long = inv.2 ∙ heads-long-at-After-loop-c c; nexts-long = omega (arith, inv.3, c.requires.3) }
+    record { holds = rw all at inv.0; heads-long = inv.2 ∙ heads-long-at-After-loop-c c; nexts-long = omega (arith, inv.3, c.requires.3) }
+
+pub bounds-keys-c : goal.bounds-keys-c
+bounds-keys-c c = omega (arith, c.requires.0)
+
+pub shape_of-heads : goal.shape_of-heads
+shape_of-heads c = c.loop-c.invariant.2
+
+pub shape_of-nexts : goal.shape_of-nexts
+shape_of-nexts c = c.loop-c.invariant.3

@@ -18,47 +18,6 @@ use native.Mathlib.Omega.{arith}
 use Rattle.symmetry.proofs.judged.has_opposites.Goals as goal
 use Rattle.symmetry.proofs.judged.has_opposites.Goals.{After-loop-i, After-opposite, After-place, After-wide, Else-marks-place, Then-marks-place}
 
--- the literal at hand
-good : (c : After-wide) → is_literal max_variables c.wide.result ≡ true
-good c =
-    rw c.wide.ensures.0 (all-at (is_literal max_variables) c.args.clause.now 0 c.requires.0 c.loop-i.i (omega arith))
-
-pub sent-requires : goal.sent-requires
-sent-requires c = (good c, c.requires.1)
-
-pub overflow_cast-image : goal.overflow_cast-image
-overflow_cast-image c = omega (arith, c.sent.ensures.1)
-
-pub overflow_add-image : goal.overflow_add-image
-overflow_add-image c = omega (arith, c.sent.ensures.1)
-
--- what the clause is sent to
-abbrev sent : After-opposite → List ℕ
-sent c = sent_clause c.args.places.now c.args.clause.now
-
--- where it is sent
-sent_is : (c : After-opposite) → c.sent.result + 2 ≡ get_or (sent c) c.loop-i.i 0
-sent_is c =
-    c.sent.ensures.0
-    ∙ ap (sent_to c.args.places.now) c.wide.ensures.0
-    ∙ sym (map_at (sent_to c.args.places.now) c.args.clause.now c.loop-i.i 0 0 (omega arith))
-
--- and the opposite of that
-opposite-is : (c : After-opposite) → c.opposite.result ≡ opposite_of (get_or (sent c) c.loop-i.i 0)
-opposite-is c = c.opposite.ensures ∙ ap opposite_of (sent_is c)
-
-size : (c : After-opposite) → length (sent c) ≡ length c.args.clause.now
-size c = length-map c.args.clause.now (sent_to c.args.places.now)
-
-good-opposite : (c : After-opposite) → is_literal max_variables c.opposite.result ≡ true
-good-opposite c =
-    rw (opposite-is c)
-    (opposite-within max_variables (get_or (sent c) c.loop-i.i 0)
-    (all-at (is_literal max_variables) (sent c) 0 (sent-literals c.args.places.now c.requires.1 c.args.clause.now c.requires.0) c.loop-i.i (omega (arith, size c))))
-
-pub place-requires : goal.place-requires
-place-requires c = good-opposite c
-
 pub loop-i-init : goal.loop-i-init
 unfolding has_opposites
 loop-i-init c = refl
@@ -67,37 +26,37 @@ pub bounds-marks-place : goal.bounds-marks-place
 bounds-marks-place c = omega (arith, c.place.ensures.1, c.requires.3)
 
 -- what the clause is sent to
-abbrev sent-at-After-place : After-place → List ℕ
-sent-at-After-place c = sent_clause c.args.places.now c.args.clause.now
+abbrev sent : After-place → List ℕ
+sent c = sent_clause c.args.places.now c.args.clause.now
 
 -- where it is sent
-sent_is-at-After-place : (c : After-place) → c.sent.result + 2 ≡ get_or (sent-at-After-place c) c.loop-i.i 0
-sent_is-at-After-place c =
+sent_is : (c : After-place) → c.sent.result + 2 ≡ get_or (sent c) c.loop-i.i 0
+sent_is c =
     c.sent.ensures.0
     ∙ ap (sent_to c.args.places.now) c.wide.ensures.0
     ∙ sym (map_at (sent_to c.args.places.now) c.args.clause.now c.loop-i.i 0 0 (omega arith))
 
 -- and the opposite of that
-opposite-is-at-After-place : (c : After-place) → c.opposite.result ≡ opposite_of (get_or (sent-at-After-place c) c.loop-i.i 0)
-opposite-is-at-After-place c = c.opposite.ensures ∙ ap opposite_of (sent_is-at-After-place c)
+opposite-is : (c : After-place) → c.opposite.result ≡ opposite_of (get_or (sent c) c.loop-i.i 0)
+opposite-is c = c.opposite.ensures ∙ ap opposite_of (sent_is c)
 
-size-at-After-place : (c : After-place) → length (sent-at-After-place c) ≡ length c.args.clause.now
-size-at-After-place c = length-map c.args.clause.now (sent_to c.args.places.now)
+size : (c : After-place) → length (sent c) ≡ length c.args.clause.now
+size c = length-map c.args.clause.now (sent_to c.args.places.now)
 
-good-opposite-at-After-place : (c : After-place) → is_literal max_variables c.opposite.result ≡ true
-good-opposite-at-After-place c =
-    rw (opposite-is-at-After-place c)
-    (opposite-within max_variables (get_or (sent-at-After-place c) c.loop-i.i 0)
-    (all-at (is_literal max_variables) (sent-at-After-place c) 0 (sent-literals c.args.places.now c.requires.1 c.args.clause.now c.requires.0) c.loop-i.i (omega (arith, size-at-After-place c))))
+good-opposite : (c : After-place) → is_literal max_variables c.opposite.result ≡ true
+good-opposite c =
+    rw (opposite-is c)
+    (opposite-within max_variables (get_or (sent c) c.loop-i.i 0)
+    (all-at (is_literal max_variables) (sent c) 0 (sent-literals c.args.places.now c.requires.1 c.args.clause.now c.requires.0) c.loop-i.i (omega (arith, size c))))
 
 -- whether it stands there too
-tested : (c : After-place) → let opposite = opposite_of (get_or (sent-at-After-place c) c.loop-i.i 0) in
-    (get_or c.args.marks.now c.place.result 0 ≡ c.args.mark → has (sent-at-After-place c) opposite ≡ true)
-    × ((get_or c.args.marks.now c.place.result 0 ≡ c.args.mark → ⊥) → has (sent-at-After-place c) opposite ≡ false)
+tested : (c : After-place) → let opposite = opposite_of (get_or (sent c) c.loop-i.i 0) in
+    (get_or c.args.marks.now c.place.result 0 ≡ c.args.mark → has (sent c) opposite ≡ true)
+    × ((get_or c.args.marks.now c.place.result 0 ≡ c.args.mark → ⊥) → has (sent c) opposite ≡ false)
 tested c =
-    let here = rw (← c.place.ensures.0) at (c.requires.2 c.opposite.result (omega (arith, literal-low max_variables _ (good-opposite-at-After-place c)))) in (
-      λ e. rw (opposite-is-at-After-place c) at (sym here ∙ eq-eqb _ _ e),
-      λ n. rw (opposite-is-at-After-place c) at (sym here ∙ ne_eqb _ _ n),
+    let here = rw (← c.place.ensures.0) at (c.requires.2 c.opposite.result (omega (arith, literal-low max_variables _ (good-opposite c)))) in (
+      λ e. rw (opposite-is c) at (sym here ∙ eq-eqb _ _ e),
+      λ n. rw (opposite-is c) at (sym here ∙ ne_eqb _ _ n),
     )
 
 -- what the clause is sent to
@@ -132,3 +91,44 @@ size-at-After-loop-i c = length-map c.args.clause.now (sent_to c.args.places.now
 pub returns : goal.returns
 returns c =
     sym (c.loop-i.invariant ∙ any-drop-end (λ code. has (sent-at-After-loop-i c) (opposite_of code)) (sent-at-After-loop-i c) c.loop-i.i (omega (arith, size-at-After-loop-i c)))
+
+-- the literal at hand
+good : (c : After-wide) → is_literal max_variables c.wide.result ≡ true
+good c =
+    rw c.wide.ensures.0 (all-at (is_literal max_variables) c.args.clause.now 0 c.requires.0 c.loop-i.i (omega arith))
+
+pub sent-requires : goal.sent-requires
+sent-requires c = (good c, c.requires.1)
+
+pub overflow_cast-image : goal.overflow_cast-image
+overflow_cast-image c = omega (arith, c.sent.ensures.1)
+
+pub overflow_add-image : goal.overflow_add-image
+overflow_add-image c = omega (arith, c.sent.ensures.1)
+
+-- what the clause is sent to
+abbrev sent-at-After-opposite : After-opposite → List ℕ
+sent-at-After-opposite c = sent_clause c.args.places.now c.args.clause.now
+
+-- where it is sent
+sent_is-at-After-opposite : (c : After-opposite) → c.sent.result + 2 ≡ get_or (sent-at-After-opposite c) c.loop-i.i 0
+sent_is-at-After-opposite c =
+    c.sent.ensures.0
+    ∙ ap (sent_to c.args.places.now) c.wide.ensures.0
+    ∙ sym (map_at (sent_to c.args.places.now) c.args.clause.now c.loop-i.i 0 0 (omega arith))
+
+-- and the opposite of that
+opposite-is-at-After-opposite : (c : After-opposite) → c.opposite.result ≡ opposite_of (get_or (sent-at-After-opposite c) c.loop-i.i 0)
+opposite-is-at-After-opposite c = c.opposite.ensures ∙ ap opposite_of (sent_is-at-After-opposite c)
+
+size-at-After-opposite : (c : After-opposite) → length (sent-at-After-opposite c) ≡ length c.args.clause.now
+size-at-After-opposite c = length-map c.args.clause.now (sent_to c.args.places.now)
+
+good-opposite-at-After-opposite : (c : After-opposite) → is_literal max_variables c.opposite.result ≡ true
+good-opposite-at-After-opposite c =
+    rw (opposite-is-at-After-opposite c)
+    (opposite-within max_variables (get_or (sent-at-After-opposite c) c.loop-i.i 0)
+    (all-at (is_literal max_variables) (sent-at-After-opposite c) 0 (sent-literals c.args.places.now c.requires.1 c.args.clause.now c.requires.0) c.loop-i.i (omega (arith, size-at-After-opposite c))))
+
+pub place-requires : goal.place-requires
+place-requires c = good-opposite-at-After-opposite c

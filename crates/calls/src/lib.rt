@@ -121,10 +121,10 @@ pub fn offer(
     names: &[u8],
     values: &[u8],
 ) -> Offering
-    ensures says { let s = keyed counts literals.entry ends.entry keys.entry images.entry in
+    ensures says { let s = with_keys (lent counts literals.now ends.now images.old) keys.now in
         said_offered result.answer ≡ offer_says s names.now values.now }
-    ensures leaves { let s = keyed counts literals.entry ends.entry keys.entry images.entry in
-        keyed result.counts literals.entry ends.entry keys.entry images.exit ≡ offer_store s names.now values.now }
+    ensures leaves { let s = with_keys (lent counts literals.now ends.now images.old) keys.now in
+        with_keys (lent result.counts literals.now ends.now images.new) keys.now ≡ offer_store s names.now values.now }
 {
     let table = numbers::numbers();
     if let Standing::Refused(refusal) = standing::admit_by(

@@ -3,7 +3,7 @@
 #![tactic(auto)]
 
 ghost use Rattle.std.specs.Prelude.{◌≡◌, true, ◌<◌};
-ghost use Rattle.store.specs.Stores.{stored, plain_of, is_formed, max_rows};
+ghost use Rattle.store.specs.Stores.{stored, plain_of, is_formed, max_rows, lent};
 ghost use Rattle.numbers.specs.Numbers.{numbers};
 ghost use Rattle.keys.specs.Keys.{right_keys};
 ghost use Rattle.offering.specs.Offering.{offered_by, images_after, row_for};
@@ -29,11 +29,11 @@ pub fn offer(
     values: &[u8],
     table: &[u64; numbers::COUNT],
 ) -> Offered
-    requires { let s = stored counts literals ends images in
+    requires { let s = lent counts literals.now ends.now images.old in
         (is_formed s ≡ true) × (right_keys (plain_of s) keys.now ≡ true) × (counts.rows < max_rows) × (table.now ≡ numbers) }
-    ensures answer { let s = stored counts literals.entry ends.entry images.entry in
+    ensures answer { let s = lent counts literals.now ends.now images.old in
         result ≡ offered_by s names.now values.now }
-    ensures images { let s = stored counts literals.entry ends.entry images.entry in
+    ensures images { let s = lent counts literals.now ends.now images.old in
         images.new ≡ images_after result s (row_for s names.now values.now) }
 {
     let n = counts.variables;

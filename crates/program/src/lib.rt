@@ -3,8 +3,8 @@
 #![tactic(auto)]
 
 ghost use Rattle.std.specs.Prelude.{◌≡◌, ◌≤◌, length};
-ghost use Rattle.store.specs.Stores.{Store, stored, closed_record};
-ghost use Rattle.standing.specs.Keyed.{keyed};
+ghost use Rattle.store.specs.Stores.{Store, stored, closed_record, lent};
+ghost use Rattle.standing.specs.Keyed.{keyed, with_keys};
 ghost use Rattle.emit.specs.Emit.{max_line};
 ghost use Rattle.session.specs.Session.{session_of};
 ghost use Rattle.program.specs.Program.{output_of, left_to_print, StageStands, PageStep};
@@ -45,11 +45,11 @@ pub fn begin(
     keys: &mut [u64],
     images: &mut [u16],
 ) -> Begun
-    ensures output { let s = keyed closed_record literals.entry ends.entry keys.entry images.entry in
-        left_to_print result.stage (stored result.counts literals.exit ends.exit images.exit) ≡ output_of s input.now }
-    ensures store { let s = keyed closed_record literals.entry ends.entry keys.entry images.entry in
-        keyed result.counts literals.exit ends.exit keys.exit images.exit ≡ (session_of s input.now).store }
-    ensures stands { StageStands result.stage (stored result.counts literals.exit ends.exit images.exit) }
+    ensures output { let s = with_keys (lent closed_record literals.old ends.old images.old) keys.old in
+        left_to_print result.stage (lent result.counts literals.new ends.new images.new) ≡ output_of s input.now }
+    ensures store { let s = with_keys (lent closed_record literals.old ends.old images.old) keys.old in
+        with_keys (lent result.counts literals.new ends.new images.new) keys.new ≡ (session_of s input.now).store }
+    ensures stands { StageStands result.stage (lent result.counts literals.new ends.new images.new) }
 {
     let ended = session::run(input, literals, ends, keys, images);
     let answer = ended.answer;

@@ -5,8 +5,8 @@
 
 ghost use Rattle.std.specs.Prelude.{◌≡◌, true, ◌<◌, length};
 ghost use Rattle.dimacs.specs.Lines.{lines_at};
-ghost use Rattle.store.specs.Stores.{closed_record};
-ghost use Rattle.standing.specs.Keyed.{keyed, well_formed};
+ghost use Rattle.store.specs.Stores.{closed_record, lent};
+ghost use Rattle.standing.specs.Keyed.{keyed, well_formed, with_keys};
 ghost use Rattle.session.specs.Input.{from_divider};
 ghost use Rattle.session.specs.Session.{ended, said_answer, offer_lines, divided, session_of};
 
@@ -39,10 +39,10 @@ pub fn run(
     keys: &mut [u64],
     images: &mut [u16],
 ) -> Session
-    ensures ends { let s = keyed closed_record literals.entry ends.entry keys.entry images.entry in
-        let left = keyed result.counts literals.exit ends.exit keys.exit images.exit in
+    ensures ends { let s = with_keys (lent closed_record literals.old ends.old images.old) keys.old in
+        let left = with_keys (lent result.counts literals.new ends.new images.new) keys.new in
         ended (said_answer result.answer) left ≡ session_of s input.now }
-    ensures formed { let left = keyed result.counts literals.exit ends.exit keys.exit images.exit in
+    ensures formed { let left = with_keys (lent result.counts literals.new ends.new images.new) keys.new in
         (result.answer ≡ Answer.Ready → well_formed left ≡ true) }
 {
     if MAX_INPUT < input.len() {
@@ -91,8 +91,8 @@ fn open_and_offer(
     images: &mut [u16],
 ) -> Session
     requires { at < length input.now }
-    ensures { let s = keyed closed_record literals.entry ends.entry keys.entry images.entry in
-        let left = keyed result.counts literals.exit ends.exit keys.exit images.exit in
+    ensures { let s = with_keys (lent closed_record literals.old ends.old images.old) keys.old in
+        let left = with_keys (lent result.counts literals.new ends.new images.new) keys.new in
         ended (said_answer result.answer) left ≡ divided s input.now (lines_at input.now at) }
 {
     let opening = calls::open(calls::new_record(), &input[..at], literals, ends, keys);
@@ -125,8 +125,8 @@ fn offer_lines(
     input: &[u8],
     at: usize,
 ) -> Session
-    ensures { let s = keyed counts literals.entry ends.entry keys.entry images.entry in
-        let left = keyed result.counts literals.entry ends.entry keys.entry images.exit in
+    ensures { let s = with_keys (lent counts literals.now ends.now images.old) keys.now in
+        let left = with_keys (lent result.counts literals.now ends.now images.new) keys.now in
         ended (said_answer result.answer) left ≡ offer_lines s (lines_at input.now at) }
 {
     if input.len() <= at {

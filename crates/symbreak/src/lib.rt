@@ -119,10 +119,10 @@ pub extern "C" fn symbreak_offer(
     names: &[u8],
     values: &[u8],
 ) -> CStored
-    ensures says { let s = keyed (record_of variables clauses rows flag) literals.entry ends.entry keys.entry images.entry in
+    ensures says { let s = with_keys (lent (record_of variables clauses rows flag) literals.now ends.now images.old) keys.now in
         let left = offer_store s names.now values.now in
         result ≡ c_stored (offer_says s names.now values.now) left.store.counts }
-    ensures images { let s = keyed (record_of variables clauses rows flag) literals.entry ends.entry keys.entry images.entry in
+    ensures images { let s = with_keys (lent (record_of variables clauses rows flag) literals.now ends.now images.old) keys.now in
         images.new ≡ (offer_store s names.now values.now).store.images }
 {
     let counts = record_of(variables, clauses, rows, flag);

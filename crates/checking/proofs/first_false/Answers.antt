@@ -53,7 +53,7 @@ loop-q-init c =
     (try-first (S-at-After-slice_known-2-1 c) c.requires.0 c.args.a.now c.requires.2 c.start-at.ensures.stands (start_left (S-at-After-slice_known-2-1 c) c.start-at.result c.start-at.ensures.remaining), c.start-at.ensures.marks)
 
 pub slice_bounds-six_hold-end : goal.slice_bounds-six_hold-end
-slice_bounds-six_hold-end c = sym c.tabulate.kept.1.1.0
+slice_bounds-six_hold-end c = sym c.tabulate.auto.values
 
 abbrev S-at-After-values-in-loop-q-1 : After-values-in-loop-q-1 → Store
 S-at-After-values-in-loop-q-1 c = lent c.args.counts c.args.literals.now c.args.ends.now c.args.images.now
@@ -100,7 +100,7 @@ loop-q-preserved-then-six_hold c =
     )
 
 pub slice_bounds-holds_at-end : goal.slice_bounds-holds_at-end
-slice_bounds-holds_at-end c = sym c.tabulate.kept.1.1.0
+slice_bounds-holds_at-end c = sym c.tabulate.auto.values
 
 abbrev S-at-After-values-in-loop-q-2-1 : After-values-in-loop-q-2-1 → Store
 S-at-After-values-in-loop-q-2-1 c = lent c.args.counts c.args.literals.now c.args.ends.now c.args.images.now

@@ -15,7 +15,6 @@ use Rattle.comments.proofs.Walk.{left, left-start, left_word, left-blank, inked,
 use Rattle.comments.proofs.next_word.Goals as goal
 use Rattle.comments.proofs.next_word.Goals.{Else-not-starts_comment}
 
-
 pub loop-i-init : goal.loop-i-init
 loop-i-init c =
     record {

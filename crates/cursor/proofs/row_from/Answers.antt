@@ -27,7 +27,7 @@ size-there c = part-size c.requires.0 c.loop-r.r c.loop-r-test.true _ c.row-held
 
 pub leave_out-requires : goal.leave_out-requires
 leave_out-requires c =
-    (omega (arith, size-there c, c.requires.0.small), part-row c.requires.0 c.loop-r.r c.loop-r-test.true _ c.row-held.ensures, c.loop-r.inv.4 ∙ sym (size-there c))
+    (omega (arith, size-there c, c.requires.0.small), part-row c.requires.0 c.loop-r.r c.loop-r-test.true _ c.row-held.ensures, c.loop-r.invariant.4 ∙ sym (size-there c))
 
 -- row r has n images, and is a row
 size-there-at-After-slice_known-in-loop-r-1 : (c : After-slice_known-in-loop-r-1) → length c.row-held.result.now ≡ c.args.counts.variables
@@ -37,7 +37,7 @@ pub first_place-place-requires : goal.first_place-place-requires
 first_place-place-requires c =
     let f = c.requires.0 in
     let long = size-there-at-After-slice_known-in-loop-r-1 c in
-    (omega (arith, long, f.small), c.leave_out.ensures, omega (arith, long, c.loop-r.inv.2, c.loop-r-test.true, f.small, f.rows_fit, auxiliaries-most c.row-held.result.now))
+    (omega (arith, long, f.small), c.leave_out.ensures, omega (arith, long, c.loop-r.invariant.2, c.loop-r-test.true, f.small, f.rows_fit, auxiliaries-most c.row-held.result.now))
 
 -- the first place of row r
 found : (c : Then-place-n) → let a = c.args in
@@ -51,11 +51,11 @@ pub returns-then-place-n : goal.returns-then-place-n
 returns-then-place-n c = let a = c.args in
     let here = c.loop-r-test.true in
     let z = found c in
-    let few = first-few a.counts a.images.now c.loop-r.r c.requires.0 here c.first_place-place.result c.loop-r.first z c.loop-r.inv.2 in
+    let few = first-few a.counts a.images.now c.loop-r.r c.requires.0 here c.first_place-place.result c.loop-r.first z c.loop-r.invariant.2 in
     record {
-      stands = (record { rows = c.requires.0; plain = c.requires.2; row = c.loop-r.inv.1; place = λ _. z.stands; there = λ _. omega (arith, c.if-place-n.true, c.loop-r.inv.3); after-most = λ _. few }, refl);
-      remaining = first-here a.counts a.images.now c.loop-r.r c.requires.0 here c.first_place-place.result c.loop-r.first z ∙ sym c.loop-r.inv.5;
-      marks = record { room = c.leave_out.auto.marks ∙ c.loop-r.inv.4; are = λ _. c.leave_out.ensures ∙ ap marks_of c.row-held.ensures };
+      stands = (record { rows = c.requires.0; plain = c.requires.2; row = c.loop-r.invariant.1; place = λ _. z.stands; there = λ _. omega (arith, c.if-place-n.true, c.loop-r.invariant.3); after-most = λ _. few }, refl);
+      remaining = first-here a.counts a.images.now c.loop-r.r c.requires.0 here c.first_place-place.result c.loop-r.first z ∙ sym c.loop-r.invariant.5;
+      marks = record { room = c.leave_out.auto.marks ∙ c.loop-r.invariant.4; are = λ _. c.leave_out.ensures ∙ ap marks_of c.row-held.ensures };
     }
 
 -- the first place of row r
@@ -72,14 +72,14 @@ loop-r-preserved c =
     let here = c.loop-r-test.true in
     let place = c.first_place-place.result in
     let z = found-at-Else-place-n c in
-    let few = first-few a.counts a.images.now c.loop-r.r c.requires.0 here place c.loop-r.first z c.loop-r.inv.2 in
-    let none : a.counts.variables ≤ place.index = omega (arith, c.if-place-n.false, c.loop-r.inv.3) in (
-      omega (arith, c.loop-r.inv.0),
+    let few = first-few a.counts a.images.now c.loop-r.r c.requires.0 here place c.loop-r.first z c.loop-r.invariant.2 in
+    let none : a.counts.variables ≤ place.index = omega (arith, c.if-place-n.false, c.loop-r.invariant.3) in (
+      omega (arith, c.loop-r.invariant.0),
       omega (arith, here),
       place-few a.counts a.images.now c.loop-r.r c.requires.0 here place none few,
-      c.loop-r.inv.3,
-      c.leave_out.auto.marks ∙ c.loop-r.inv.4,
-      c.loop-r.inv.5
+      c.loop-r.invariant.3,
+      c.leave_out.auto.marks ∙ c.loop-r.invariant.4,
+      c.loop-r.invariant.5
           ∙ sym (first-here a.counts a.images.now c.loop-r.r c.requires.0 here place c.loop-r.first z)
           ∙ place-past a.counts a.images.now c.loop-r.r c.requires.0 here place none,
     )

@@ -75,7 +75,7 @@ S-at-After-added-arg-1 c = lent c.args.counts c.args.literals.now c.args.ends.no
 
 pub added-requires : goal.added-requires
 added-requires c =
-    (formed-rows (S-at-After-added-arg-1 c) c.requires, sym (slice_bounds-added-end c))
+    (formed-rows (S-at-After-added-arg-1 c) c.requires, length-take-le _ _ (omega (arith, (formed (S-at-After-added-arg-1 c) c.requires).variables-fit)))
 
 abbrev S-at-After-slice_known-2-1 : After-slice_known-2-1 → Store
 S-at-After-slice_known-2-1 c = lent c.args.counts c.args.literals.now c.args.ends.now c.args.images.now

@@ -44,7 +44,7 @@ fill_rows-all-requires c =
     let size = length-in c.args.n c.tabulate.new.values in (
       c.requires.0,
       c.tabulate.ensures.table,
-      sym (slice_bounds-fill_rows-end-2 c),
+      length-take-le _ _ (omega (arith, c.requires.0.small)),
       room_for c.write-plain.ensures (all_auxiliaries (held c)) (omega (arith, size, made-room c.requires.0 _ c.requires.2)) (omega (arith, size, made-bounded c.requires.0 _ c.requires.2)),
     )
 

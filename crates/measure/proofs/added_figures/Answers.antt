@@ -32,7 +32,7 @@ more : (c : After-struct_known-1) → let a = c.args in
     FiguresSummed a.n a.rows a.images.now k.variables (c.loop-r.clauses + k.clauses) (c.loop-r.literals + k.literals) (c.loop-r.bytes + k.bytes) (c.loop-r.r + 1)
 more c =
     let is = c.row_figures-more.ensures ∙ ap (row_figures c.loop-r.variables) c.row.ensures in
-    figures-more c.args.n c.args.rows c.args.images.now c.loop-r.inv.1 c.requires.0 (omega arith) is
+    figures-more c.args.n c.args.rows c.args.images.now c.loop-r.invariant.1 c.requires.0 (omega arith) is
 
 pub overflow_add-clauses : goal.overflow_add-clauses
 overflow_add-clauses c = omega (arith, (figures-fit _ _ _ (more c) c.requires.0).0)
@@ -43,7 +43,7 @@ more-at-After-struct_known-in-loop-r-1 : (c : After-struct_known-in-loop-r-1) �
     FiguresSummed a.n a.rows a.images.now k.variables (c.loop-r.clauses + k.clauses) (c.loop-r.literals + k.literals) (c.loop-r.bytes + k.bytes) (c.loop-r.r + 1)
 more-at-After-struct_known-in-loop-r-1 c =
     let is = c.row_figures-more.ensures ∙ ap (row_figures c.loop-r.variables) c.row.ensures in
-    figures-more c.args.n c.args.rows c.args.images.now c.loop-r.inv.1 c.requires.0 (omega arith) is
+    figures-more c.args.n c.args.rows c.args.images.now c.loop-r.invariant.1 c.requires.0 (omega arith) is
 
 pub overflow_add-literals : goal.overflow_add-literals
 overflow_add-literals c = omega (arith, (figures-fit _ _ _ (more-at-After-struct_known-in-loop-r-1 c) c.requires.0).1)
@@ -54,7 +54,7 @@ more-at-After-struct_known-in-loop-r-2-1 : (c : After-struct_known-in-loop-r-2-1
     FiguresSummed a.n a.rows a.images.now k.variables (c.loop-r.clauses + k.clauses) (c.loop-r.literals + k.literals) (c.loop-r.bytes + k.bytes) (c.loop-r.r + 1)
 more-at-After-struct_known-in-loop-r-2-1 c =
     let is = c.row_figures-more.ensures ∙ ap (row_figures c.loop-r.variables) c.row.ensures in
-    figures-more c.args.n c.args.rows c.args.images.now c.loop-r.inv.1 c.requires.0 (omega arith) is
+    figures-more c.args.n c.args.rows c.args.images.now c.loop-r.invariant.1 c.requires.0 (omega arith) is
 
 pub overflow_add-bytes : goal.overflow_add-bytes
 overflow_add-bytes c = omega (arith, (figures-fit _ _ _ (more-at-After-struct_known-in-loop-r-2-1 c) c.requires.0).2)

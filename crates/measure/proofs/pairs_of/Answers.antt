@@ -41,23 +41,23 @@ short c = omega (arith, marks-length c.args.row.now c.requires.2, c.requires.0)
 
 -- at most 46 for each
 pub overflow_add-bytes : goal.overflow_add-bytes
-overflow_add-bytes c = omega (arith, c.pair_bytes.ensures.1, most (counts c) c.pair_bytes.result, c.loop-i.inv.few, short c)
+overflow_add-bytes c = omega (arith, c.pair_bytes.ensures.1, most (counts c) c.pair_bytes.result, c.loop-i.invariant.few, short c)
 
 pub overflow_mul-own : goal.overflow_mul-own
-overflow_mul-own c = omega (arith, most (counts c) c.loop-i.x, c.loop-i.inv.own, short c)
+overflow_mul-own c = omega (arith, most (counts c) c.loop-i.x, c.loop-i.invariant.own, short c)
 
 -- at most 512 variables
 short-at-After-larger-last : (c : After-larger-last) → length c.args.marks.now ≤ max_variables
 short-at-After-larger-last c = omega (arith, marks-length c.args.row.now c.requires.2, c.requires.0)
 
 pub overflow_add-x : goal.overflow_add-x
-overflow_add-x c = omega (arith, c.loop-i.inv.own, short-at-After-larger-last c)
+overflow_add-x c = omega (arith, c.loop-i.invariant.own, short-at-After-larger-last c)
 
 pub loop-i-preserved : goal.loop-i-preserved
 loop-i-preserved c =
     let row = c.args.row.now in
-    let is = c.pair_bytes.ensures.0 ∙ ap (λ (v : ℕ). pair_bytes (record { x = 2 * v; y = get_or row c.loop-i.i 0 })) c.loop-i.inv.own in
-    passed-more row c.requires.2 c.loop-i.inv (omega arith) is c.pair_bytes.ensures.1 _ refl c.larger-last.ensures
+    let is = c.pair_bytes.ensures.0 ∙ ap (λ (v : ℕ). pair_bytes (record { x = 2 * v; y = get_or row c.loop-i.i 0 })) c.loop-i.invariant.own in
+    passed-more row c.requires.2 c.loop-i.invariant (omega arith) is c.pair_bytes.ensures.1 _ refl c.larger-last.ensures
 
 -- at most 512 variables
 short-at-After-loop-i : (c : After-loop-i) → length c.args.marks.now ≤ max_variables

@@ -249,5 +249,5 @@ moving-at-After-slice_known-2-1 c = sym (moves-is-at-After-slice_known-2-1 c) �
 pub returns : goal.returns
 returns c = record {
   answer = sym (held (S-at-After-slice_known-2-1 c) _ _ (stated (goal.at.returns c).In_default) (moving-at-After-slice_known-2-1 c) _ (missing-is-at-After-slice_known-2-1 c) c.if-missing-ne0.false c.if-images-needed.false);
-  images = c.append.ensures ∙ ap (λ (c : List ℕ). appended c.args.counts.variables c.args.counts.rows c c.args.images.now) (filled_is-at-In_default (goal.at.returns c).In_default);
+  images = c.append.ensures ∙ ap (λ (r : List ℕ). appended c.args.counts.variables c.args.counts.rows r c.args.images.now) (filled_is-at-In_default (goal.at.returns c).In_default);
 }

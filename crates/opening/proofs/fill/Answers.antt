@@ -15,27 +15,10 @@ use Rattle.opening.proofs.NextNumber.{NextNumber, body-found, body-missing}
 use Rattle.opening.proofs.DoneLaws.{counted, ZeroTurn, zero_turn, LiteralTurn, literal-turn, none_left}
 use Rattle.lists.proofs.Writing.{stored, sets-front}
 use native.Mathlib.Omega.{arith}
+use Rattle.opening.proofs.fill.Invariants.{Inv}
+use Rattle.opening.proofs.fill.Invariants.{Judged}
 use Rattle.opening.proofs.fill.Goals as goal
 use Rattle.opening.proofs.fill.Goals.{After-code, After-struct_known-else-number-eq0-1, Then-number-eq0}
-
--- what stays: the words open as n and m, with `total` literals, and there is room
-record Judged (literals₀ ends₀ : List ℕ) : Type 0 where
-  n : ℕ
-  m : ℕ
-  total : ℕ
-  small : n ≤ max_variables
-  literals_room : total ≤ length literals₀
-  ends-room : m ≤ length ends₀
-
-record Inv (text : List ℕ) (start : ℕ) (literals₀ ends₀ literals ends : List ℕ) (at closed used : ℕ) : Type 0 where
-  judged : Judged literals₀ ends₀
-  between : Between text at
-  used-within : used ≤ max_literals
-  literals-length : length literals ≡ length literals₀
-  ends-length : length ends ≡ length ends₀
-  done : scan_from (length text) judged.n judged.m closed used (words_past text at) ≡ Scanned.Done judged.total
-  codes : overwritten (literals_in (words_past text start)) literals₀ ≡ sets literals used (literals_in (words_past text at))
-  clauses : overwritten (ends_from 0 (words_past text start)) ends₀ ≡ sets ends closed (ends_from used (words_past text at))
 
 pub loop-number-init : goal.loop-number-init
 loop-number-init c =

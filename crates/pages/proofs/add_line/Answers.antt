@@ -32,7 +32,7 @@ returns-then-cursor-counts c = let f = c.requires.0 in
     }
 
 pub shape_of-out-then-cursor-counts : goal.shape_of-out-then-cursor-counts
-shape_of-out-then-cursor-counts c = (returns-then-cursor-counts c).0.size
+shape_of-out-then-cursor-counts c = (returns-then-cursor-counts c).step.size
 
 pub add_added-requires : goal.add_added-requires
 add_added-requires c =
@@ -48,10 +48,10 @@ returns-then-cursor-counts-2 c = record {
 }
 
 pub shape_of-marks-then-cursor-counts-2 : goal.shape_of-marks-then-cursor-counts-2
-shape_of-marks-then-cursor-counts-2 c = (returns-then-cursor-counts-2 c).1.room ∙ sym c.requires.2.room
+shape_of-marks-then-cursor-counts-2 c = (returns-then-cursor-counts-2 c).marks.room ∙ sym c.requires.2.room
 
 pub shape_of-out-then-cursor-counts-2 : goal.shape_of-out-then-cursor-counts-2
-shape_of-out-then-cursor-counts-2 c = (returns-then-cursor-counts-2 c).0.size
+shape_of-out-then-cursor-counts-2 c = (returns-then-cursor-counts-2 c).step.size
 
 abbrev S-at-Else-cursor-counts-2 : Else-cursor-counts-2 → Store
 S-at-Else-cursor-counts-2 c = lent c.args.counts c.args.literals.now c.args.ends.now c.args.images.now

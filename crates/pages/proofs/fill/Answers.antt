@@ -25,9 +25,9 @@ shape_of-out-then-line-at c = c.add_line-line.ensures.step.size ∙ c.loop-at.in
 pub returns-then-line-at : goal.returns-then-line-at
 returns-then-line-at c = let step = c.add_line-line.ensures.step in
     record {
-      filled = sym (c.loop-at.inv.0 ∙ step.stopped c.if-line-at.true);
-      stands = c.loop-at.inv.1;
-      moves = λ room none. sym (c.loop-at.inv.5 none) ∙ step.moves (omega (arith, c.loop-at.inv.4)) c.if-line-at.true;
+      filled = sym (c.loop-at.invariant.0 ∙ step.stopped c.if-line-at.true);
+      stands = c.loop-at.invariant.1;
+      moves = λ room none. sym (c.loop-at.invariant.5 none) ∙ step.moves (omega (arith, c.loop-at.invariant.4)) c.if-line-at.true;
     }
 
 pub loop-at-smaller : goal.loop-at-smaller
@@ -38,4 +38,4 @@ loop-at-smaller c =
 pub loop-at-preserved : goal.loop-at-preserved
 loop-at-preserved c =
     let step = c.add_line-line.ensures.step in
-    (c.loop-at.inv.0 ∙ sym step.same, step.stands, c.add_line-line.ensures.marks, step.within, step.size ∙ c.loop-at.inv.4, λ none. absurd (omega (arith, step.onward, c.if-line-at.false)))
+    (c.loop-at.invariant.0 ∙ sym step.same, step.stands, c.add_line-line.ensures.marks, step.within, step.size ∙ c.loop-at.invariant.4, λ none. absurd (omega (arith, step.onward, c.if-line-at.false)))

@@ -2,7 +2,6 @@
 use mathlib.Core.Path.{◌≡◌, refl, sym, ap, ◌∙◌}
 use mathlib.Core.Bool.{true}
 use mathlib.Core.List.{List, []}
-use mathlib.Core.Logic.{⊎_elim}
 use Prim.Native.Nat.{ℕ, ◌+◌, ◌-◌, ◌<◌}
 use borrow.Author.Tests.{not-true, not-false}
 use lib.ListN.{length, get_or}
@@ -26,6 +25,7 @@ use Rattle.symmetry.proofs.Missing.{missing-here, found-later, opposites-later, 
 use Rattle.symmetry.proofs.KeyLaws.{one_key, sent-image}
 use native.Mathlib.Omega.{arith}
 use Rattle.symmetry.proofs.first_missing_by.Goals as goal
+use Rattle.symmetry.proofs.first_missing_by.Goals.{then-not-has_image+else-not-has_opposites, else-not-has_image}
 use Rattle.symmetry.proofs.first_missing_by.Goals.{After-loop-c, After-marks-in-loop-c-2-1, Joined-not-has_image, Then-not-has_opposites}
 
 pub key_at-key-requires : goal.key_at-key-requires
@@ -163,14 +163,21 @@ found-image-at-Joined-not-has_image c row places good =
 pub loop-c-preserved : goal.loop-c-preserved
 loop-c-preserved c =
     let h = at-hand-at-Joined-not-has_image c in
-    let next : c.loop-c.c + 2 ≡ c.loop-c.c + 1 + 1 = omega arith in (
-      λ row places good. c.loop-c.invariant.0 row places good
-          ∙ ⊎_elim
-          (λ f. opposites-later _ _ _ c.loop-c.c _ h.1 h.0 (sym (f.3.ensures ∙ found-opposites-at-Joined-not-has_image c _ f.1.ensures row places good) ∙ not-false _ f.4.left))
-          (λ f. found-later _ _ _ c.loop-c.c _ h.1 h.0 (sym (found-image-at-Joined-not-has_image c row places good) ∙ not-false _ f.left))
-          c.if-not-has_image.branch,
-      rw next at c.key_at-key.ensures.below,
-    )
+    let next : c.loop-c.c + 2 ≡ c.loop-c.c + 1 + 1 = omega arith in
+    let below = rw next at c.key_at-key.ensures.below in
+    elim c.if-not-has_image.branch [
+      then-not-has_image+else-not-has_opposites w ↦ (
+          λ row places good. c.loop-c.invariant.0 row places good
+              ∙ opposites-later _ _ _ c.loop-c.c _ h.1 h.0
+                  (sym (w.has_opposites.ensures ∙ found-opposites-at-Joined-not-has_image c _ w.clause.ensures row places good) ∙ not-false _ w.if-not-has_opposites.false-raw),
+          below,
+        )
+      | else-not-has_image w ↦ (
+          λ row places good. c.loop-c.invariant.0 row places good
+              ∙ found-later _ _ _ c.loop-c.c _ h.1 h.0 (sym (found-image-at-Joined-not-has_image c row places good) ∙ not-false _ w.if-not-has_image.false-raw),
+          below,
+        )
+    ]
 
 abbrev formula-at-After-loop-c : After-loop-c → List (List ℕ)
 formula-at-After-loop-c c = clauses_in c.args.m c.args.literals.now c.args.ends.now

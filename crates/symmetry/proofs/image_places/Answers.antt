@@ -16,14 +16,9 @@ use Rattle.keys.specs.Marks.{Places, sent_to}
 use Rattle.symmetry.specs.Symmetry.{image_of}
 use Rattle.symmetry.proofs.ImageLaws.{image-good}
 use native.Mathlib.Omega.{arith}
+use Rattle.symmetry.proofs.image_places.Invariants.{Filled}
 use Rattle.symmetry.proofs.image_places.Goals as goal
 use Rattle.symmetry.proofs.image_places.Goals.{After-image, In-loop-places}
-
-record Filled (row table : List ℕ) (code : ℕ) : Type 0 where
-  low : 2 ≤ code
-  room : length table ≡ number_count
-  places : Places table
-  sends : (x : ℕ) → is_literal (length row) x ≡ true → x < code → sent_to table x ≡ image_of row x
 
 pub loop-places-init : goal.loop-places-init
 loop-places-init c = record { low = omega arith; room = c.requires.3; places = c.requires.2; sends = λ x g h. absurd (omega (arith, literal-low _ x g)) }

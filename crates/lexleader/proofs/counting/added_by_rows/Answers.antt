@@ -24,7 +24,7 @@ added_by-more-requires c =
 more : (c : After-struct_known-1) → let a = c.args in
     Summed a.n a.rows a.images.now (c.loop-r.auxiliaries + c.added_by-more.result.auxiliaries) (c.loop-r.clauses + c.added_by-more.result.clauses) (c.loop-r.r + 1)
 more c =
-    summed-more c.args.n c.args.rows c.args.images.now c.requires.0 c.loop-r.inv.1 (omega arith) (subst (Adds _ _) c.row.ensures c.added_by-more.ensures.added)
+    summed-more c.args.n c.args.rows c.args.images.now c.requires.0 c.loop-r.invariant.1 (omega arith) (subst (Adds _ _) c.row.ensures c.added_by-more.ensures.added)
 
 pub overflow_add-auxiliaries : goal.overflow_add-auxiliaries
 overflow_add-auxiliaries c = omega (arith, (more c).few-auxiliaries, c.requires.0.rows_fit)
@@ -33,7 +33,7 @@ overflow_add-auxiliaries c = omega (arith, (more c).few-auxiliaries, c.requires.
 more-at-After-struct_known-in-loop-r-1 : (c : After-struct_known-in-loop-r-1) → let a = c.args in
     Summed a.n a.rows a.images.now (c.loop-r.auxiliaries + c.added_by-more.result.auxiliaries) (c.loop-r.clauses + c.added_by-more.result.clauses) (c.loop-r.r + 1)
 more-at-After-struct_known-in-loop-r-1 c =
-    summed-more c.args.n c.args.rows c.args.images.now c.requires.0 c.loop-r.inv.1 (omega arith) (subst (Adds _ _) c.row.ensures c.added_by-more.ensures.added)
+    summed-more c.args.n c.args.rows c.args.images.now c.requires.0 c.loop-r.invariant.1 (omega arith) (subst (Adds _ _) c.row.ensures c.added_by-more.ensures.added)
 
 pub overflow_add-clauses : goal.overflow_add-clauses
 overflow_add-clauses c = omega (arith, (more-at-After-struct_known-in-loop-r-1 c).few-clauses, c.requires.0.rows_fit)

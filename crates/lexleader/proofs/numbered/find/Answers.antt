@@ -37,7 +37,7 @@ few c =
     let f = c.requires.0 in
     omega (
       arith,
-      c.loop-r.inv.1.low,
+      c.loop-r.invariant.1.low,
       f.small,
       f.rows_fit,
       auxiliaries-most (row_at a.n c.loop-r.r a.images.now),
@@ -55,9 +55,9 @@ tells c = subst (Adds _ _) c.row.ensures c.added_by-more.ensures.added
 pub returns-then-left-more : goal.returns-then-left-more
 returns-then-left-more c =
     let a = c.args in
-    let here = sought-here a.n a.rows a.images.now a.q c.loop-r.e c.loop-r.left c.loop-r.r c.loop-r.inv.1 (omega arith) (omega (arith, (tells c).1 c.loop-r.e)) in
+    let here = sought-here a.n a.rows a.images.now a.q c.loop-r.e c.loop-r.left c.loop-r.r c.loop-r.invariant.1 (omega arith) (omega (arith, (tells c).1 c.loop-r.e)) in
     record {
-      upto = c.loop-r.inv.1.upto;
+      upto = c.loop-r.invariant.1.upto;
       none = λ h. absurd (omega arith);
       some = λ h. here.0;
       few = λ h. few c;
@@ -76,7 +76,7 @@ later : (c : After-struct_known-in-loop-r-2-1) → let a = c.args in
     Sought a.n a.rows a.images.now a.q (c.loop-r.e + c.added_by-more.result.auxiliaries) (c.loop-r.left - c.added_by-more.result.clauses) (c.loop-r.r + 1)
 later c =
     let a = c.args in
-    sought-later a.n a.rows a.images.now a.q c.loop-r.e c.loop-r.left c.loop-r.r c.loop-r.inv.1 (omega arith) c.requires.0 (tells-at-After-struct_known-in-loop-r-2-1 c) (omega (arith, (tells-at-After-struct_known-in-loop-r-2-1 c).1 c.loop-r.e))
+    sought-later a.n a.rows a.images.now a.q c.loop-r.e c.loop-r.left c.loop-r.r c.loop-r.invariant.1 (omega arith) c.requires.0 (tells-at-After-struct_known-in-loop-r-2-1 c) (omega (arith, (tells-at-After-struct_known-in-loop-r-2-1 c).1 c.loop-r.e))
 
 pub overflow_add-e-in-loop-r : goal.overflow_add-e-in-loop-r
 overflow_add-e-in-loop-r c = omega (arith, (later c).low, c.requires.0.rows_fit)

@@ -13,33 +13,33 @@ abbrev S : In_default → Keyed
 S c = with_keys (lent c.args.counts c.args.literals.now c.args.ends.now []) c.args.keys.now
 
 -- what opening left, under the record that goes with its answer
-left : (c : In_default) (answer : Opened) → c.«open».result ≡ answer → let s = S c in
+left : (c : In_default) (answer : Opened) → c.open-answer.result ≡ answer → let s = S c in
     let counts = counts_opened answer s.store.counts in
     let text = c.args.text.now in
-    (said_opened answer ≡ open_says s text) × (with_keys (lent counts c.«open».new.1.0 c.«open».new.1.1.0 []) c.«open».new.1.1.1.0 ≡ open_store s text)
+    (said_opened answer ≡ open_says s text) × (with_keys (lent counts c.open-answer.new.literals c.open-answer.new.ends []) c.open-answer.new.keys ≡ open_store s text)
 left c answer told =
     let s = S c in
-    let o = c.«open».ensures in
-    open-meets s c.args.text.now _ _ _ c.«open».result o.0 o.1.0 o.1.1.0 o.1.1.1 answer told _ (sym (ap (λ (a : Opened). counts_opened a s.store.counts) told))
+    let o = c.open-answer.ensures in
+    open-meets s c.args.text.now _ _ _ c.open-answer.result o.answer o.literals o.ends o.keys answer told _ (sym (ap (λ (a : Opened). counts_opened a s.store.counts) told))
 
 pub returns-in_default : goal.returns-in_default
 returns-in_default c =
-    let all = let told = c.in_default.is in
-    rw told (left c _ told) in
-    record { says = all.0; leaves = all.1 }
+    let told = c.in_default.is in
+    let met = left c _ told in
+    record { says = rw told met.0; leaves = met.1 }
 
 abbrev S-at-In-Open : In-Open → Keyed
 S-at-In-Open c = with_keys (lent c.args.counts c.args.literals.now c.args.ends.now []) c.args.keys.now
 
 -- what opening left, under the record that goes with its answer
-left-at-In-Open : (c : In-Open) (answer : Opened) → c.«open».result ≡ answer → let s = S-at-In-Open c in
+left-at-In-Open : (c : In-Open) (answer : Opened) → c.open-answer.result ≡ answer → let s = S-at-In-Open c in
     let counts = counts_opened answer s.store.counts in
     let text = c.args.text.now in
-    (said_opened answer ≡ open_says s text) × (with_keys (lent counts c.«open».new.1.0 c.«open».new.1.1.0 []) c.«open».new.1.1.1.0 ≡ open_store s text)
+    (said_opened answer ≡ open_says s text) × (with_keys (lent counts c.open-answer.new.literals c.open-answer.new.ends []) c.open-answer.new.keys ≡ open_store s text)
 left-at-In-Open c answer told =
     let s = S-at-In-Open c in
-    let o = c.«open».ensures in
-    open-meets s c.args.text.now _ _ _ c.«open».result o.0 o.1.0 o.1.1.0 o.1.1.1 answer told _ (sym (ap (λ (a : Opened). counts_opened a s.store.counts) told))
+    let o = c.open-answer.ensures in
+    open-meets s c.args.text.now _ _ _ c.open-answer.result o.answer o.literals o.ends o.keys answer told _ (sym (ap (λ (a : Opened). counts_opened a s.store.counts) told))
 
 pub returns : goal.returns
 returns c =

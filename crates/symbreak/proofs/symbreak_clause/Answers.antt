@@ -4,8 +4,9 @@ use Rattle.symbreak.specs.Exports.{c_answer}
 use Rattle.symbreak.proofs.symbreak_clause.Goals as goal
 
 pub returns : goal.returns
-returns c = let both = rw c.record_of-counts.ensures at (c.clause.ensures.says, c.clause.ensures.leaves) in
+returns c = let says = rw c.record_of-counts.ensures at c.clause.ensures.says in
+    let leaves = rw c.record_of-counts.ensures at c.clause.ensures.leaves in
     record {
-      says = c.c_answer.ensures ∙ ap c_answer both.0;
-      leaves = both.1;
+      says = c.c_answer.ensures ∙ ap c_answer says;
+      leaves = leaves;
     }

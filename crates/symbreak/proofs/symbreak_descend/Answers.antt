@@ -5,15 +5,17 @@ use Rattle.symbreak.specs.Exports.{c_descent}
 use Rattle.symbreak.proofs.symbreak_descend.Goals as goal
 
 pub returns-in-Ended : goal.returns-in-Ended
-returns-in-Ended c = let both = rw c.record_of-counts.ensures at (c.descend.ensures.says, c.descend.ensures.leaves) in
+returns-in-Ended c = let says = rw c.record_of-counts.ensures at c.descend.ensures.says in
+    let leaves = rw c.record_of-counts.ensures at c.descend.ensures.leaves in
     record {
-      says = c.c_descent.ensures ∙ ap c_descent (sym (ap said_descent c.in-Ended.is) ∙ both.0);
-      leaves = both.1;
+      says = c.c_descent.ensures ∙ ap c_descent (sym (ap said_descent c.in-Ended.is) ∙ says);
+      leaves = leaves;
     }
 
 pub returns-in-Refused : goal.returns-in-Refused
-returns-in-Refused c = let both = rw c.record_of-counts.ensures at (c.descend.ensures.says, c.descend.ensures.leaves) in
+returns-in-Refused c = let says = rw c.record_of-counts.ensures at c.descend.ensures.says in
+    let leaves = rw c.record_of-counts.ensures at c.descend.ensures.leaves in
     record {
-      says = rw (c.number.ensures, c.place.ensures) (ap c_descent (sym (ap said_descent c.in-Refused.is) ∙ both.0));
-      leaves = both.1;
+      says = rw (c.number.ensures, c.place.ensures) (ap c_descent (sym (ap said_descent c.in-Refused.is) ∙ says));
+      leaves = leaves;
     }

@@ -5,16 +5,17 @@ use Rattle.symbreak.proofs.ExportLaws.{counts_of, images-of, told-done, told-ref
 use Rattle.symbreak.proofs.symbreak_offer.Goals as goal
 
 pub returns-in-Accepted : goal.returns-in-Accepted
-returns-in-Accepted c = let both = rw c.record_of-counts.ensures at (c.offer-r.ensures.says, c.offer-r.ensures.leaves) in
+returns-in-Accepted c = let says = rw c.record_of-counts.ensures at c.offer-r.ensures.says in
+    let leaves = rw c.record_of-counts.ensures at c.offer-r.ensures.leaves in
     record {
-      says = told-done _ accepted _ _ _ c.stored_at.ensures (sym (ap said_offered c.in-Accepted.is) ∙ both.0) (counts_of both.1);
-      images = images-of both.1;
+      says = told-done _ accepted _ _ _ c.stored_at.ensures (sym (ap said_offered c.in-Accepted.is) ∙ says) (counts_of leaves);
+      images = images-of leaves;
     }
 
 pub returns-in-Refused : goal.returns-in-Refused
-returns-in-Refused c = let r = c.answer-1.given in
-    let both = rw c.record_of-counts.ensures at (c.offer-r.ensures.says, c.offer-r.ensures.leaves) in
+returns-in-Refused c = let says = rw c.record_of-counts.ensures at c.offer-r.ensures.says in
+    let leaves = rw c.record_of-counts.ensures at c.offer-r.ensures.leaves in
     record {
-      says = told-refused _ r.0.0 _ _ _ c.stored_refused.ensures (sym (ap said_offered r.1) ∙ both.0) (counts_of both.1);
-      images = images-of both.1;
+      says = told-refused _ c.in-Refused.refusal _ _ _ c.stored_refused.ensures (sym (ap said_offered c.in-Refused.is) ∙ says) (counts_of leaves);
+      images = images-of leaves;
     }

@@ -6,11 +6,12 @@ use Rattle.symbreak.proofs.symbreak_withdraw.Goals as goal
 
 pub returns-in-TakenBack : goal.returns-in-TakenBack
 returns-in-TakenBack c =
-    let both = rw c.record_of-counts.ensures at (c.withdraw-r.ensures.says, c.withdraw-r.ensures.leaves) in
-    told-done _ taken_back _ _ _ c.stored_at.ensures (sym (ap said_withdrawn c.in-TakenBack.is) ∙ both.0) (counts_of both.1)
+    let says = rw c.record_of-counts.ensures at c.withdraw-r.ensures.says in
+    let leaves = rw c.record_of-counts.ensures at c.withdraw-r.ensures.leaves in
+    told-done _ taken_back _ _ _ c.stored_at.ensures (sym (ap said_withdrawn c.in-TakenBack.is) ∙ says) (counts_of leaves)
 
 pub returns-in-Refused : goal.returns-in-Refused
 returns-in-Refused c =
-    let r = c.answer-1.given in
-    let both = rw c.record_of-counts.ensures at (c.withdraw-r.ensures.says, c.withdraw-r.ensures.leaves) in
-    told-refused _ r.0.0 _ _ _ c.stored_refused.ensures (sym (ap said_withdrawn r.1) ∙ both.0) (counts_of both.1)
+    let says = rw c.record_of-counts.ensures at c.withdraw-r.ensures.says in
+    let leaves = rw c.record_of-counts.ensures at c.withdraw-r.ensures.leaves in
+    told-refused _ c.in-Refused.refusal _ _ _ c.stored_refused.ensures (sym (ap said_withdrawn c.in-Refused.is) ∙ says) (counts_of leaves)

@@ -1,6 +1,5 @@
 -- `comments::first_line` meets its contract. The invariant: the first line that is no comment is among those from `at` on. Assumes nothing.
 use mathlib.Core.Path.{refl, sym, ◌∙◌}
-use Prim.Native.Nat.{◌-◌}
 use Rattle.dimacs.specs.Lines.{is_line_byte}
 use Rattle.dimacs.proofs.Runs.{run-within}
 use Rattle.comments.proofs.CommentLaws.{comment, no-comment, no_lines}

@@ -1,16 +1,12 @@
 -- `comments::next_word` meets its contract. Each turn passes a blank or a comment, and the words that are left at i stay those past `at`. Assumes nothing.
-use mathlib.Core.Path.{◌≡◌, sym, ap, ◌∙◌}
-use mathlib.Core.Bool.{true}
-use mathlib.Core.List.{List}
-use Prim.Native.Nat.{ℕ, ◌-◌, ◌≤◌}
+use mathlib.Core.Path.{sym, ap, ◌∙◌}
 use native.Mathlib.Omega.{arith}
 use borrow.Author.Rules.{rules}
 use borrow.Author.Tests.{not-true, not-false}
-use lib.ListN.{length, get_or}
-use Rattle.dimacs.specs.Words.{is_blank}
+use lib.ListN.{length}
 use Rattle.dimacs.specs.Lines.{is_line_byte}
 use Rattle.dimacs.proofs.Runs.{run-within}
-use Rattle.comments.specs.Comments.{words_past, first_place}
+use Rattle.comments.specs.Comments.{first_place}
 use Rattle.comments.proofs.Walk.{left, left-start, left_word, left-blank, inked, Comment, comment-passed, first_word, first-none}
 use Rattle.comments.proofs.next_word.Goals as goal
 use Rattle.comments.proofs.next_word.Goals.{Else-not-starts_comment}

@@ -1,6 +1,5 @@
 -- `cycles::mark_all` meets its contract. The invariant: the first i are marked, and the lent slice keeps its length. Assumes nothing.
 use mathlib.Core.Path.{refl}
-use Prim.Native.Nat.{◌-◌}
 use native.Mathlib.Omega.{arith}
 use lib.ListN.{length-set}
 use Rattle.cycles.proofs.Scan.{all-marked, marked_more}

@@ -1,5 +1,4 @@
 -- `cycles::visit` meets its contract. The invariant: what was gone round and what is left of the cycle (`Rounding`). Assumes nothing.
-use Prim.Native.Nat.{◌-◌}
 use lib.ListN.{length}
 use Rattle.cycles.proofs.Walks.{met}
 use Rattle.cycles.proofs.Visiting.{Rounding}

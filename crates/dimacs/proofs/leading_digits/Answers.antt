@@ -1,7 +1,7 @@
 -- `dimacs::leading_digits` meets its contract. The invariant: the digits from 0 and those from i end at one place and have one value, where `value`
 -- is that of the first i and is below 10 ^ i. Assumes nothing.
 use mathlib.Core.Path.{refl, sym, ◌∙◌}
-use Prim.Native.Nat.{◌-◌, ◌<◌}
+use Prim.Native.Nat.{◌<◌}
 use native.Mathlib.Omega.{arith}
 use borrow.Author.Rules.{rules}
 use lib.ListN.{get_or}

@@ -1,6 +1,5 @@
 -- `dimacs::line_end` meets its contract. The invariant: the line's bytes from `at` end where those from i end. Assumes nothing.
 use mathlib.Core.Path.{refl, sym, ◌∙◌}
-use Prim.Native.Nat.{◌-◌}
 use borrow.Author.Rules.{rules}
 use borrow.Author.Tests.{eq-eqb, ne_eqb}
 use Rattle.dimacs.specs.Lines.{is_line_byte}

@@ -1,6 +1,5 @@
 -- `dimacs::next_word` meets its contract. The invariant: the run of blanks from `at` ends where the run from i ends. Assumes nothing.
 use mathlib.Core.Path.{refl, sym, ◌∙◌}
-use Prim.Native.Nat.{◌-◌}
 use borrow.Author.Rules.{rules}
 use Rattle.dimacs.specs.Words.{is_blank}
 use Rattle.dimacs.proofs.Runs.{run-stop, run_step, run_end_lem}

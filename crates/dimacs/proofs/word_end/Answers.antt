@@ -1,6 +1,5 @@
 -- `dimacs::word_end` meets its contract. The invariant: the run of word bytes from `at` ends where the run from i ends. Assumes nothing.
 use mathlib.Core.Path.{refl, sym, ◌∙◌}
-use Prim.Native.Nat.{◌-◌}
 use borrow.Author.Rules.{rules}
 use Rattle.dimacs.specs.Words.{is_word_byte}
 use Rattle.dimacs.proofs.Runs.{run-stop, run_step, run_end_lem, opposite-true, opposite-false}

@@ -1,5 +1,5 @@
 -- `keys::are_right` meets its contract. The invariant: the answer is that for the clauses from clause c on, and no mark is above c. Assumes nothing.
-use Rattle.std.proofs.Common.{◌≡◌, ℕ, ◌+◌, ◌-◌, ◌<◌, List, [], length, get_or, sym, refl, ◌∙◌, arith}
+use Rattle.std.proofs.Common.{◌≡◌, ℕ, ◌+◌, ◌<◌, List, [], length, get_or, sym, refl, ◌∙◌, arith}
 use Rattle.store.specs.Stores.{clauses_in, max_variables}
 use Rattle.store.proofs.Cuts.{clauses-count, clause-is}
 use Rattle.store.proofs.Within.{clause-good}

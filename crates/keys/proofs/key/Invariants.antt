@@ -1,5 +1,5 @@
 -- `keys::key` meets its contract. The invariant: the sum is the key of what the literals from i on are sent to, and that is marked. Assumes nothing.
-use Rattle.std.proofs.Common.{◌≡◌, ◌+◌, ◌-◌, ◌≤◌, length, drop}
+use Rattle.std.proofs.Common.{◌≡◌, ◌+◌, ◌≤◌, length, drop}
 use Rattle.keys.specs.Keys.{key_by}
 use Rattle.keys.specs.Marks.{Below, Marked, sent_clause}
 use Rattle.keys.proofs.key.Given as goal

@@ -1,5 +1,5 @@
 -- `keys::own_places` meets its contract. The invariant: the places before i are their own. Assumes nothing.
-use Rattle.std.proofs.Common.{ℕ, ◌-◌, sym, ◌∙◌, ⊎_elim, arith, length-set, get_or-set_other, get_or-set_same}
+use Rattle.std.proofs.Common.{ℕ, sym, ◌∙◌, ⊎_elim, arith, length-set, get_or-set_other, get_or-set_same}
 use lib.ListN.{length-replicate}
 use Rattle.lists.proofs.Cases.{eq-or-ne}
 use Rattle.numbers.specs.Numbers.{number_count}

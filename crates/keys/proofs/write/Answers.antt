@@ -1,5 +1,5 @@
 -- `keys::write` meets its contract. The invariant: the keys from clause c on, stored from c on, give what is to be written, and no mark is above c. Assumes nothing.
-use Rattle.std.proofs.Common.{◌≡◌, ℕ, ◌+◌, ◌-◌, ◌<◌, List, [], length, get_or, sym, refl, ap, ◌∙◌, arith, length-set, drop_of_length-le}
+use Rattle.std.proofs.Common.{◌≡◌, ℕ, ◌+◌, ◌<◌, List, [], length, get_or, sym, refl, ap, ◌∙◌, arith, length-set, drop_of_length-le}
 use lib.ListN.{length-map}
 use lib.Seq.{sets}
 use Rattle.lists.proofs.Members.{map_at}

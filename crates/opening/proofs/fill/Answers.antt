@@ -1,22 +1,16 @@
 -- `opening::fill` meets its contract. Each turn reads a number and stores it, so that what is still to be stored, stored from where the locals
 -- say, stays the answer; and the scan of what is left is still done, which bounds each store. Assumes nothing.
-use mathlib.Core.Path.{◌≡◌, refl, sym, ap, ◌∙◌}
-use Prim.Native.Nat.{ℕ, ◌-◌, ◌≤◌}
+use mathlib.Core.Path.{refl, sym, ap, ◌∙◌}
 use mathlib.Core.List.{List}
-use lib.ListN.{length, length-set}
+use lib.ListN.{length-set}
 use lib.Seq.{sets}
 use Rattle.dimacs.specs.Words.{Piece}
-use Rattle.comments.specs.Comments.{words_past, Between}
-use Rattle.store.specs.Stores.{max_variables, max_literals}
-use Rattle.opening.specs.Clauses.{scan_from, literals_in, ends_from}
-use Rattle.lists.specs.Writing.{overwritten}
-use Rattle.opening.specs.declared.Scanned.{Scanned}
+use Rattle.comments.specs.Comments.{words_past}
+use Rattle.opening.specs.Clauses.{literals_in, ends_from}
 use Rattle.opening.proofs.NextNumber.{NextNumber, body-found, body-missing}
 use Rattle.opening.proofs.DoneLaws.{counted, ZeroTurn, zero_turn, LiteralTurn, literal-turn, none_left}
 use Rattle.lists.proofs.Writing.{stored, sets-front}
 use native.Mathlib.Omega.{arith}
-use Rattle.opening.proofs.fill.Invariants.{Inv}
-use Rattle.opening.proofs.fill.Invariants.{Judged}
 use Rattle.opening.proofs.fill.Goals as goal
 use Rattle.opening.proofs.fill.Goals.{After-code, After-struct_known-else-number-eq0-1, Then-number-eq0}
 

@@ -1,7 +1,6 @@
 -- `opening::same_bytes` meets its contract. The invariant: the two have one length, and the bytes are the same if those from i on are.
 -- Assumes nothing.
 use mathlib.Core.Path.{refl, sym, ◌∙◌}
-use Prim.Native.Nat.{◌-◌}
 use Rattle.opening.proofs.SizeLaws.{same-lengths, same-miss, same-hit, same_end}
 use borrow.Author.Rules.{rules}
 use Rattle.opening.proofs.same_bytes.Goals as goal

@@ -1,7 +1,6 @@
 -- `opening::scan` meets its contract. Each turn judges one word, and the scan of the words from `at` on, from the locals, stays the answer.
 -- Assumes nothing.
 use mathlib.Core.Path.{refl, sym, ◌∙◌}
-use Prim.Native.Nat.{◌-◌}
 use Rattle.dimacs.proofs.WordLaws.{read-refused}
 use Rattle.comments.specs.Comments.{words_past}
 use Rattle.comments.proofs.Walk.{no_word, next_word}

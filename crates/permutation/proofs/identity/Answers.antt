@@ -1,6 +1,6 @@
 -- `permutation::identity` meets its contract. The invariant: the first i images are written, and the rest is as it was. Assumes nothing.
 use mathlib.Core.Path.{◌≡◌, refl}
-use Prim.Native.Nat.{suc, ◌-◌, ◌*◌}
+use Prim.Native.Nat.{suc, ◌*◌}
 use lib.ListN.{length-set}
 use Rattle.permutation.proofs.RowLaws.{table_none, table_more}
 use native.Mathlib.Omega.{arith}

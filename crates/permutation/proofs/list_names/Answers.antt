@@ -1,7 +1,7 @@
 -- `permutation::list_names` meets its contract. The invariant: the names before `at` are listed and marked, and the line's first bad name is the
 -- first from `at` on (`Listing`). Assumes nothing.
 use mathlib.Core.Path.{◌≡◌, sym, ◌∙◌}
-use Prim.Native.Nat.{◌-◌, ◌<◌}
+use Prim.Native.Nat.{◌<◌}
 use Rattle.dimacs.proofs.WordLaws.{piece_at, no_word}
 use Rattle.store.specs.Numerals.{code_in}
 use Rattle.permutation.specs.Lines.{is_name}

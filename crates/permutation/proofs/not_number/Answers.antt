@@ -1,7 +1,6 @@
 -- `permutation::not_number` meets its contract. The invariant: the line's first word that is no number is the first such word from `at` on.
 -- Assumes nothing.
 use mathlib.Core.Path.{refl, sym, ◌∙◌}
-use Prim.Native.Nat.{◌-◌}
 use Rattle.dimacs.proofs.WordLaws.{no_word}
 use Rattle.permutation.proofs.Walks.{Word, word_read, word-refused}
 use Rattle.permutation.proofs.Faults.{number-end, number-stray, number-on}

@@ -1,7 +1,7 @@
 -- `permutation::place_values` meets its contract. The invariant: each value before `at` has used a name and stands in the row, and the line's first
 -- bad value is the first from `at` on (`Using`). Assumes nothing.
 use mathlib.Core.Path.{◌≡◌, refl, sym, ◌∙◌}
-use Prim.Native.Nat.{ℕ, ◌-◌, ◌≤◌, ◌<◌}
+use Prim.Native.Nat.{ℕ, ◌≤◌, ◌<◌}
 use mathlib.Core.Bool.{true, false}
 use lib.ListN.{length, get_or, length-set}
 use borrow.Author.Tests.{not-true, not-false}

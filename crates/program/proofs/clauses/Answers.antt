@@ -15,7 +15,7 @@ slice_bounds-fill-end c = sym (length-take-le _ _ (omega (arith, c.requires.0.1.
 
 pub fill-filled-requires : goal.fill-filled-requires
 fill-filled-requires c =
-    (c.requires.0.0, c.requires.0.1, sym (slice_bounds-fill-end c))
+    (c.requires.0.0, c.requires.0.1, length-take-le _ _ (omega (arith, c.requires.0.1.rows.small)))
 
 abbrev S : After-next-1 → Store
 S c = lent c.args.counts c.args.literals.now c.args.ends.now c.args.images.now

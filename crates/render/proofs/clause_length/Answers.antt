@@ -1,6 +1,5 @@
 -- `render::clause_length` meets its contract. The invariant: n bytes for the line's end and the literals before i. Assumes nothing.
 use mathlib.Core.Path.{refl}
-use Prim.Native.Nat.{◌-◌}
 use Rattle.render.proofs.LineLaws.{measured-start, measured-more, measured-fits, measured-all}
 use native.Mathlib.Omega.{arith}
 use Rattle.render.proofs.clause_length.Goals as goal

@@ -1,6 +1,5 @@
 -- `render::put_clause` meets its contract. The invariant: the line from the literal i on is still to be written, from `next` on. Assumes nothing.
 use mathlib.Core.Path.{refl, ◌∙◌}
-use Prim.Native.Nat.{◌-◌}
 use Rattle.render.proofs.LineLaws.{line-start, word_room, line-more, end-room, line-last}
 use Rattle.render.proofs.put_clause.Goals as goal
 

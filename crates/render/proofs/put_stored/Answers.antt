@@ -1,6 +1,5 @@
 -- `render::put_stored` meets its contract. The invariant: the line from the literal i on is still to be written, from `next` on. Assumes nothing.
 use mathlib.Core.Path.{◌∙◌}
-use Prim.Native.Nat.{◌-◌}
 use Rattle.render.proofs.LineLaws.{line-start, word_room, line-more, end-room, line-last}
 use Rattle.render.proofs.put_stored.Goals as goal
 

@@ -1,5 +1,4 @@
 -- `render::stored_length` meets its contract. The invariant: n bytes for the line's end and the literals before i. Assumes nothing.
-use Prim.Native.Nat.{◌-◌}
 use Rattle.render.proofs.LineLaws.{measured-start, measured-more, measured-fits, measured-all}
 use native.Mathlib.Omega.{arith}
 use Rattle.render.proofs.stored_length.Goals as goal

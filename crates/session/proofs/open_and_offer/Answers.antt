@@ -14,7 +14,7 @@ slice_bounds-open-end c =
 pub returns-in-Refused : goal.returns-in-Refused
 returns-in-Refused c =
     let law = refused-opening _ _ _ c.args.images.now _ c.args.at c.requires _ c.new_record.ensures in
-    sym (law _ _ _ _ _ c.«open».ensures.0 c.«open».ensures.1 _ c.in-Refused.is)
+    sym (law _ _ _ _ _ c.open-opening.ensures.says c.open-opening.ensures.leaves _ c.in-Refused.is)
 
 pub overflow_add-line_end : goal.overflow_add-line_end
 overflow_add-line_end c =
@@ -24,4 +24,4 @@ pub returns : goal.returns
 returns c =
     let law = opened _ _ _ c.args.images.now _ c.args.at c.requires _ c.new_record.ensures in
     c.offer_lines.ensures
-    ∙ sym (law _ _ _ _ _ c.«open».ensures.0 c.«open».ensures.1 _ _ c.in_default.is _ (omega (arith, c.line_end.ensures)))
+    ∙ sym (law _ _ _ _ _ c.open-opening.ensures.says c.open-opening.ensures.leaves _ _ c.in_default.is _ (omega (arith, c.line_end.ensures)))

@@ -2,7 +2,7 @@
 use mathlib.Core.Path.{◌≡◌, refl, sym, ap, ◌∙◌}
 use mathlib.Core.Bool.{true}
 use mathlib.Core.List.{List, []}
-use Prim.Native.Nat.{ℕ, ◌+◌, ◌-◌, ◌<◌}
+use Prim.Native.Nat.{ℕ, ◌+◌, ◌<◌}
 use borrow.Author.Tests.{not-true, not-false}
 use lib.ListN.{length, get_or}
 use Rattle.lists.specs.Tests.{all_of, any_of}
@@ -166,17 +166,17 @@ loop-c-preserved c =
     let next : c.loop-c.c + 2 ≡ c.loop-c.c + 1 + 1 = omega arith in
     let below = rw next at c.key_at-key.ensures.below in
     elim c.if-not-has_image.branch [
-      then-not-has_image+else-not-has_opposites w ↦ (
-          λ row places good. c.loop-c.invariant.0 row places good
-              ∙ opposites-later _ _ _ c.loop-c.c _ h.1 h.0
-                  (sym (w.has_opposites.ensures ∙ found-opposites-at-Joined-not-has_image c _ w.clause.ensures row places good) ∙ not-false _ w.if-not-has_opposites.false-raw),
-          below,
-        )
+      | then-not-has_image+else-not-has_opposites w ↦ (
+        λ row places good. c.loop-c.invariant.0 row places good
+            ∙ opposites-later _ _ _ c.loop-c.c _ h.1 h.0
+            (sym (w.has_opposites.ensures ∙ found-opposites-at-Joined-not-has_image c _ w.clause.ensures row places good) ∙ not-false _ w.if-not-has_opposites.false-raw),
+        below,
+      )
       | else-not-has_image w ↦ (
-          λ row places good. c.loop-c.invariant.0 row places good
-              ∙ found-later _ _ _ c.loop-c.c _ h.1 h.0 (sym (found-image-at-Joined-not-has_image c row places good) ∙ not-false _ w.if-not-has_image.false-raw),
-          below,
-        )
+        λ row places good. c.loop-c.invariant.0 row places good
+            ∙ found-later _ _ _ c.loop-c.c _ h.1 h.0 (sym (found-image-at-Joined-not-has_image c row places good) ∙ not-false _ w.if-not-has_image.false-raw),
+        below,
+      )
     ]
 
 abbrev formula-at-After-loop-c : After-loop-c → List (List ℕ)

@@ -1,6 +1,6 @@
 -- `symmetry::has_image` meets its contract. The invariant: what is looked for is among the clauses if it is among those up to `number`, from 1. Assumes nothing.
 use mathlib.Core.List.{List}
-use Prim.Native.Nat.{ℕ, ◌-◌, ◌≤◌}
+use Prim.Native.Nat.{ℕ, ◌≤◌}
 use Rattle.store.specs.Stores.{clauses_in}
 use Rattle.symmetry.specs.Sought.{Sought}
 use Rattle.symmetry.proofs.Looking.{Looking}

@@ -1,6 +1,6 @@
 -- `trial::first_moved` meets its contract. The invariant: nothing before i is moved. Assumes nothing.
 use mathlib.Core.Path.{◌≡◌, refl, ◌∙◌}
-use Prim.Native.Nat.{◌+◌, ◌-◌, ◌*◌}
+use Prim.Native.Nat.{◌+◌, ◌*◌}
 use native.Mathlib.Omega.{arith}
 use lib.ListN.{get_or}
 use Rattle.lexleader.proofs.Moved.{moved-past, moved_here}

@@ -1,7 +1,7 @@
 -- `trial::try_row` meets its contract. The invariant: the pairs at index i and after it decide as all pairs do (`Trying`). Assumes nothing.
 use mathlib.Core.Path.{◌≡◌, ap, ◌∙◌}
 use mathlib.Core.List.{List, []}
-use Prim.Native.Nat.{ℕ, ◌+◌, ◌-◌}
+use Prim.Native.Nat.{ℕ, ◌+◌}
 use native.Mathlib.Omega.{arith}
 use Rattle.trial.specs.Spans.{moved_at, Covers}
 use Rattle.trial.proofs.PairLaws.{found-start, Trying, trying-on, trying-here, trying-none}

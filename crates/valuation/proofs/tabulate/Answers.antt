@@ -1,7 +1,6 @@
 -- `valuation::tabulate` meets its contract. The invariant: the table has the values of the literals whose variables are before i (`TableBegun`).
 -- Assumes nothing.
 use mathlib.Core.Path.{refl, ◌∙◌}
-use Prim.Native.Nat.{◌-◌}
 use native.Mathlib.Omega.{arith}
 use lib.ListN.{length-set}
 use Rattle.packed.proofs.Bits.{length-bits, value-is}

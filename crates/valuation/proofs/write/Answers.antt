@@ -1,6 +1,5 @@
 -- `valuation::write` meets its contract. The invariant: the writer holds the values of the first i variables. Assumes nothing.
 use mathlib.Core.Path.{◌≡◌}
-use Prim.Native.Nat.{◌-◌}
 use native.Mathlib.Omega.{arith}
 use Rattle.packed.specs.Words.{word_count}
 use Rattle.packed.proofs.Writing.{room_for}

@@ -1,7 +1,7 @@
 -- `lexleader::counting::added_by_rows` meets its contract. The invariant: all rows add what was summed and what the rows from r on add (`Summed`).
 -- Assumes nothing.
 use mathlib.Core.Path.{sym, subst, ◌∙◌}
-use Prim.Native.Nat.{◌+◌, ◌-◌}
+use Prim.Native.Nat.{◌+◌}
 use native.Mathlib.Omega.{arith}
 use Rattle.store.proofs.RowParts.{part_room, part-size, part-row}
 use Rattle.lexleader.proofs.Left.{Adds, Summed, summed-none, summed-more, summed-all}

@@ -1,5 +1,4 @@
 -- `lexleader::counting::pair_count` meets its contract. The invariant: those without a mark are those counted and those of index i and after it. Assumes nothing.
-use Prim.Native.Nat.{◌-◌}
 use native.Mathlib.Omega.{arith}
 use Rattle.lexleader.proofs.Marked.{unmarked-step, unmarked-end}
 use Rattle.lexleader.proofs.counting.pair_count.Goals as goal

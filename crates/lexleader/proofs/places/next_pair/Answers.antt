@@ -1,6 +1,5 @@
 -- `lexleader::places::next_pair` meets its contract. The invariant: every variable from `from` up to i has a mark. Assumes nothing.
 use mathlib.Core.Path.{refl, ◌∙◌}
-use Prim.Native.Nat.{◌-◌}
 use native.Mathlib.Omega.{arith}
 use borrow.Author.Rules.{rules}
 use borrow.Author.Tests.{not-true, not-false}

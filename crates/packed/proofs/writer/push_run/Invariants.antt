@@ -1,5 +1,4 @@
 -- `packed::writer::push_run` meets its contract. The invariant: the values left to take are `left` of them. Assumes nothing.
-use Prim.Native.Nat.{◌-◌}
 use lib.ListN.{replicate}
 use Rattle.packed.proofs.Runs.{WriterRun}
 use Rattle.packed.proofs.writer.push_run.Given as goal

@@ -1,6 +1,6 @@
 -- `store::form::ends_rise` meets its contract. The invariant: the ends rise if those up to i do, and those after it from that on. Assumes nothing.
 use mathlib.Core.Path.{sym, ◌∙◌}
-use Prim.Native.Nat.{◌+◌, ◌-◌}
+use Prim.Native.Nat.{◌+◌}
 use Rattle.store.proofs.FormLaws.{rising-first, rising_step, rising-end}
 use borrow.Author.Rules.{rules}
 use Rattle.store.proofs.form.ends_rise.Goals as goal

@@ -1,7 +1,7 @@
 -- `store::form::is_row` meets its contract. The invariant: the codes before i are literals of different variables, and `seen` marks these
 -- (`RowPassed`). Assumes nothing.
 use mathlib.Core.Path.{◌≡◌, sym, ap, ◌∙◌}
-use Prim.Native.Nat.{ℕ, ◌-◌, ◌<◌}
+use Prim.Native.Nat.{ℕ, ◌<◌}
 use mathlib.Core.Bool.{true}
 use lib.ListN.{get_or}
 use Rattle.store.specs.Literals.{variable_of, is_literal}

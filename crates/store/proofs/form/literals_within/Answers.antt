@@ -1,7 +1,6 @@
 -- `store::form::literals_within` meets its contract. The invariant: all are literals of 1..n if those before i are and those from i on. Assumes nothing.
 use mathlib.Core.Path.{refl, sym, ◌∙◌}
 use mathlib.Core.Bool.{and-true}
-use Prim.Native.Nat.{◌-◌}
 use Rattle.lists.proofs.Steps.{all-drop-step, all-drop-end}
 use Rattle.store.specs.Literals.{is_literal}
 use borrow.Author.Rules.{rules}

@@ -1,6 +1,5 @@
 -- `store::form::rows_formed` meets its contract. The invariant: all rows are permutations if those from row r on are. Assumes nothing.
 use mathlib.Core.Path.{◌≡◌, sym, ap, ◌∙◌}
-use Prim.Native.Nat.{◌-◌}
 use native.Mathlib.Omega.{arith}
 use borrow.Author.Tests.{not-true, not-false}
 use Rattle.lists.specs.Tests.{all_of}

@@ -1,6 +1,5 @@
 -- `store::rows::moves_nothing` meets its contract. The invariant: the row moves nothing exactly where nothing of index i and after it is moved. Assumes nothing.
 use mathlib.Core.Path.{refl, sym, ◌∙◌}
-use Prim.Native.Nat.{◌-◌}
 use native.Mathlib.Omega.{arith}
 use Rattle.store.proofs.Identity.{stays_here, moves-here, stays-end}
 use Rattle.store.proofs.rows.moves_nothing.Goals as goal

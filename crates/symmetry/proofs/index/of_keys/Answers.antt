@@ -1,6 +1,6 @@
 -- `symmetry::index::of_keys` meets its contract. The invariant: the index holds the clauses before c. Assumes nothing.
 use mathlib.Core.Path.{◌≡◌, refl, sym, ap, ◌∙◌}
-use Prim.Native.Nat.{ℕ, ◌-◌}
+use Prim.Native.Nat.{ℕ}
 use lib.ListN.{length, get_or, length-replicate}
 use Rattle.buckets.proofs.Index.{holds-none}
 use Rattle.symmetry.specs.Index.{bucket_count, clause_bucket}

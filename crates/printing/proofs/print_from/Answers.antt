@@ -1,6 +1,6 @@
 -- `printing::print_from` meets its contract. The invariant: what is left from the count on is what the stage has left; each page with bytes leaves less.
 -- Assumes nothing.
-use Rattle.std.proofs.Common.{refl, sym, ◌∙◌, arith}
+use Rattle.std.proofs.Common.{◌≡◌, refl, sym, ◌∙◌}
 use Rattle.program.proofs.ProgramLaws.{step_less}
 use Rattle.printing.proofs.PrintingLaws.{rest-whole, page-part, page-rest, all-handed}
 use Rattle.printing.proofs.print_from.Goals as goal

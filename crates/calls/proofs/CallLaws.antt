@@ -16,7 +16,7 @@ use Rattle.opening.specs.Opening.{body_of, formula_of, written}
 use Rattle.opening.specs.declared.Opened.{Opened}
 use Rattle.offering.specs.Offering.{row_for, offered_by, images_after}
 use Rattle.offering.specs.declared.Offered.{Offered}
-use Rattle.calls.specs.Calls.{Accepted, on_store, counts_opened, said_opened, opened_in, open_says, open_store, said_offered, offer_says, offer_store}
+use Rattle.calls.specs.Calls.{on_store, counts_opened, said_opened, opened_in, open_says, open_store, said_offered, offer_says, offer_store}
 use Rattle.calls.specs.Calls.{said_withdrawn, withdraw_says, withdraw_store}
 use Rattle.calls.specs.declared.Offering.{Offering}
 use Rattle.calls.specs.declared.Withdrawn.{Withdrawn}

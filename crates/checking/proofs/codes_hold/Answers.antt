@@ -1,6 +1,5 @@
 -- `checking::codes_hold` meets its contract. The invariant: the clause holds exactly when one of the literals from i on is true. Assumes nothing.
 use mathlib.Core.Path.{refl}
-use Prim.Native.Nat.{◌-◌}
 use native.Mathlib.Omega.{arith}
 use Rattle.lexleader.specs.Models.{clause_holds}
 use Rattle.checking.proofs.ClauseLaws.{variable-within, tried-true, tried-false, tried-all}

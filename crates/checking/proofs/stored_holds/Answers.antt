@@ -1,6 +1,5 @@
 -- `checking::stored_holds` meets its contract. The invariant: a literal is true exactly when one of those from i on is. Assumes nothing.
 use mathlib.Core.Path.{refl, sym, ◌∙◌}
-use Prim.Native.Nat.{◌-◌}
 use native.Mathlib.Omega.{arith}
 use Rattle.lists.proofs.Steps.{any-drop-hit, any-drop-miss, any-drop-end}
 use Rattle.valuation.specs.Tables.{by_code}

@@ -1,6 +1,5 @@
 -- `descent::copy` meets its contract. The invariant: the tables are the same but for the places from k up to `to`. Assumes nothing.
 use mathlib.Core.Path.{sym, ◌∙◌}
-use Prim.Native.Nat.{◌-◌}
 use native.Mathlib.Omega.{arith}
 use Rattle.descent.proofs.MoveLaws.{same_more, same-all}
 use Rattle.descent.proofs.copy.Goals as goal

@@ -1,6 +1,5 @@
 -- `descent::first_lowering` meets its contract. The invariant: a step by all rows is a step by row r and those after it. Assumes nothing.
 use mathlib.Core.Path.{◌≡◌, sym, ◌∙◌}
-use Prim.Native.Nat.{◌-◌}
 use native.Mathlib.Omega.{arith}
 use Rattle.store.specs.Stores.{row_at}
 use Rattle.store.proofs.RowLaws.{rows_at}

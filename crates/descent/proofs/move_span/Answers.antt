@@ -1,6 +1,6 @@
 -- `descent::move_span` meets its contract. The invariant: the variables of the span up to number i are moved in the second table, and no others. Assumes nothing.
 use mathlib.Core.Path.{◌≡◌, sym, ap, ◌∙◌}
-use Prim.Native.Nat.{◌-◌, ◌/◌, ◌≤◌, ◌<◌}
+use Prim.Native.Nat.{◌/◌, ◌≤◌, ◌<◌}
 use native.Mathlib.Omega.{arith}
 use lib.ListN.{length, get_or, length-set}
 use Rattle.store.proofs.Formed.{row_of}

@@ -1,7 +1,7 @@
 -- `descent::settle` meets its contract. The invariant: from the assignment of the table the descent comes to what it does from the one lent (`Reached`).
 -- Assumes nothing.
 use mathlib.Core.Path.{◌≡◌, refl, ◌∙◌}
-use Prim.Native.Nat.{◌-◌, ◌<◌}
+use Prim.Native.Nat.{◌<◌}
 use native.Mathlib.Omega.{arith}
 use lib.ListN.{length}
 use Rattle.store.specs.Stores.{row_at}

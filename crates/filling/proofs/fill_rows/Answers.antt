@@ -1,6 +1,6 @@
 -- `filling::fill_rows` meets its contract. The invariant: the values left to take are those of row r and of the rows after it. Assumes nothing.
 use mathlib.Core.Path.{sym, ◌∙◌}
-use Prim.Native.Nat.{ℕ, ◌+◌, ◌-◌}
+use Prim.Native.Nat.{ℕ, ◌+◌}
 use native.Mathlib.Omega.{arith}
 use lib.ListN.{length-append}
 use Rattle.packed.proofs.Runs.{run-start, run_more, run_end, run-size, run_room}

@@ -1,6 +1,6 @@
 -- `measure::added_figures` meets its contract. The invariant: all rows add what was added up and what the rows from r on add (`FiguresSummed`). Assumes nothing.
 use mathlib.Core.Path.{sym, ap, ◌∙◌}
-use Prim.Native.Nat.{◌+◌, ◌-◌}
+use Prim.Native.Nat.{◌+◌}
 use native.Mathlib.Omega.{arith}
 use Rattle.store.proofs.RowParts.{part_room, part-size, part-row}
 use Rattle.lexleader.proofs.Bounds.{auxiliaries-most}

@@ -1,5 +1,4 @@
 -- `measure::literal_bytes` meets its contract. The invariant: the bytes of all literals are those added up and those from index i on. Assumes nothing.
-use Prim.Native.Nat.{◌-◌}
 use native.Mathlib.Omega.{arith}
 use Rattle.lists.proofs.Sums.{sum_step, sum-end}
 use Rattle.lists.proofs.Members.{all-at}

@@ -1,9 +1,9 @@
 -- `measure::row_figures` meets its contract. Assumes nothing.
 use mathlib.Core.Path.{◌≡◌, ap}
-use Prim.Native.Nat.{◌+◌, ◌-◌, ◌*◌, ◌≤◌}
+use Prim.Native.Nat.{◌+◌, ◌*◌, ◌≤◌}
 use native.Mathlib.Omega.{arith}
 use Rattle.store.specs.Stores.{max_variables}
-use Rattle.lexleader.specs.Made.{row_clauses, auxiliaries}
+use Rattle.lexleader.specs.Made.{row_clauses}
 use Rattle.lexleader.proofs.Walk.{pairs-length}
 use Rattle.lexleader.proofs.Numbers.{row-most}
 use Rattle.lexleader.proofs.Bounds.{auxiliaries-most}

@@ -1,7 +1,6 @@
 -- `pages::fill` meets its contract. The invariant: what fills the buffer from its start is what fills it from `at` on with the clauses that are left, and the
 -- marks are those of the cursor's row. Assumes nothing.
 use mathlib.Core.Path.{refl, sym, ◌∙◌}
-use Prim.Native.Nat.{◌-◌}
 use native.Mathlib.Omega.{arith}
 use Rattle.pages.proofs.fill.Goals as goal
 

@@ -1,6 +1,5 @@
 -- `session::divider` meets its contract. The invariant: the first line that is just `%` is among those from `at` on. Assumes nothing.
 use mathlib.Core.Path.{refl, sym, ◌∙◌}
-use Prim.Native.Nat.{◌-◌}
 use native.Mathlib.Omega.{arith}
 use borrow.Author.Rules.{rules}
 use Rattle.dimacs.specs.Lines.{is_line_byte}

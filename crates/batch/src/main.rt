@@ -4,39 +4,38 @@
 
 use dimacs::Reading;
 use printing::Handed;
+use std::io;
 use stdio::Input;
 
-fn main() {
+fn main(rt: HostRuntime) -> io::Result<()> {
     let mut data = [0u8; 65536];
-    let Input::Bytes(read) = stdio::read(&mut data) else {
-        return;
+    let Input::Bytes(read) = stdio::read(rt.stdin(), &mut data) else {
+        return Ok(());
     };
-    inputs(&data[..read]);
+    inputs(&rt, &data[..read])
 }
 
-fn inputs(data: &[u8]) {
+fn inputs(rt: &HostRuntime, data: &[u8]) -> io::Result<()> {
     let mut at = 0;
-    let mut count = 0;
+    let mut count: u64 = 0;
     loop {
         let Reading::Found(size, past) = dimacs::read(data, at) else {
-            return;
+            return Ok(());
         };
         let from = past.at + 1;
         let to = from + size.size as usize;
         if data.len() < to {
-            return;
+            return Ok(());
         }
         count += 1;
-        heading(count);
-        let Handed::Bytes(_) = printing::print(&data[from..to]) else {
-            return;
+        heading(rt, count)?;
+        let Handed::Bytes(_) = printing::print(rt.stdout(), &data[from..to]) else {
+            return Ok(());
         };
         at = to;
     }
 }
 
-fn heading(count: u64) {
-    io::write_all(1, b"input ");
-    io::print_decimal(1, count);
-    io::write_all(1, b"\n");
+fn heading(rt: &HostRuntime, count: u64) -> io::Result<()> {
+    println!(rt; "input {count}")
 }

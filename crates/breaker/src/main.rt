@@ -5,14 +5,14 @@
 use printing::Handed;
 use stdio::Input;
 
-fn main() {
+fn main(rt: HostRuntime) {
     let mut input = [0u8; session::MAX_INPUT + 1];
-    let Input::Bytes(read) = stdio::read(&mut input) else {
-        stdio::complain(b"breaker: reading failed\n");
+    let Input::Bytes(read) = stdio::read(rt.stdin(), &mut input) else {
+        stdio::complain(rt.stderr(), b"breaker: reading failed\n");
         return;
     };
-    let Handed::Bytes(_) = printing::print(&input[..read]) else {
-        stdio::complain(b"breaker: writing failed\n");
+    let Handed::Bytes(_) = printing::print(rt.stdout(), &input[..read]) else {
+        stdio::complain(rt.stderr(), b"breaker: writing failed\n");
         return;
     };
 }

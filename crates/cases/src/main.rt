@@ -4,22 +4,23 @@
 
 use offering::Offered;
 use opening::Opened;
+use std::io;
 use store::answer::Answer;
 use store::record::Record;
 
-fn main() {
-    opened(b"512 variables: ", b"p cnf 512 0");
-    opened(b"513 variables: ", b"p cnf 513 0");
-    opened(b"nothing at all: ", b"p cnf 0 0");
-    opened(b"minus zero: ", b"p cnf 1 1\n-0 0\n");
-    rows();
-    comments();
-    no_comments();
-    digraphs();
-    relations();
+fn main(rt: HostRuntime) -> io::Result<()> {
+    opened(&rt, "512 variables", b"p cnf 512 0")?;
+    opened(&rt, "513 variables", b"p cnf 513 0")?;
+    opened(&rt, "nothing at all", b"p cnf 0 0")?;
+    opened(&rt, "minus zero", b"p cnf 1 1\n-0 0\n")?;
+    rows(&rt)?;
+    comments(&rt)?;
+    no_comments(&rt)?;
+    digraphs(&rt)?;
+    relations(&rt)
 }
 
-fn opened(name: &[u8], text: &[u8]) {
+fn opened(rt: &HostRuntime, name: &str, text: &[u8]) -> io::Result<()> {
     let mut literals = [0u16; 8];
     let mut ends = [0u16; 8];
     let mut keys = [0u64; 8];
@@ -32,13 +33,13 @@ fn opened(name: &[u8], text: &[u8]) {
     );
     let answer = r.answer;
     match answer {
-        Opened::Open(_, _) => show(name, 0, 0),
-        Opened::Refused(refusal) => show(name, refusal.number(), refusal.place()),
+        Opened::Open(_, _) => show(rt, name, 0, 0),
+        Opened::Refused(refusal) => show(rt, name, refusal.number(), refusal.place()),
     }
 }
 
 // An idle line is turned back, and 64 rows are held.
-fn rows() {
+fn rows(rt: &HostRuntime) -> io::Result<()> {
     let mut literals = [0u16; 8];
     let mut ends = [0u16; 8];
     let mut keys = [0u64; 8];
@@ -51,27 +52,37 @@ fn rows() {
         &mut keys,
     );
     let none = offered(
-        b"an idle line: ",
+        rt,
+        "an idle line",
         r.counts,
         &literals,
         &ends,
         &keys,
         &mut images,
         b"1 2",
-    );
+    )?;
     last_rows(
+        rt,
         offers(none, 63, &literals, &ends, &keys, &mut images),
         &literals,
         &ends,
         &keys,
         &mut images,
-    );
+    )
 }
 
 // Row 64 is held, the next is 22.
-fn last_rows(counts: Record, literals: &[u16], ends: &[u16], keys: &[u64], images: &mut [u16]) {
-    let full = offered(b"row 64: ", counts, literals, ends, keys, images, b"2 1");
-    held(offered(b"row 65: ", full, literals, ends, keys, images, b"2 1"));
+fn last_rows(
+    rt: &HostRuntime,
+    counts: Record,
+    literals: &[u16],
+    ends: &[u16],
+    keys: &[u64],
+    images: &mut [u16],
+) -> io::Result<()> {
+    let full = offered(rt, "row 64", counts, literals, ends, keys, images, b"2 1")?;
+    let over = offered(rt, "row 65", full, literals, ends, keys, images, b"2 1")?;
+    held(rt, over)
 }
 
 // The record after some offers of the same exchange.
@@ -84,86 +95,84 @@ fn offers(
     images: &mut [u16],
 ) -> Record {
     let mut after = counts;
-    let mut i = 0;
-    while i < some {
+    for _ in 0..some {
         let r = calls::offer(after, literals, ends, keys, images, b"1 2", b"2 1");
         after = r.counts;
-        i += 1;
     }
     after
 }
 
 fn offered(
-    name: &[u8],
+    rt: &HostRuntime,
+    name: &str,
     counts: Record,
     literals: &[u16],
     ends: &[u16],
     keys: &[u64],
     images: &mut [u16],
     values: &[u8],
-) -> Record {
+) -> io::Result<Record> {
     let r = calls::offer(counts, literals, ends, keys, images, b"1 2", values);
     let answer = r.answer;
     match answer {
-        Offered::Accepted => show(name, 0, 0),
-        Offered::Refused(refusal) => show(name, refusal.number(), refusal.place()),
+        Offered::Accepted => show(rt, name, 0, 0)?,
+        Offered::Refused(refusal) => show(rt, name, refusal.number(), refusal.place())?,
     }
-    r.counts
+    Ok(r.counts)
 }
 
-fn held(counts: Record) {
-    io::write_all(1, b"rows: ");
-    io::print_decimal(1, counts.rows as u64);
-    io::write_all(1, b"\n");
+fn held(rt: &HostRuntime, counts: Record) -> io::Result<()> {
+    let rows = counts.rows;
+    println!(rt; "rows: {rows}")
 }
 
-fn show(name: &[u8], refusal: u32, place: usize) {
-    io::write_all(1, name);
-    io::print_decimal(1, refusal as u64);
-    io::write_all(1, b" ");
-    io::print_decimal(1, place as u64);
-    io::write_all(1, b"\n");
+fn show(rt: &HostRuntime, name: &str, refusal: u32, place: usize) -> io::Result<()> {
+    println!(rt; "{name}: {refusal} {place}")
 }
 
 // Comment lines after the problem line are skipped, wherever they stand.
-fn comments() {
-    opened(b"inside a clause: ", b"p cnf 2 1\n1\nc 0\n2 0\n");
-    opened(b"between clauses: ", b"p cnf 2 2\n1 0\nc x\n2 0\n");
-    opened(b"after the problem line: ", b"p cnf 1 1\nc x\n1 0\n");
-    opened(b"as the last line: ", b"p cnf 1 1\n1 0\nc x\n");
-    opened(b"without a line feed: ", b"p cnf 1 1\n1 0\nc");
-    opened(b"after no clauses: ", b"p cnf 0 0\ncnf 3 2\n");
+fn comments(rt: &HostRuntime) -> io::Result<()> {
+    opened(rt, "inside a clause", b"p cnf 2 1\n1\nc 0\n2 0\n")?;
+    opened(rt, "between clauses", b"p cnf 2 2\n1 0\nc x\n2 0\n")?;
+    opened(rt, "after the problem line", b"p cnf 1 1\nc x\n1 0\n")?;
+    opened(rt, "as the last line", b"p cnf 1 1\n1 0\nc x\n")?;
+    opened(rt, "without a line feed", b"p cnf 1 1\n1 0\nc")?;
+    opened(rt, "after no clauses", b"p cnf 0 0\ncnf 3 2\n")
 }
 
 // What is no comment is refused at its place, comments before it counted.
-fn no_comments() {
-    opened(b"a blank first: ", b"p cnf 1 1\n c x\n1 0\n");
-    opened(b"a blank first, last: ", b"p cnf 1 1\n1 0\n c x\n");
-    opened(b"inside a line: ", b"p cnf 1 1\n1 c\n0\n");
-    opened(b"comments alone: ", b"p cnf 1 1\nc x\nc\n");
-    opened(b"after a comment: ", b"p cnf 1 1\nc x\n2 0\n");
+fn no_comments(rt: &HostRuntime) -> io::Result<()> {
+    opened(rt, "a blank first", b"p cnf 1 1\n c x\n1 0\n")?;
+    opened(rt, "a blank first, last", b"p cnf 1 1\n1 0\n c x\n")?;
+    opened(rt, "inside a line", b"p cnf 1 1\n1 c\n0\n")?;
+    opened(rt, "comments alone", b"p cnf 1 1\nc x\nc\n")?;
+    opened(rt, "after a comment", b"p cnf 1 1\nc x\n2 0\n")
 }
 
 // Table 2, acyclic digraphs. n = 6 is left out: its labelled lacks a digit.
-fn digraphs() {
-    figured(b"digraphs, n = 3, 89.47%: ", 25, 6, 8);
-    figured(b"digraphs, n = 4, 93.55%: ", 543, 31, 64);
-    figured(b"digraphs, n = 5, 97.51%: ", 29281, 302, 1024);
-    figured(b"digraphs, n = 7, 99.84%: ", 1138779265, 243668, 2097152);
+fn digraphs(rt: &HostRuntime) -> io::Result<()> {
+    figured(rt, "digraphs, n = 3, 89.47%", 25, 6, 8)?;
+    figured(rt, "digraphs, n = 4, 93.55%", 543, 31, 64)?;
+    figured(rt, "digraphs, n = 5, 97.51%", 29281, 302, 1024)?;
+    figured(rt, "digraphs, n = 7, 99.84%", 1138779265, 243668, 2097152)
 }
 
 // Table 3. n = 11 and n = 12 are left out: their counts give other figures than are printed.
-fn relations() {
-    figured(b"relations, n = 8, 99.26%: ", 102528, 303, 1057);
-    figured(b"relations, n = 9, 99.80%: ", 1327360, 1119, 3828);
-    figured(b"relations, n = 10, 99.94%: ", 52494848, 5479, 38160);
+fn relations(rt: &HostRuntime) -> io::Result<()> {
+    figured(rt, "relations, n = 8, 99.26%", 102528, 303, 1057)?;
+    figured(rt, "relations, n = 9, 99.80%", 1327360, 1119, 3828)?;
+    figured(rt, "relations, n = 10, 99.94%", 52494848, 5479, 38160)
 }
 
-fn figured(name: &[u8], labelled: u64, unlabelled: u64, allowed: u64) {
+fn figured(
+    rt: &HostRuntime,
+    name: &str,
+    labelled: u64,
+    unlabelled: u64,
+    allowed: u64,
+) -> io::Result<()> {
     let Answer::Value(figure) = calls::efficiency(labelled, unlabelled, allowed) else {
-        return;
+        return Ok(());
     };
-    io::write_all(1, name);
-    io::print_decimal(1, figure);
-    io::write_all(1, b"\n");
+    println!(rt; "{name}: {figure}")
 }

@@ -10,6 +10,7 @@ ghost use Rattle.program.specs.Program.{output_of, fresh_store, max_output, left
 ghost use Rattle.printing.specs.Handed.{handed_after};
 
 use program::Stage;
+use std::io::Stdout;
 use stdio::Output;
 use store::record::Record;
 
@@ -24,7 +25,7 @@ pub enum Handed {
 }
 
 // Hands over what the program prints for an input: all of it, or a write failed.
-pub fn print(input: &[u8]) -> Handed
+pub fn print(stdout: Stdout, input: &[u8]) -> Handed
     ensures { (bytes : ℕ) → result ≡ Handed.Bytes bytes → bytes ≡ length (output_of fresh_store input.now) }
 {
     let mut literals = [0u16; Record::MAX_LITERALS];
@@ -35,11 +36,14 @@ pub fn print(input: &[u8]) -> Handed
     let begun = program::begin(input, &mut literals, &mut ends, &mut keys, &mut images);
     let stage = begun.stage;
     let counts = begun.counts;
-    print_from(input, stage, counts, &literals, &ends, &images, &mut out)
+    print_from(
+        stdout, input, stage, counts, &literals, &ends, &images, &mut out,
+    )
 }
 
 // Hands over page after page from the first stage on, until a page has no bytes or a write fails.
 fn print_from(
+    stdout: Stdout,
     input: &[u8],
     first: Stage,
     counts: Record,
@@ -61,7 +65,7 @@ fn print_from(
         if bytes == 0 {
             return Handed::Bytes(handed);
         }
-        let Handed::Bytes(count) = hand_over(input, handed, &out[..bytes]) else {
+        let Handed::Bytes(count) = hand_over(stdout, input, handed, &out[..bytes]) else {
             return Handed::Failed;
         };
         handed = count;
@@ -70,11 +74,11 @@ fn print_from(
 }
 
 // Hands over a page, which is the part of the input's output that starts where the pages before it end.
-fn hand_over(input: &[u8], handed: usize, page: &[u8]) -> Handed
+fn hand_over(stdout: Stdout, input: &[u8], handed: usize, page: &[u8]) -> Handed
     requires { PartAt (output_of fresh_store input.now) handed page.now }
     ensures { (bytes : ℕ) → result ≡ Handed.Bytes bytes → bytes ≡ handed + length page.now }
 {
-    counted(handed, stdio::write(page))
+    counted(handed, stdio::write(stdout, page))
 }
 
 fn counted(handed: usize, answer: Output) -> Handed

@@ -4,6 +4,9 @@
 
 ghost use Rattle.std.specs.Prelude.{◌≡◌, cond, ℕ, ◌+◌, ◌^◌, ◌≤◌, ◌<◌, nat_abs, length};
 ghost use Rattle.stdio.specs.Answers.{read_on};
+ghost use Rattle.stdio.specs.Room.{Moved};
+
+use std::io::{Print, Read, Stderr, Stdin, Stdout};
 
 // What the whole input came to: so many bytes at the start of a buffer, or a read that failed.
 #[derive(Clone, Copy)]
@@ -27,12 +30,12 @@ pub enum Reading {
 }
 
 // Reads standard input into a buffer, to the end of the input or until the buffer is full.
-pub fn read(buffer: &mut [u8]) -> Input
+pub fn read(mut stdin: Stdin, buffer: &mut [u8]) -> Input
     ensures { (bytes : ℕ) → result ≡ Input.Bytes bytes → bytes ≤ length buffer.new }
 {
     let mut done = 0;
     while done < buffer.len() {
-        let got = libc::read(libc::STDIN_FILENO, &mut buffer[done..]);
+        let got = answered(&mut stdin, &mut buffer[done..]);
         match read_on(done, got) {
             Reading::More(count) => done = count,
             Reading::Over(input) => return input,
@@ -42,15 +45,26 @@ pub fn read(buffer: &mut [u8]) -> Input
 }
 
 // Hands bytes to standard output. Where a write fails, some of them may have been taken, from the first on.
-pub fn write(bytes: &[u8]) -> Output
+pub fn write(stdout: Stdout, bytes: &[u8]) -> Output
     ensures { (count : ℕ) → result ≡ Output.Bytes count → count ≡ length bytes.now }
 {
-    write_answer(bytes.len(), io::write_all(libc::STDOUT_FILENO, bytes))
+    let all = Print::write_all(&stdout, bytes).is_ok();
+    write_answer(bytes.len(), all)
 }
 
 // Hands a line to standard error.
-pub fn complain(line: &[u8]) {
-    io::write_all(libc::STDERR_FILENO, line);
+pub fn complain(stderr: Stderr, line: &[u8]) {
+    let _ = Print::write_all(&stderr, line);
+}
+
+// One read of the system: -1 where it failed, else how many bytes it put at the start of the buffer, 0 at the end of the input.
+fn answered(stdin: &mut Stdin, buffer: &mut [u8]) -> isize
+    ensures { Moved (length buffer.new) result }
+{
+    match stdin.read(buffer) {
+        Ok(count) => count as isize,
+        Err(_) => -1,
+    }
 }
 
 // The answer of a read is -1 where it failed, and 0 at the end of the input.

@@ -4,53 +4,51 @@
 
 ghost use Rattle.std.specs.Prelude.{◌<◌};
 
+use std::io;
 use trial::Trial;
 
-fn main() {
-    tried(b"nothing moved\n", &[2, 4, 6, 8, 10, 12]);
-    tried(b"1 and 2 exchanged\n", &[4, 2, 6, 8, 10, 12]);
-    tried(b"2 and 5 exchanged\n", &[2, 10, 6, 8, 4, 12]);
-    tried(b"5 and 6 exchanged\n", &[2, 4, 6, 8, 12, 10]);
-    tried(b"1 to 3, 3 to 6, 6 to 1\n", &[6, 4, 12, 8, 10, 2]);
-    tried(b"1 to 6, 6 to 3, 3 to 1\n", &[12, 4, 2, 8, 10, 6]);
-    tried(b"turned round\n", &[12, 10, 8, 6, 4, 2]);
-    tried(b"all to the next\n", &[4, 6, 8, 10, 12, 2]);
-    tried(b"3 to -3\n", &[2, 4, 7, 8, 10, 12]);
-    tried(b"1 to 4, 4 to -1\n", &[8, 4, 6, 3, 10, 12]);
-    tried(b"2 to -6, 6 to -2\n", &[2, 13, 6, 8, 10, 5]);
+fn main(rt: HostRuntime) -> io::Result<()> {
+    tried(&rt, "nothing moved", &[2, 4, 6, 8, 10, 12])?;
+    tried(&rt, "1 and 2 exchanged", &[4, 2, 6, 8, 10, 12])?;
+    tried(&rt, "2 and 5 exchanged", &[2, 10, 6, 8, 4, 12])?;
+    tried(&rt, "5 and 6 exchanged", &[2, 4, 6, 8, 12, 10])?;
+    tried(&rt, "1 to 3, 3 to 6, 6 to 1", &[6, 4, 12, 8, 10, 2])?;
+    tried(&rt, "1 to 6, 6 to 3, 3 to 1", &[12, 4, 2, 8, 10, 6])?;
+    tried(&rt, "turned round", &[12, 10, 8, 6, 4, 2])?;
+    tried(&rt, "all to the next", &[4, 6, 8, 10, 12, 2])?;
+    tried(&rt, "3 to -3", &[2, 4, 7, 8, 10, 12])?;
+    tried(&rt, "1 to 4, 4 to -1", &[8, 4, 6, 3, 10, 12])?;
+    tried(&rt, "2 to -6, 6 to -2", &[2, 13, 6, 8, 10, 5])?;
     tried(
-        b"1 to -2, 2 to -3, 3 to -1, 5 to -5\n",
+        &rt,
+        "1 to -2, 2 to -3, 3 to -1, 5 to -5",
         &[5, 7, 3, 8, 11, 12],
-    );
-    tried(b"all negated\n", &[3, 5, 7, 9, 11, 13]);
+    )?;
+    tried(&rt, "all negated", &[3, 5, 7, 9, 11, 13])
 }
 
-fn tried(name: &[u8], row: &[u16]) {
-    io::write_all(1, name);
-    let mut a: u64 = 0;
-    while a < 64 {
-        show(row, a);
-        a += 1;
+fn tried(rt: &HostRuntime, name: &str, row: &[u16]) -> io::Result<()> {
+    println!(rt; "{name}")?;
+    for a in 0..64 {
+        show(rt, row, a)?;
     }
+    Ok(())
 }
 
-fn show(row: &[u16], a: u64)
+fn show(rt: &HostRuntime, row: &[u16], a: u64) -> io::Result<()>
     requires { a < 64 }
 {
     if !store::form::is_row(row, 6) {
-        return;
+        return Ok(());
     }
     let word = [a << 58];
     let mut values = [false; valuation::TABLE];
     valuation::tabulate(&word, 6, &mut values);
-    line(a, trial::try_row(row, trial::span_of(row), &values));
+    line(rt, a, trial::try_row(row, trial::span_of(row), &values))
 }
 
-fn line(a: u64, found: Trial) {
-    io::print_decimal(1, a);
-    io::write_all(1, b" ");
-    io::print_decimal(1, found.lowers as u64);
-    io::write_all(1, b" ");
-    io::print_decimal(1, found.variable as u64);
-    io::write_all(1, b"\n");
+fn line(rt: &HostRuntime, a: u64, found: Trial) -> io::Result<()> {
+    let lowers = found.lowers as u64;
+    let variable = found.variable;
+    println!(rt; "{a} {lowers} {variable}")
 }

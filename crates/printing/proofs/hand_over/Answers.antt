@@ -1,15 +1,9 @@
 -- `printing::hand_over` meets its contract: the page lies within the output, whose length has a bound, so the count does not wrap. Assumes nothing.
-use mathlib.Core.Path.{sym, ◌∙◌}
-use native.Mathlib.Omega.{arith}
+use Rattle.std.proofs.Common.{arith}
 use Rattle.program.specs.Program.{fresh_store}
 use Rattle.program.proofs.OutputLength.{output-length}
-use Rattle.printing.proofs.PrintingLaws.{counted-after}
 use Rattle.printing.proofs.hand_over.Goals as goal
 
 pub counted-requires : goal.counted-requires
 counted-requires c = λ count e.
     omega (arith, c.write.ensures count e, c.requires.within, output-length fresh_store c.args.input.now)
-
-pub returns : goal.returns
-returns c = λ bytes e.
-    counted-after _ bytes c.write.result (sym c.counted.ensures ∙ e) _ c.write.ensures

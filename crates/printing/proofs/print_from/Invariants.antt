@@ -7,11 +7,11 @@ use Rattle.program.specs.Program.{output_of, fresh_store, left_to_print, StageSt
 use Rattle.printing.proofs.PrintingLaws.{RestAt}
 use Rattle.printing.proofs.print_from.Given as goal
 
-abbrev pub invariant-loop-counts : goal.invariant-loop-counts
-invariant-loop-counts l =
+abbrev pub invariant-loop-stdout : goal.invariant-loop-stdout
+invariant-loop-stdout l =
     StageStands l.stage (lent l.counts l.literals l.ends l.images)
     × (length l.out ≡ length l.initial.out)
     × RestAt (output_of fresh_store l.input) l.handed (left_to_print l.stage (lent l.counts l.literals l.ends l.images))
 
-abbrev pub decreases-loop-counts : goal.decreases-loop-counts
-decreases-loop-counts l = length (left_to_print l.stage (lent l.counts l.literals l.ends l.images))
+abbrev pub decreases-loop-stdout : goal.decreases-loop-stdout
+decreases-loop-stdout l = length (left_to_print l.stage (lent l.counts l.literals l.ends l.images))

@@ -1,7 +1,5 @@
 -- `stdio::read` meets its contract. The invariant: what is read so far lies within the buffer, whose length stays. Assumes nothing.
-use mathlib.Core.Path.{◌≡◌}
-use Prim.Native.Nat.{◌-◌, ◌≤◌}
-use lib.ListN.{length}
+use Rattle.std.proofs.Common.{◌≡◌, ◌-◌, ◌≤◌, length}
 use Rattle.stdio.proofs.read.Given as goal
 
 abbrev pub invariant-loop-done : goal.invariant-loop-done

@@ -1,8 +1,0 @@
--- `stdio::write_answer` meets its contract. Assumes nothing.
-use Rattle.stdio.proofs.write_answer.Goals as goal
-
-pub returns-then-all : goal.returns-then-all
-returns-then-all c = rw c.if-all.true
-
-pub returns : goal.returns
-returns c = rw c.if-all.false

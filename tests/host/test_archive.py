@@ -15,8 +15,8 @@ INCLUDE = os.path.join(library.ROOT, "include")
 OUTSIDE = {"memcpy", "memset"}
 
 
-# how a frame of more than eight pages is taken: in a loop that touches each page, down to an address in r11
-PAGE_BY_PAGE = r"\tmov +%rsp,%r11\n.*\tsub +\$(0x[0-9a-f]+),%r11\n.*\tsub +\$0x1000,%rsp\n.*\tmovq +\$0x0,\(%rsp\)\n.*\tcmp +%r11,%rsp\n.*\tjne .*\n"
+# how a large frame is taken: in a loop that touches each page, by steps of a page or of three quarters of one, down to an address in r11
+PAGE_BY_PAGE = r"\tmov +%rsp,%r11\n.*\tsub +\$(0x[0-9a-f]+),%r11\n.*\tsub +\$0x(?:1000|c00),%rsp\n.*\tmovq +\$0x0,\(%rsp\)\n.*\tcmp +%r11,%rsp\n.*\tjne .*\n"
 
 
 def output(*command):

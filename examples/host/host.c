@@ -58,21 +58,26 @@ static void take_marks(text rest)
     printf("permutations: %" PRIu64 " offered, %" PRIu64 " withdrawn, %" PRIu64 " held\n", offered, withdrawn, record.rows);
 }
 
-/* Writes the made formula, into a file that is reserved before the first line, and gives N, the count of its variables. */
+/* Writes the made formula and gives N, the count of its variables. */
 static uint64_t write_made(const char *path)
 {
     static uint8_t line[SYMBREAK_MAX_LINE]; /* one clause may hold all literals */
-    symbreak_sizes made = symbreak_figures(STORE);
-    if (refused("figures", made.refusal, made.place))
-        exit(EXIT_FAILURE);
-    FILE *file = reserve_file(path, made.bytes);
-    fwrite(line, 1, value("header", symbreak_header(STORE, SLICE(line))), file);
-    for (uint64_t q = 1; q <= made.clauses; q++)
+    uint64_t variables, clauses;
+    FILE *file = fopen(path, "wb");
+    if (!file)
+        fail("can't write", path);
+    uint64_t length = value("header", symbreak_header(STORE, SLICE(line)));
+    fwrite(line, 1, length, file);
+    line[length] = 0; /* the library ends no line with a zero byte */
+    if (sscanf((char *)line, "p cnf %" SCNu64 " %" SCNu64, &variables, &clauses) != 2)
+        fail("no header in", path);
+    for (uint64_t q = 1; q <= clauses; q++)
         fwrite(line, 1, value("clause", symbreak_clause(STORE, q, SLICE(line))), file);
-    close_file(file, path);
-    printf("made formula: %" PRIu64 " variables, %" PRIu64 " clauses, %" PRIu64 " literals, %" PRIu64 " bytes\n", made.variables, made.clauses,
-           made.literals, made.bytes);
-    return made.variables;
+    int unwritten = ferror(file);
+    if (fclose(file) || unwritten)
+        fail("can't write", path);
+    printf("made formula: %" PRIu64 " variables, %" PRIu64 " clauses\n", variables, clauses);
+    return variables;
 }
 
 /* Takes a model, of the plain formula or the made one, down to a kept plain model and prints that as the layout. */

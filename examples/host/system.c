@@ -1,9 +1,9 @@
 #define _POSIX_C_SOURCE 200809L
 #include "system.h"
 
-#include <errno.h>
 #include <fcntl.h>
 #include <spawn.h>
+#include <stdio.h>
 #include <stdlib.h>
 #include <string.h>
 #include <sys/wait.h>
@@ -43,27 +43,6 @@ int cut_line(text *rest, text *line)
     size_t cut = line->length + (feed != NULL);
     *rest = (text){rest->bytes + cut, rest->length - cut};
     return 1;
-}
-
-FILE *reserve_file(const char *path, uint64_t bytes)
-{
-    int made = open(path, O_WRONLY | O_CREAT | O_TRUNC, 0666);
-    if (made < 0)
-        fail("can't write", path);
-    int unreserved = posix_fallocate(made, 0, (off_t)bytes);
-    if (unreserved && unreserved != ENODEV && unreserved != ESPIPE) /* a device or a pipe needs no room */
-        fail("no room for", path);
-    FILE *file = fdopen(made, "wb");
-    if (!file)
-        fail("can't write", path);
-    return file;
-}
-
-void close_file(FILE *file, const char *path)
-{
-    int unwritten = ferror(file);
-    if (fclose(file) || unwritten)
-        fail("can't write", path);
 }
 
 enum { MOST_FILES = 4 };

@@ -4,7 +4,6 @@
 
 #include <stddef.h>
 #include <stdint.h>
-#include <stdio.h>
 
 typedef struct {
     uint8_t *bytes;
@@ -17,10 +16,6 @@ text read_file(const char *path);
 
 /* Cuts the first line off the rest. A last line feed starts no further line. */
 int cut_line(text *rest, text *line);
-
-/* A file to write that has room for so many bytes, and its end, where all are written. */
-FILE *reserve_file(const char *path, uint64_t bytes);
-void close_file(FILE *file, const char *path);
 
 /* The path of a file in /tmp that is removed at the end. */
 const char *temporary(void);

@@ -68,14 +68,14 @@ pub length-bits : (n : ℕ) (ws : List ℕ) → length (bits_of n ws) ≡ n
 unfolding bits_of
 length-bits n ws = length-table n (bit_at ws)
 
-pub get_d_bits : (n : ℕ) (ws : List ℕ) (j : ℕ) → j < n → get_or (bits_of n ws) j false ≡ bit_at ws j
+pub get_or-bits : (n : ℕ) (ws : List ℕ) (j : ℕ) → j < n → get_or (bits_of n ws) j false ≡ bit_at ws j
 unfolding bits_of
-get_d_bits n ws j h = get_or-table n (bit_at ws) j false h
+get_or-bits n ws j h = get_or-table n (bit_at ws) j false h
 
 -- the value of variable i
 pub value-is : (n : ℕ) (ws : List ℕ) (i : ℕ) → 1 ≤ i → i ≤ n → bit_at ws (i - 1) ≡ value_of (bits_of n ws) i
-value-is n ws i low high = sym (get_d_bits n ws (i - 1) (omega arith))
+value-is n ws i low high = sym (get_or-bits n ws (i - 1) (omega arith))
 
 -- the bit of a word in all the bits of a list
 pub all_bits-in : (ws : List ℕ) (i p : ℕ) → i < length ws → p < 64 → get_or (all_bits ws) (i * 64 + p) false ≡ bit_in (get_or ws i 0) p
-all_bits-in ws i p l h = get_d_bits (64 * length ws) ws (i * 64 + p) (omega arith) ∙ bit_at-in ws i p h
+all_bits-in ws i p l h = get_or-bits (64 * length ws) ws (i * 64 + p) (omega arith) ∙ bit_at-in ws i p h

@@ -15,7 +15,7 @@ use Rattle.lists.specs.Tests.{all_of}
 use Rattle.lists.proofs.Cases.{and_l, and_r, and_both, bool-ext}
 use Rattle.lists.proofs.Members.{all-at, all_in}
 use Rattle.packed.specs.Words.{bit_in, bit_at, bits_of, word_count, spare_bits, is_assignment}
-use Rattle.packed.proofs.Bits.{length-bits, get_d_bits, bit_at-in, low_same, low-zero}
+use Rattle.packed.proofs.Bits.{length-bits, get_or-bits, bit_at-in, low_same, low-zero}
 
 -- what `is_assignment` says, index by index
 pub record Form (n : ℕ) (ws : List ℕ) : Type 0 where
@@ -30,7 +30,7 @@ length-spare n ws = length-drop n (bits_of (64 * length ws) ws) ∙ ap (λ (m : 
 
 spare-at : (n : ℕ) (ws : List ℕ) (i : ℕ) → n + i < 64 * length ws → get_or (spare_bits n ws) i false ≡ bit_at ws (n + i)
 unfolding spare_bits
-spare-at n ws i h = get_or-drop n (bits_of (64 * length ws) ws) i false ∙ get_d_bits (64 * length ws) ws (n + i) h
+spare-at n ws i h = get_or-drop n (bits_of (64 * length ws) ws) i false ∙ get_or-bits (64 * length ws) ws (n + i) h
 
 pub form-count : (n : ℕ) (ws : List ℕ) → is_assignment n ws ≡ true → length ws ≡ word_count n
 unfolding is_assignment

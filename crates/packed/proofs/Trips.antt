@@ -11,7 +11,7 @@ use lib.Pow.{shr-shr}
 use lib.Seq.{ext_get_or}
 use Rattle.lists.proofs.TableLaws.{length-table, get_or-table}
 use Rattle.packed.specs.Words.{bit_in, bit_at, bits_of, binary, word_count, words_of, is_assignment}
-use Rattle.packed.proofs.Bits.{bit_at-in, length-bits, get_d_bits}
+use Rattle.packed.proofs.Bits.{bit_at-in, length-bits, get_or-bits}
 use Rattle.packed.proofs.Form.{of-form}
 
 -- ---- a number and its digits
@@ -52,12 +52,12 @@ pub length-words : (bs : List Bool) → length (words_of bs) ≡ word_count (len
 unfolding words_of
 length-words bs = length-table (word_count (length bs)) (λ j. binary 64 (λ p. get_or bs (j * 64 + p) false))
 
-pub get_d_words : (bs : List Bool) (j : ℕ) → j < word_count (length bs) → get_or (words_of bs) j 0 ≡ binary 64 (λ p. get_or bs (j * 64 + p) false)
+pub get_or-words : (bs : List Bool) (j : ℕ) → j < word_count (length bs) → get_or (words_of bs) j 0 ≡ binary 64 (λ p. get_or bs (j * 64 + p) false)
 unfolding words_of
-get_d_words bs j h = get_or-table (word_count (length bs)) (λ j. binary 64 (λ p. get_or bs (j * 64 + p) false)) j 0 h
+get_or-words bs j h = get_or-table (word_count (length bs)) (λ j. binary 64 (λ p. get_or bs (j * 64 + p) false)) j 0 h
 
 word-bit : (bs : List Bool) (j p : ℕ) → j < word_count (length bs) → p < 64 → bit_in (get_or (words_of bs) j 0) p ≡ get_or bs (j * 64 + p) false
-word-bit bs j p h l = rw (get_d_words bs j h) (bit-binary (λ p. get_or bs (j * 64 + p) false) p l)
+word-bit bs j p h l = rw (get_or-words bs j h) (bit-binary (λ p. get_or bs (j * 64 + p) false) p l)
 
 bit-words : (bs : List Bool) (j : ℕ) → j < 64 * word_count (length bs) → bit_at (words_of bs) j ≡ get_or bs j false
 bit-words bs j h =
@@ -73,7 +73,7 @@ count-holds n = omega arith
 pub bits-words : (n : ℕ) (bs : List Bool) → length bs ≡ n → bits_of n (words_of bs) ≡ bs
 bits-words n bs e =
     ext_get_or false (bits_of n (words_of bs)) bs (length-bits n (words_of bs) ∙ sym e)
-    (λ j h. get_d_bits n (words_of bs) j (omega (arith, length-bits n (words_of bs)))
+    (λ j h. get_or-bits n (words_of bs) j (omega (arith, length-bits n (words_of bs)))
     ∙ bit-words bs j (omega (arith, length-bits n (words_of bs), count-holds (length bs))))
 
 pub words-form : (bs : List Bool) → is_assignment (length bs) (words_of bs) ≡ true

@@ -11,7 +11,7 @@ use lib.Pow.{pow_pos, pow_mono, shl_exact}
 use lib.Seq.{length-take-le, get_or-take, get_or-set_same, get_or-set_other, get_or-append-add, drop-set-lt, drop-drop, ext_get_or}
 use Rattle.lists.proofs.Cases.{eq-or-ne}
 use Rattle.packed.specs.Words.{max_words, binary, word_count, words_of}
-use Rattle.packed.proofs.Trips.{binary-lt, length-words, get_d_words}
+use Rattle.packed.proofs.Trips.{binary-lt, length-words, get_or-words}
 use Rattle.packed.specs.declared.writer.Writer.{Writer}
 use Rattle.packed.specs.Writing.{WriterHolds, WriterRoom}
 
@@ -66,7 +66,7 @@ words-all values k out old e h f past =
     let size : length (take k out) ≡ k = length-take-le k out h in
     let front : take k out ≡ words_of values =
     ext_get_or 0 (take k out) (words_of values) (size ∙ e ∙ sym (length-words values))
-    (λ i l. get_or-take k out i 0 (omega arith) ∙ f i (omega arith) ∙ sym (get_d_words values i (omega (arith, e)))) in
+    (λ i l. get_or-take k out i 0 (omega arith) ∙ f i (omega arith) ∙ sym (get_or-words values i (omega (arith, e)))) in
     sym (take-append-drop k out) ∙ rw (front, past, e)
 
 -- ---- a run of values more: the word goes on, or is whole

@@ -16,7 +16,7 @@ use Rattle.lexleader.proofs.MadeLaws.{counted-variables}
 use Rattle.lexleader.proofs.StoreBounds.{words-most}
 use Rattle.calls.proofs.ModelLaws.{fill-unready, fill-misformed, fill-short, fill_done}
 use Rattle.calls.proofs.fill_in.Goals as goal
-use Rattle.calls.proofs.fill_in.Goals.{After-fill-arg-1, After-fill-arg-2-1, After-slice_known-2-1, After-slice_known-then-out-ge-MAX_WORDS-1, Else-out-ge-MAX_WORDS, In-Refused, In_default, Then-not-is_assignment, Then-out-needed}
+use Rattle.calls.proofs.fill_in.Goals.{After-fill-arg-1, After-fill-arg-2-1, After-slice_known-2-1, In-Refused, In_default, Then-not-is_assignment, Then-out-needed}
 
 abbrev S : In-Refused → Keyed
 S c = with_keys (lent c.args.counts c.args.literals.now c.args.ends.now c.args.images.now) c.args.keys.now
@@ -47,7 +47,7 @@ admitted-at-After-fill-arg-1 : (c : After-fill-arg-1) → standing_of (S-at-Afte
 admitted-at-After-fill-arg-1 c = sym c.admit.ensures ∙ c.in_default.is
 
 enough : (c : After-fill-arg-1) → word_count (variables_of (S-at-After-fill-arg-1 c).store) ≤ length c.args.out.now
-enough c = omega (arith, words-most (S-at-After-fill-arg-1 c).store (ready-form (S-at-After-fill-arg-1 c) (admitted-at-After-fill-arg-1 c)), c.if-out-ge-MAX_WORDS.true)
+enough c = omega (arith, words-most (S-at-After-fill-arg-1 c).store (ready-form (S-at-After-fill-arg-1 c) (admitted-at-After-fill-arg-1 c)))
 
 form : (c : After-fill-arg-1) → is_assignment c.args.counts.variables c.args.a.now ≡ true
 form c = sym c.is_assignment.ensures ∙ not-false _ c.if-not-is_assignment.false-raw
@@ -57,30 +57,19 @@ unfolding variables_of held_rows
 fill-requires c =
     (formed-rows (S-at-After-fill-arg-1 c).store (ready-form (S-at-After-fill-arg-1 c) (admitted (goal.at.fill-requires c).In_default)), form c, enough c)
 
-abbrev S-at-After-slice_known-then-out-ge-MAX_WORDS-1 : After-slice_known-then-out-ge-MAX_WORDS-1 → Keyed
-S-at-After-slice_known-then-out-ge-MAX_WORDS-1 c = with_keys (lent c.args.counts c.args.literals.now c.args.ends.now c.args.images.now) c.args.keys.now
-
-admitted-at-After-slice_known-then-out-ge-MAX_WORDS-1 : (c : After-slice_known-then-out-ge-MAX_WORDS-1) → standing_of (S-at-After-slice_known-then-out-ge-MAX_WORDS-1 c) ≡ Standing.Ready
-admitted-at-After-slice_known-then-out-ge-MAX_WORDS-1 c = sym c.admit.ensures ∙ c.in_default.is
-
-enough-at-After-slice_known-then-out-ge-MAX_WORDS-1 : (c : After-slice_known-then-out-ge-MAX_WORDS-1) → word_count (variables_of (S-at-After-slice_known-then-out-ge-MAX_WORDS-1 c).store) ≤ length c.args.out.now
-enough-at-After-slice_known-then-out-ge-MAX_WORDS-1 c = omega (arith, words-most (S-at-After-slice_known-then-out-ge-MAX_WORDS-1 c).store (ready-form (S-at-After-slice_known-then-out-ge-MAX_WORDS-1 c) (admitted-at-After-slice_known-then-out-ge-MAX_WORDS-1 c)), c.if-out-ge-MAX_WORDS.true)
-
-form-at-After-slice_known-then-out-ge-MAX_WORDS-1 : (c : After-slice_known-then-out-ge-MAX_WORDS-1) → is_assignment c.args.counts.variables c.args.a.now ≡ true
-form-at-After-slice_known-then-out-ge-MAX_WORDS-1 c = sym c.is_assignment.ensures ∙ not-false _ c.if-not-is_assignment.false-raw
-
 pub returns-then-out-ge-MAX_WORDS : goal.returns-then-out-ge-MAX_WORDS
 unfolding variables_of held_rows
 returns-then-out-ge-MAX_WORDS c =
-    let all = fill_done (S-at-After-slice_known-then-out-ge-MAX_WORDS-1 c) c.args.a.now c.args.out.now (admitted (goal.at.returns-then-out-ge-MAX_WORDS c).In_default) (form-at-After-slice_known-then-out-ge-MAX_WORDS-1 c) (enough-at-After-slice_known-then-out-ge-MAX_WORDS-1 c) _ _ c.fill.ensures.words c.fill.ensures.buffer in
+    let s : Keyed = with_keys (lent c.args.counts c.args.literals.now c.args.ends.now c.args.images.now) c.args.keys.now in
+    let ready = admitted (goal.at.returns-then-out-ge-MAX_WORDS c).In_default in
+    let form : is_assignment c.args.counts.variables c.args.a.now ≡ true = sym c.is_assignment.ensures ∙ not-false _ c.if-not-is_assignment.false-raw in
+    let enough : word_count (variables_of s.store) ≤ length c.args.out.now = omega (arith, words-most s.store (ready-form s ready)) in
+    let all = fill_done s c.args.a.now c.args.out.now ready form enough _ _ c.fill.ensures.words c.fill.ensures.buffer in
     record { says = all.0; leaves = all.1 }
-
-abbrev S-at-Else-out-ge-MAX_WORDS : Else-out-ge-MAX_WORDS → Keyed
-S-at-Else-out-ge-MAX_WORDS c = with_keys (lent c.args.counts c.args.literals.now c.args.ends.now c.args.images.now) c.args.keys.now
 
 pub totals_of-total-requires : goal.totals_of-total-requires
 totals_of-total-requires c =
-    let s = S-at-Else-out-ge-MAX_WORDS c in
+    let s : Keyed = with_keys (lent c.args.counts c.args.literals.now c.args.ends.now c.args.images.now) c.args.keys.now in
     let well = ready-form s (admitted (goal.at.totals_of-total-requires c).In_default) in
     ((formed s.store well).clauses-fit, formed-rows s.store well)
 

@@ -32,9 +32,6 @@ loop-number-init c =
       clauses = sets-front c.args.ends.now (ends_from 0 words) (omega (arith, all.ends, fits.6));
     }
 
-pub next_word-word-requires : goal.next_word-word-requires
-next_word-word-requires c = c.loop-number.invariant.between
-
 pub shape_of-literals-in_default : goal.shape_of-literals-in_default
 shape_of-literals-in_default c = c.loop-number.invariant.literals-length
 

@@ -16,7 +16,7 @@ returns-then-image-own c =
 -- a moved variable and its image have places among the values
 places : (c : After-shared_slice_known-2-1) → let a = c.args in (2 * (a.i + 1) < length a.values.now) × (get_or a.row.now a.i 0 < length a.values.now)
 places c =
-    placed-here c.args.values.now c.args.row.now c.args.i c.requires.0 c.requires.1 (λ own. c.if-image-own.false (omega (arith, own)))
+    placed-here c.args.values.now c.args.row.now c.args.i c.requires.0 c.requires.1 (λ own. omega arith)
 
 pub bounds-values-own : goal.bounds-values-own
 bounds-values-own c = (places c).0
@@ -24,11 +24,11 @@ bounds-values-own c = (places c).0
 -- a moved variable and its image have places among the values
 places-at-After-shared_slice_known-3-1 : (c : After-shared_slice_known-3-1) → let a = c.args in (2 * (a.i + 1) < length a.values.now) × (get_or a.row.now a.i 0 < length a.values.now)
 places-at-After-shared_slice_known-3-1 c =
-    placed-here c.args.values.now c.args.row.now c.args.i c.requires.0 c.requires.1 (λ own. c.if-image-own.false (omega (arith, own)))
+    placed-here c.args.values.now c.args.row.now c.args.i c.requires.0 c.requires.1 (λ own. omega arith)
 
 pub bounds-values-image : goal.bounds-values-image
 bounds-values-image c = (places-at-After-shared_slice_known-3-1 c).1
 
 pub returns : goal.returns
 returns c =
-    decides-moved c.args.row.now c.args.values.now c.args.i c.requires.0 c.requires.1 (λ own. c.if-image-own.false (omega (arith, own)))
+    decides-moved c.args.row.now c.args.values.now c.args.i c.requires.0 c.requires.1 (λ own. omega arith)

@@ -54,18 +54,15 @@ pub fn is_row(row: &[u16], n: usize) -> bool
         return false;
     }
     let mut seen = [false; Record::MAX_VARIABLES + 1];
-    let mut i = 0;
-    while i < row.len() {
-        let code = row[i];
-        if !is_literal(code, n) {
+    for code in row {
+        if !is_literal(*code, n) {
             return false;
         }
-        let v = literal::variable(literal::wide(code));
+        let v = literal::variable(literal::wide(*code));
         if seen[v] {
             return false;
         }
         seen[v] = true;
-        i += 1;
     }
     true
 }
@@ -75,12 +72,10 @@ fn rows_formed(images: &[u16], n: usize, k: usize) -> bool
     requires { (n ≤ max_variables) × (k * n ≤ length images.now) }
     ensures { result ≡ all_of (is_row n) (rows_of n k images.now) }
 {
-    let mut r = 0;
-    while r < k {
+    for r in 0..k {
         if !is_row(rows::row(images, n, r), n) {
             return false;
         }
-        r += 1;
     }
     true
 }
@@ -90,10 +85,8 @@ fn ends_rise(ends: &[u16]) -> bool
     ensures { result ≡ rising 0 ends.now }
 {
     let mut rise = true;
-    let mut i = 0;
-    while i + 1 < ends.len() {
-        rise = rise & (ends[i] <= ends[i + 1]);
-        i += 1;
+    for i in 1..ends.len() {
+        rise &= ends[i - 1] <= ends[i];
     }
     rise
 }
@@ -103,10 +96,8 @@ fn literals_within(literals: &[u16], n: usize) -> bool
     ensures { result ≡ all_of (is_literal n) literals.now }
 {
     let mut all = true;
-    let mut i = 0;
-    while i < literals.len() {
-        all = all & is_literal(literals[i], n);
-        i += 1;
+    for code in literals {
+        all &= is_literal(*code, n);
     }
     all
 }

@@ -124,6 +124,11 @@ demands s =
 unfoldable pub is_formed : Store → Bool
 is_formed s = all_of (λ b. b) (demands s)
 
+-- One row of a formed store.
+pub record FormedRow (row : List ℕ) : Type 0 where
+  pub small : length row ≤ max_variables
+  pub good : is_row (length row) row ≡ true
+
 -- The rows of a formed store, for functions that read no more of it.
 pub record FormedRows (n k : ℕ) (images : List ℕ) : Type 0 where
   pub small : n ≤ max_variables

@@ -1,12 +1,76 @@
-// The one test of a store's form, the opposite of refusal 21 but for the keys: every call that needs an open store makes it first, and the
-// functions below the public calls rely on it. It looks only at the entries in use.
-ghost use Rattle.std.specs.Prelude.{◌≡◌, ◌*◌, ◌≤◌, length};
+// The one test of a store's form, the opposite of refusal 21 but for the keys: every call that needs an open store makes it first, and what
+// it answers is a `Formed`, whose form is in its type: the functions below the public calls take that and don't ask again. The test looks
+// only at the entries in use.
+ghost use Rattle.std.specs.Prelude.{◌≡◌, ◌*◌, ◌≤◌, ◌<◌, true, false, length, MatchOption};
 ghost use Rattle.lists.specs.Tests.{all_of};
 ghost use Rattle.store.specs.Literals.{is_literal};
-ghost use Rattle.store.specs.Stores.{stored, is_formed, rising, is_row, rows_of, max_variables};
+ghost use Rattle.store.specs.Stores.{Store, stored, is_formed, rising, is_row, rows_of, clause_at, max_variables};
 
 use crate::record::Record;
+use crate::rows::Rows;
 use crate::{clauses, literal, rows};
+use std::marker::Model;
+
+// A well-formed store.
+#[derive(Drop)]
+pub struct Formed<'a> {
+    pub counts: Record,
+    pub literals: &'a [u16],
+    pub ends: &'a [u16],
+    pub images: &'a [u16],
+}
+
+impl<'a> Model for Formed<'a> {
+    ghost Value = { Store };
+
+    ghost view = { λ s. stored s.counts s.literals s.ends s.images };
+
+    ghost invariant = { λ s. is_formed (stored s.counts s.literals s.ends s.images) ≡ true };
+}
+
+impl<'a> Formed<'a> {
+    // What is lent, where it has its form.
+    pub fn new(
+        counts: Record,
+        literals: &'a [u16],
+        ends: &'a [u16],
+        images: &'a [u16],
+    ) -> Option<Formed<'a>>
+        ensures { let s = stored counts literals.entry ends.entry images.entry in
+            MatchOption result (is_formed s ≡ false) (λ formed. (is_formed s ≡ true) × (formed ≡ s)) }
+    {
+        if !is_formed(counts, literals, ends, images) {
+            return None;
+        }
+        Some(Formed {
+            counts,
+            literals,
+            ends,
+            images,
+        })
+    }
+
+    // Clause c, from 0.
+    pub fn clause(&self, c: usize) -> &'a [u16]
+        requires { c < self.now.counts.clauses }
+        ensures { result.now ≡ clause_at self.now.literals self.now.ends c }
+    {
+        clauses::clause(self.literals, self.ends, self.counts.clauses, c)
+    }
+
+    // Its rows, for what reads no more of it.
+    pub fn rows(&self) -> Rows<'a>
+        ensures n { result.n ≡ self.now.counts.variables }
+        ensures count { result.count ≡ self.now.counts.rows }
+        ensures images { result.images.now ≡ self.now.images }
+    {
+        Rows {
+            images: self.images,
+            n: self.counts.variables,
+            count: self.counts.rows,
+        }
+    }
+}
 
 pub fn is_formed(counts: Record, literals: &[u16], ends: &[u16], images: &[u16]) -> bool
     ensures { result ≡ is_formed (stored counts literals.entry ends.entry images.entry) }

@@ -8,4 +8,5 @@ pub mod form;
 pub mod literal;
 pub mod record;
 pub mod refusal;
+pub mod row;
 pub mod rows;

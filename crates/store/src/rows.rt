@@ -1,7 +1,30 @@
 // The rows of a store: n images each, one row after another in the images slice.
-ghost use Rattle.std.specs.Prelude.{◌≡◌, ◌+◌, ◌*◌, ◌≤◌, length};
-ghost use Rattle.store.specs.Stores.{max_variables, row_at, appended};
+ghost use Rattle.std.specs.Prelude.{◌≡◌, ◌+◌, ◌*◌, ◌≤◌, ◌<◌, length};
+ghost use Rattle.store.specs.Stores.{max_variables, row_at, appended, FormedRows};
 ghost use Rattle.store.specs.Identity.{moves_nothing};
+
+use crate::row::Row;
+
+// The rows of a well-formed store.
+#[derive(Clone, Copy)]
+pub struct Rows<'a> {
+    pub images: &'a [u16],
+    pub n: usize,
+    pub count: usize,
+    pub ghost formed: { FormedRows n count images.now },
+}
+
+impl<'a> Rows<'a> {
+    // Row r, from 0.
+    pub fn row(self, r: usize) -> Row<'a>
+        requires { r < self.count }
+        ensures { result ≡ row_at self.entry.n r self.entry.images.now }
+    {
+        Row {
+            images: row(self.images, self.n, r),
+        }
+    }
+}
 
 // Row r, from 0.
 pub fn row(images: &[u16], n: usize, r: usize) -> &[u16]

@@ -1,5 +1,5 @@
 -- `store::form::is_row` meets its contract. Assumes nothing.
-use Rattle.std.proofs.Common.{ℕ, ◌≡◌, ◌<◌, true, get_or, sym, ap, ◌∙◌, arith}
+use Rattle.std.proofs.Common.{ℕ, ◌≡◌, true, get_or, sym, ap, ◌∙◌, arith}
 use Rattle.store.specs.Literals.{variable_of, is_literal}
 use Rattle.store.proofs.FormLaws.{literal-high, passed_none, passed-more, row-length, row-outside, row-twice, row-all}
 use Rattle.store.proofs.form.is_row.Goals as goal

@@ -22,7 +22,7 @@ pub fn head(heads: &[u16], bucket: usize) -> usize
     requires { bucket < length heads.now }
     ensures { result ≡ get_or heads.now bucket 0 }
 {
-    wide(heads[bucket])
+    heads[bucket] as usize
 }
 
 // Where it goes on from c.
@@ -30,11 +30,5 @@ pub fn next(nexts: &[u16], c: usize) -> usize
     requires { c < length nexts.now }
     ensures { result ≡ get_or nexts.now c 0 }
 {
-    wide(nexts[c])
-}
-
-fn wide(number: u16) -> usize
-    ensures { result ≡ number }
-{
-    number as usize
+    nexts[c] as usize
 }

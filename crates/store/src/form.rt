@@ -122,7 +122,7 @@ pub fn is_row(row: &[u16], n: usize) -> bool
         if !is_literal(*code, n) {
             return false;
         }
-        let v = literal::variable(literal::wide(*code));
+        let v = literal::variable(u32::from(*code));
         if seen[v] {
             return false;
         }
@@ -167,11 +167,10 @@ fn literals_within(literals: &[u16], n: usize) -> bool
 }
 
 // Whether a code is that of a literal of 1..n. One test serves for both ends: less 2, the codes 0 and 1 wrap to numbers that are not below 2 n.
-// It wraps by a remainder, as std's wrapping_sub_u16 goes two ways, and compares 16 bits: so the loop above has eight codes to a step.
+// It compares 16 bits: so the loop above has eight codes to a step.
 fn is_literal(code: u16, n: usize) -> bool
     requires { n ≤ max_variables }
     ensures { result ≡ is_literal n code }
 {
-    let less = (literal::wide(code) + 65534) % 65536;
-    (less as u16) < (2 * n) as u16
+    code.wrapping_sub(2) < (2 * n) as u16
 }

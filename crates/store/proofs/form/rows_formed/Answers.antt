@@ -1,5 +1,5 @@
 -- `store::form::rows_formed` meets its contract. Assumes nothing.
-use Rattle.std.proofs.Common.{◌≡◌, sym, ap, ◌∙◌, arith}
+use Rattle.std.proofs.Common.{sym, ap, ◌∙◌, arith}
 use Rattle.lists.specs.Tests.{all_of}
 use Rattle.store.specs.Stores.{is_row}
 use Rattle.store.proofs.RowLaws.{from_first, row_room, good-here, bad-here, good-end}

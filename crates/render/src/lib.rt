@@ -169,7 +169,10 @@ fn digits_below(v: usize) -> usize
     requires { v ≤ 100000 }
     ensures { result ≡ digits_below v }
 {
-    v + v.saturating_sub(10) + v.saturating_sub(100) + v.saturating_sub(1000) + v.saturating_sub(10000)
+    v + v.saturating_sub(10)
+        + v.saturating_sub(100)
+        + v.saturating_sub(1000)
+        + v.saturating_sub(10000)
 }
 
 fn put_number(out: &mut [u8], at: usize, x: u64) -> usize

@@ -1,7 +1,7 @@
 -- `render::clause_length` meets its contract. Assumes nothing.
 use Rattle.std.proofs.Common.{arith}
 use Rattle.std.proofs.lemmas.List.{length-map}
-use Rattle.render.proofs.LineLaws.{code-at, measured-start, measured-more, measured-fits, measured-all}
+use Rattle.render.proofs.LineLaws.{code-at, measured-more, measured-fits, measured-all}
 use Rattle.render.proofs.clause_length.Goals as goal
 
 pub loop-code-preserved : goal.loop-code-preserved

@@ -1,67 +1,52 @@
-// What a call that needs an open store finds first: whether all that is lent is as it should be. Every such call asks this once.
+// What a call that needs an open store finds first: whether all that is lent is as it should be. Every such call asks this once, and goes on with a store whose form is in
+// its type.
 #![tactic(auto)]
 
 ghost use Rattle.std.specs.Prelude.{◌≡◌};
 ghost use Rattle.numbers.specs.Numbers.{numbers};
-ghost use Rattle.standing.specs.Keyed.{keyed, well_formed, standing_of};
+ghost use Rattle.standing.specs.Keyed.{Keyed, keyed, standing_of};
 
+use std::marker::Model;
+use store::form::Formed;
 use store::record::Record;
 use store::refusal::Refusal;
 
-#[derive(Clone, Copy)]
-pub enum Standing {
-    Ready,
-    Refused(Refusal),
+// All that a caller lends at a call that changes nothing of it: the store, and the keys of its clauses. It may hold anything.
+#[derive(Drop)]
+pub struct Lent<'a> {
+    pub counts: Record,
+    pub literals: &'a [u16],
+    pub ends: &'a [u16],
+    pub keys: &'a [u64],
+    pub images: &'a [u16],
 }
 
-// Whether a store is open and well formed: 20, then 21.
-pub fn admit(
-    counts: Record,
-    literals: &[u16],
-    ends: &[u16],
-    keys: &[u64],
-    images: &[u16],
-) -> Standing
-    ensures { result ≡ standing_of (keyed counts literals.entry ends.entry keys.entry images.entry) }
+impl<'a> Model for Lent<'a> {
+    ghost Value = { Keyed };
+
+    ghost view = { λ s. keyed s.counts s.literals s.ends s.keys s.images };
+}
+
+// The store, if it is open and well formed: 20, then 21.
+pub fn admit<'a>(s: &Lent<'a>) -> Result<Formed<'a>, Refusal>
+    ensures { result ≡ standing_of s.now }
 {
-    admit_by(counts, literals, ends, keys, images, &numbers::numbers())
+    admit_by(s, &numbers::numbers())
 }
 
-// The same for a caller that has the table of the numbers.
-pub fn admit_by(
-    counts: Record,
-    literals: &[u16],
-    ends: &[u16],
-    keys: &[u64],
-    images: &[u16],
-    table: &[u64; numbers::COUNT],
-) -> Standing
+// The same for a caller that has the table of the numbers. The form of the store first: only then are its clauses there to be summed.
+pub fn admit_by<'a>(s: &Lent<'a>, table: &[u64; numbers::COUNT]) -> Result<Formed<'a>, Refusal>
     requires { table.now ≡ numbers }
-    ensures { result ≡ standing_of (keyed counts literals.entry ends.entry keys.entry images.entry) }
+    ensures { result ≡ standing_of s.now }
 {
-    if !counts.is_open {
-        return Standing::Refused(Refusal::NotOpen);
+    if !s.counts.is_open {
+        return Err(Refusal::NotOpen);
     }
-    if !well_formed(counts, literals, ends, keys, images, table) {
-        return Standing::Refused(Refusal::BadlyFormed);
+    let Some(store) = Formed::new(s.counts, s.literals, s.ends, s.images) else {
+        return Err(Refusal::BadlyFormed);
+    };
+    if !keys::are_right(s.literals, s.ends, s.counts.clauses, s.keys, table) {
+        return Err(Refusal::BadlyFormed);
     }
-    Standing::Ready
-}
-
-// The form of the store first: only then are its clauses there to be summed.
-fn well_formed(
-    counts: Record,
-    literals: &[u16],
-    ends: &[u16],
-    keys: &[u64],
-    images: &[u16],
-    table: &[u64; numbers::COUNT],
-) -> bool
-    requires { table.now ≡ numbers }
-    ensures { result ≡ well_formed (keyed counts literals.entry ends.entry keys.entry images.entry) }
-{
-    if !store::form::is_formed(counts, literals, ends, images) {
-        return false;
-    }
-    keys::are_right(literals, ends, counts.clauses, keys, table)
+    Ok(store)
 }

@@ -1,17 +1,30 @@
 -- `standing::admit_by` meets its contract. Assumes nothing.
-use mathlib.Core.Path.{sym, ◌∙◌}
-use borrow.Author.Tests.{not-true, not-false}
-use Rattle.standing.proofs.StandingLaws.{not-open, badly-formed, ready_of}
+use Rattle.std.proofs.Common.{sym, ◌∙◌}
+use Rattle.store.specs.Stores.{plain_of, max_variables}
+use Rattle.store.proofs.Formed.{formed}
+use Rattle.store.proofs.Within.{formed-formula, formula-within}
+use Rattle.standing.proofs.StandingLaws.{not-open, badly-formed, not-formed, keys-decide, ready_of}
 use Rattle.standing.proofs.admit_by.Goals as goal
 
-pub returns-then-not-counts : goal.returns-then-not-counts
-returns-then-not-counts c = sym (not-open _ (not-true _ c.if-not-counts.true))
+pub returns-then-not-s : goal.returns-then-not-s
+returns-then-not-s c = rw (← c.s.view_is) (sym (not-open _ c.if-not-s.true))
 
-pub returns-then-not-well_formed : goal.returns-then-not-well_formed
-returns-then-not-well_formed c = sym (badly-formed _ (not-false _ c.if-not-counts.false) (sym c.well_formed-2.ensures ∙ not-true _ c.if-not-well_formed.true-raw))
+pub returns-in_default : goal.returns-in_default
+returns-in_default c = rw (← c.s.view_is) (sym (badly-formed _ c.if-not-s.false (not-formed _ c.in_default.ensures)))
+
+pub are_right-requires : goal.are_right-requires
+are_right-requires c =
+    let f = formed _ c.in-Some.ensures.0 in
+    (formula-within _ max_variables _ _ _ f.variables-fit (formed-formula _ f), c.requires)
+
+pub returns-then-not-are_right : goal.returns-then-not-are_right
+unfolding plain_of
+returns-then-not-are_right c =
+    rw (← c.s.view_is)
+    (sym (badly-formed _ c.if-not-s.false (keys-decide _ c.in-Some.ensures.0 ∙ sym c.are_right.ensures ∙ c.if-not-are_right.true)))
 
 pub returns : goal.returns
-returns c = sym (ready_of _ (not-false _ c.if-not-counts.false) (sym c.well_formed-2.ensures ∙ not-false _ c.if-not-well_formed.false-raw))
-
-pub well_formed-requires : goal.well_formed-requires
-well_formed-requires c = c.requires
+unfolding plain_of
+returns c =
+    rw (← c.s.view_is, c.in-Some.ensures.1)
+    (sym (ready_of _ c.if-not-s.false (keys-decide _ c.in-Some.ensures.0 ∙ sym c.are_right.ensures ∙ c.if-not-are_right.false)))

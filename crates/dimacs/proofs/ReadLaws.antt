@@ -109,7 +109,7 @@ module _ {text : List ℕ} {at start end value : ℕ} {negative : Bool} (w : Wal
           by false v = refl
 
       -- a zero in front of digits, or after a minus
-      pub walked-padded : get_or text start 0 ≡ 48 → at + 1 < end → reading_at text at ≡ Err (record { at = at })
+      pub walked-padded : get_or text start 0 ≡ 48 → (at + 1 ≡ end → ⊥) → reading_at text at ≡ Err (record { at = at })
       walked-padded z more =
           ⊎_elim
           (λ long. refused-by (size-padded (word_at text start) (first ∙ z) long short))
@@ -119,9 +119,9 @@ module _ {text : List ℕ} {at start end value : ℕ} {negative : Bool} (w : Wal
           by : (m : Bool) → start ≡ at + bool_byte m → length (word_at text start) ≤ 1
               → reading_if (signed m (Size.Is value)) at (run_end is_word_byte text start) ≡ Err (record { at = at })
           by true f one = rw (w.decimal ∙ ap (decimal_from 0) (sym whole) ∙ decimal-zero (word_at text start) (omega (arith, some)) (first ∙ z))
-          by false f one = absurd (omega (arith, past))
+          by false f one = absurd (more (omega (arith, past, some)))
 
-      pub walked-zero : end ≤ at + 1 → reading_at text at ≡ Ok (record { negative = negative; size = value }, record { at = end })
+      pub walked-zero : at + 1 ≡ end → reading_at text at ≡ Ok (record { negative = negative; size = value }, record { at = end })
       walked-zero last =
           found (size-zero (word_at text start) some (omega (arith, past, w.from))) (λ t v. let minus : start ≡ at + 1 = rw t at w.from in omega (arith, past, some))
 

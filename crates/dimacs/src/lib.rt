@@ -59,10 +59,9 @@ pub fn read(text: &[u8], at: usize) -> Result<(Number, Cursor), NotNumber>
         return Err(NotNumber { at });
     }
     // a zero stands alone
-    if text[start] == b'0' {
-        if at + 1 < end {
-            return Err(NotNumber { at });
-        }
+    let alone = at + 1 == end;
+    if text[start] == b'0' && !alone {
+        return Err(NotNumber { at });
     }
     let size = digits.value;
     Ok((Number { negative, size }, Cursor { at: end }))

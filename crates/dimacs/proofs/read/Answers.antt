@@ -6,7 +6,7 @@ use Rattle.dimacs.specs.Numbers.{is_digit, decimal_from}
 use Rattle.dimacs.proofs.WordLaws.{read_past}
 use Rattle.dimacs.proofs.ReadLaws.{Walked, window-part, walked-within, walked_on, walked_none, walked-padded, walked-zero, walked-number}
 use Rattle.dimacs.proofs.read.Goals as goal
-use Rattle.dimacs.proofs.read.Goals.{After-struct_known-1}
+use Rattle.dimacs.proofs.read.Goals.{After-struct_known-1, else-text-start-eq48-via-then-text-start-eq48+else-not-alone, else-text-start-eq48-via-else-text-start-eq48}
 
 pub returns-then-text-at : goal.returns-then-text-at
 returns-then-text-at c = sym (read_past _ _ c.if-text-at.true)
@@ -39,14 +39,16 @@ returns-then-end-start c =
 pub bounds-text-start : goal.bounds-text-start
 bounds-text-start c = omega (arith, walked-within (walked (goal.at.bounds-text-start c).After-struct_known-1))
 
-pub returns-then-at-end : goal.returns-then-at-end
-returns-then-at-end c =
-    sym (walked-padded (walked (goal.at.returns-then-at-end c).After-struct_known-1) (sym c.word_ends.ensures ∙ c.if-not-word_ends.false) c.if-end-start.false c.if-text-start-eq48.true (omega arith))
+pub returns-then-not-alone : goal.returns-then-not-alone
+returns-then-not-alone c =
+    sym (walked-padded (walked (goal.at.returns-then-not-alone c).After-struct_known-1) (sym c.word_ends.ensures ∙ c.if-not-word_ends.false) c.if-end-start.false c.if-text-start-eq48.true c.if-not-alone.true)
 
-pub returns-else-at-end : goal.returns-else-at-end
-returns-else-at-end c =
-    sym (walked-zero (walked (goal.at.returns-else-at-end c).After-struct_known-1) (sym c.word_ends.ensures ∙ c.if-not-word_ends.false) c.if-end-start.false (omega arith))
-
-pub returns-else-text-start-eq48 : goal.returns-else-text-start-eq48
-returns-else-text-start-eq48 c =
-    sym (walked-number (walked (goal.at.returns-else-text-start-eq48 c).After-struct_known-1) (sym c.word_ends.ensures ∙ c.if-not-word_ends.false) c.if-end-start.false c.if-text-start-eq48.false)
+pub returns : goal.returns
+returns c =
+    let w = walked (goal.at.returns c).After-struct_known-1 in
+    elim c.else-text-start-eq48.branch [
+      | else-text-start-eq48-via-then-text-start-eq48+else-not-alone v ↦
+          sym (walked-zero w (sym c.word_ends.ensures ∙ c.if-not-word_ends.false) c.if-end-start.false v.if-not-alone.false)
+      | else-text-start-eq48-via-else-text-start-eq48 v ↦
+          sym (walked-number w (sym c.word_ends.ensures ∙ c.if-not-word_ends.false) c.if-end-start.false v.if-text-start-eq48.false)
+    ]

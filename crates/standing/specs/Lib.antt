@@ -1,1 +1,2 @@
 pub mod Keyed
+pub mod Admitted

@@ -5,6 +5,7 @@
 ghost use Rattle.std.specs.Prelude.{◌≡◌};
 ghost use Rattle.numbers.specs.Numbers.{numbers};
 ghost use Rattle.standing.specs.Keyed.{Keyed, keyed, standing_of};
+ghost use Rattle.standing.specs.Admitted.{admitted};
 
 use std::marker::Model;
 use store::form::Formed;
@@ -29,7 +30,7 @@ impl<'a> Model for Lent<'a> {
 
 // The store, if it is open and well formed: 20, then 21.
 pub fn admit<'a>(s: &Lent<'a>) -> Result<Formed<'a>, Refusal>
-    ensures { result ≡ standing_of s.now }
+    ensures { admitted result ≡ standing_of s.now }
 {
     admit_by(s, &numbers::numbers())
 }
@@ -37,7 +38,7 @@ pub fn admit<'a>(s: &Lent<'a>) -> Result<Formed<'a>, Refusal>
 // The same for a caller that has the table of the numbers. The form of the store first: only then are its clauses there to be summed.
 pub fn admit_by<'a>(s: &Lent<'a>, table: &[u64; numbers::COUNT]) -> Result<Formed<'a>, Refusal>
     requires { table.now ≡ numbers }
-    ensures { result ≡ standing_of s.now }
+    ensures { admitted result ≡ standing_of s.now }
 {
     if !s.counts.is_open {
         return Err(Refusal::NotOpen);

@@ -3,3 +3,4 @@ pub mod Numerals
 pub mod Refusals
 pub mod Stores
 pub mod Identity
+pub mod Held

@@ -4,28 +4,20 @@
 ghost use Rattle.std.specs.Prelude.{◌≡◌, ◌*◌, ◌≤◌, ◌<◌, true, false, length, MatchOption};
 ghost use Rattle.lists.specs.Tests.{all_of};
 ghost use Rattle.store.specs.Literals.{is_literal};
-ghost use Rattle.store.specs.Stores.{Store, stored, is_formed, rising, is_row, rows_of, clause_at, max_variables};
+ghost use Rattle.store.specs.Stores.{stored, is_formed, rising, is_row, rows_of, clause_at, max_variables};
 
 use crate::record::Record;
 use crate::rows::Rows;
 use crate::{clauses, literal, rows};
-use std::marker::Model;
 
 // A well-formed store.
-#[derive(Drop)]
+#[derive(Clone, Copy)]
 pub struct Formed<'a> {
     pub counts: Record,
     pub literals: &'a [u16],
     pub ends: &'a [u16],
     pub images: &'a [u16],
-}
-
-impl<'a> Model for Formed<'a> {
-    ghost Value = { Store };
-
-    ghost view = { λ s. stored s.counts s.literals s.ends s.images };
-
-    ghost invariant = { λ s. is_formed (stored s.counts s.literals s.ends s.images) ≡ true };
+    pub ghost formed: { is_formed (stored counts literals ends images) ≡ true },
 }
 
 impl<'a> Formed<'a> {
@@ -37,7 +29,7 @@ impl<'a> Formed<'a> {
         images: &'a [u16],
     ) -> Option<Formed<'a>>
         ensures { let s = stored counts literals.entry ends.entry images.entry in
-            MatchOption result (is_formed s ≡ false) (λ formed. (is_formed s ≡ true) × (formed ≡ s)) }
+            MatchOption result (is_formed s ≡ false) (λ f. stored f.counts f.literals f.ends f.images ≡ s) }
     {
         if !is_formed(counts, literals, ends, images) {
             return None;
@@ -51,18 +43,18 @@ impl<'a> Formed<'a> {
     }
 
     // Clause c, from 0.
-    pub fn clause(&self, c: usize) -> &'a [u16]
-        requires { c < self.now.counts.clauses }
-        ensures { result.now ≡ clause_at self.now.literals self.now.ends c }
+    pub fn clause(self, c: usize) -> &'a [u16]
+        requires { c < self.counts.clauses }
+        ensures { result.now ≡ clause_at self.entry.literals.now self.entry.ends.now c }
     {
         clauses::clause(self.literals, self.ends, self.counts.clauses, c)
     }
 
     // Its rows, for what reads no more of it.
-    pub fn rows(&self) -> Rows<'a>
-        ensures n { result.n ≡ self.now.counts.variables }
-        ensures count { result.count ≡ self.now.counts.rows }
-        ensures images { result.images.now ≡ self.now.images }
+    pub fn rows(self) -> Rows<'a>
+        ensures n { result.n ≡ self.entry.counts.variables }
+        ensures count { result.count ≡ self.entry.counts.rows }
+        ensures images { result.images.now ≡ self.entry.images.now }
     {
         Rows {
             images: self.images,

@@ -18,7 +18,7 @@ impl<'a> Rows<'a> {
     // Row r, from 0.
     pub fn row(self, r: usize) -> Row<'a>
         requires { r < self.count }
-        ensures { result ≡ row_at self.entry.n r self.entry.images.now }
+        ensures { result.images.now ≡ row_at self.entry.n r self.entry.images.now }
     {
         Row {
             images: row(self.images, self.n, r),

@@ -14,17 +14,17 @@ returns-in_default c = rw (← c.s.view_is) (sym (badly-formed _ c.if-not-s.fals
 
 pub are_right-requires : goal.are_right-requires
 are_right-requires c =
-    let f = formed _ c.in-Some.ensures.0 in
+    let f = formed _ (rw c.in-Some.ensures at c.in-Some.store.formed) in
     (formula-within _ max_variables _ _ _ f.variables-fit (formed-formula _ f), c.requires)
 
 pub returns-then-not-are_right : goal.returns-then-not-are_right
 unfolding plain_of
 returns-then-not-are_right c =
     rw (← c.s.view_is)
-    (sym (badly-formed _ c.if-not-s.false (keys-decide _ c.in-Some.ensures.0 ∙ sym c.are_right.ensures ∙ c.if-not-are_right.true)))
+    (sym (badly-formed _ c.if-not-s.false (keys-decide _ (rw c.in-Some.ensures at c.in-Some.store.formed) ∙ sym c.are_right.ensures ∙ c.if-not-are_right.true)))
 
 pub returns : goal.returns
 unfolding plain_of
 returns c =
-    rw (← c.s.view_is, c.in-Some.ensures.1)
-    (sym (ready_of _ c.if-not-s.false (keys-decide _ c.in-Some.ensures.0 ∙ sym c.are_right.ensures ∙ c.if-not-are_right.false)))
+    rw (← c.s.view_is, c.in-Some.ensures)
+    (sym (ready_of _ c.if-not-s.false (keys-decide _ (rw c.in-Some.ensures at c.in-Some.store.formed) ∙ sym c.are_right.ensures ∙ c.if-not-are_right.false)))

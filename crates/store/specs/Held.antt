@@ -1,0 +1,13 @@
+-- What the code's types of well-formed parts hold, in the words of `Stores.antt`. Assumes nothing.
+use Rattle.std.specs.Prelude.{ℕ, List}
+use Rattle.store.specs.Stores.{Store, stored, rows_of}
+use Rattle.store.specs.declared.form.Formed.{Formed}
+use Rattle.store.specs.declared.rows.Rows.{Rows}
+
+-- the store that a well-formed one is
+abbrev pub store_of : Formed → Store
+store_of s = stored s.counts s.literals s.ends s.images
+
+-- the rows, as lists
+abbrev pub held_by : Rows → List (List ℕ)
+held_by rows = rows_of rows.n rows.count rows.images.now

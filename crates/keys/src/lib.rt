@@ -44,8 +44,8 @@ pub fn are_right(
     }
     let own = own_places();
     let mut marks = [0u16; numbers::COUNT];
-    for c in 0..m {
-        if keys[c] != key_at(literals, ends, m, c, &own, table, &mut marks) {
+    for (c, key) in keys[..m].iter().enumerate() {
+        if *key != key_at(literals, ends, m, c, &own, table, &mut marks) {
             return false;
         }
     }

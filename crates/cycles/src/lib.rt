@@ -9,39 +9,40 @@
 #![tactic(auto)]
 
 ghost use Rattle.std.specs.Prelude.{◌≡◌, true, ◌≤◌, length, replicate};
-ghost use Rattle.store.specs.Stores.{max_variables, is_row};
 ghost use Rattle.cycles.specs.Cycles.{sent_to, turns};
 ghost use Rattle.cycles.specs.Marks.{marks_of, Visited};
 
+use store::row::Row;
+
 // Marks the variables of a row that are left out.
-pub fn leave_out(row: &[u16], marks: &mut [bool])
-    requires { let n = length row.now in (n ≤ max_variables) × (is_row n row.now ≡ true) × (length marks.old ≡ n) }
-    ensures { marks.new ≡ marks_of row.now }
+pub fn leave_out(row: Row, marks: &mut [bool])
+    requires { length marks.old ≡ length row.images.now }
+    ensures { marks.new ≡ marks_of row.entry.images.now }
 {
     marks.fill(true);
-    for v in (1..=row.len()).rev() {
+    for v in (1..=row.images.len()).rev() {
         visit(row, v, marks);
     }
 }
 
 // Goes once round the cycle of a variable that still has its mark. One that is its own image is alone in its cycle, and keeps its mark.
-fn visit(row: &[u16], z: usize, marks: &mut [bool])
-    requires { let n = length row.now in
-        (is_row n row.now ≡ true) × (1 ≤ z) × (z ≤ n) × (n ≤ length marks.old) × (n ≤ max_variables) }
-    ensures { Visited row.now z marks.old marks.new }
+fn visit(row: Row, z: usize, marks: &mut [bool])
+    requires { let n = length row.images.now in (1 ≤ z) × (z ≤ n) × (n ≤ length marks.old) }
+    ensures { Visited row.entry.images.now z marks.old marks.new }
 {
-    if row[z - 1] as usize == 2 * z {
+    let images = row.images;
+    if images[z - 1] as usize == 2 * z {
         return;
     }
     if !marks[z - 1] {
         return;
     }
-    let mut odd = turned(row, z);
-    let mut v = sent_to(row, z);
+    let mut odd = turned(images, z);
+    let mut v = sent_to(images, z);
     while v != z {
         marks[v - 1] = false;
-        odd = odd != turned(row, v);
-        v = sent_to(row, v);
+        odd = odd != turned(images, v);
+        v = sent_to(images, v);
     }
     marks[z - 1] = !odd;
 }

@@ -6,7 +6,7 @@ use Rattle.cycles.proofs.leave_out.Goals as goal
 
 pub loop-v-preserved : goal.loop-v-preserved
 loop-v-preserved c =
-    scanned-more _ c.requires.1 c.loop-v.v (omega arith) (omega arith) _ _ c.loop-v.invariant c.visit.ensures
+    scanned-more _ c.args.row.formed.good c.loop-v.v (omega arith) (omega arith) _ _ c.loop-v.invariant c.visit.ensures
 
 pub returns : goal.returns
 returns c =

@@ -3,4 +3,4 @@ use Rattle.cycles.proofs.Scan.{Scanned}
 use Rattle.cycles.proofs.leave_out.Given as goal
 
 abbrev pub invariant-loop-v : goal.invariant-loop-v
-invariant-loop-v l = Scanned l.row l.v l.marks
+invariant-loop-v l = Scanned l.row.images.now l.v l.marks

@@ -6,12 +6,12 @@ use Rattle.cycles.proofs.Walks.{met-step}
 use Rattle.cycles.proofs.Visiting.{rounding-begun, rounding-more, rounding-done, visited-unmoved}
 use Rattle.cycles.proofs.visit.Goals as goal
 
-pub returns-then-row-z : goal.returns-then-row-z
-returns-then-row-z c = visited-unmoved _ _ c.requires.0 c.requires.1 c.requires.2 _ (omega (arith, c.if-row-z.true))
+pub returns-then-images-z : goal.returns-then-images-z
+returns-then-images-z c = visited-unmoved _ _ c.args.row.formed.good c.requires.0 c.requires.1 _ (omega (arith, c.if-images-z.true))
 
 pub loop-v-init : goal.loop-v-init
 loop-v-init c =
-    rw (c.sent_to-v.ensures, c.turned-odd.ensures) (rounding-begun _ _ c.requires.0 c.requires.1 c.requires.2 _ c.requires.3)
+    rw (c.sent_to-v.ensures, c.turned-odd.ensures) (rounding-begun _ _ c.args.row.formed.good c.requires.0 c.requires.1 _ c.requires.2)
 
 pub loop-v-smaller : goal.loop-v-smaller
 loop-v-smaller c =
@@ -20,8 +20,8 @@ loop-v-smaller c =
 pub loop-v-preserved : goal.loop-v-preserved
 loop-v-preserved c =
     rw (c.sent_to-v-in-loop-v.ensures, c.turned-odd-in-loop-v.ensures)
-    (rounding-more _ _ c.requires.0 c.requires.1 c.requires.2 _ _ _ _ c.loop-v.invariant c.loop-v-test.true)
+    (rounding-more _ _ c.args.row.formed.good c.requires.0 c.requires.1 _ _ _ _ c.loop-v.invariant c.loop-v-test.true)
 
 pub returns : goal.returns
 returns c =
-    rounding-done _ _ c.requires.0 c.requires.1 c.requires.2 _ _ _ _ c.if-not-marks-z.false c.loop-v.invariant (omega arith)
+    rounding-done _ _ c.args.row.formed.good c.requires.0 c.requires.1 _ _ _ _ c.if-not-marks-z.false c.loop-v.invariant (omega arith)

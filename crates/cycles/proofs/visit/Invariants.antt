@@ -5,7 +5,7 @@ use Rattle.cycles.proofs.Visiting.{Rounding}
 use Rattle.cycles.proofs.visit.Given as goal
 
 abbrev pub invariant-loop-v : goal.invariant-loop-v
-invariant-loop-v l = Rounding l.row l.z l.initial.marks l.marks l.odd l.v
+invariant-loop-v l = Rounding l.images l.z l.initial.marks l.marks l.odd l.v
 
 abbrev pub decreases-loop-v : goal.decreases-loop-v
-decreases-loop-v l = length (met l.row l.z l.v)
+decreases-loop-v l = length (met l.images l.z l.v)

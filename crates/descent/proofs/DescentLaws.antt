@@ -1,12 +1,14 @@
 -- The rows of a store, one after the other, and a descent by them, turn by turn: what is left of it is the descent from the assignment reached.
 -- Assumes nothing.
-use mathlib.Core.Path.{◌≡◌, refl, ◌∙◌}
+use mathlib.Core.Path.{◌≡◌, refl, sym, ◌∙◌}
 use mathlib.Core.Bool.{Bool, true, false}
 use mathlib.Core.List.{List}
 use Prim.Native.Nat.{ℕ, zero, suc, ◌+◌, ◌-◌, ◌≤◌, ◌<◌}
 use native.Mathlib.Omega.{arith}
-use Rattle.store.specs.Stores.{rows_of, rows_from, row_at}
+use lib.ListN.{length}
+use Rattle.store.specs.Stores.{rows_of, rows_from, row_at, FormedRows}
 use Rattle.store.proofs.RowLaws.{from_first, from-here, from_end}
+use Rattle.store.proofs.RowParts.{part-size}
 use Rattle.lexleader.specs.Rows.{moved, lowers}
 use Rattle.lexleader.specs.Descent.{rest, to, step_by, settled, spent, descend_from, descend}
 use Rattle.valuation.specs.Tables.{bits_in, Table}
@@ -30,6 +32,11 @@ module _ (n rows : ℕ) (images : List ℕ) (bits : List Bool) (r : ℕ) where
   pub step_end : rows ≤ r → step_by (rows_from n rows images r) bits ≡ rest
   unfolding step_by
   step_end h = rw (from_end n rows images r h)
+
+-- what is said of the part of the slice that is row r is said of the row
+pub row-says : {n rows r : ℕ} {images part : List ℕ} (values : List Bool) {b : Bool} → FormedRows n rows images → r < rows → part ≡ row_at n r images
+    → b ≡ lowers part (bits_in (length part) values) → lowers (row_at n r images) (bits_in n values) ≡ b
+row-says values f h is e = sym (rw (part-size f _ h _ is, is) at e)
 
 -- ---- a turn of the descent
 

@@ -3,7 +3,7 @@ use mathlib.Core.Path.{◌∙◌}
 use native.Mathlib.Omega.{arith}
 use Rattle.store.proofs.RowParts.{part-size, part-row}
 use Rattle.trial.proofs.PairLaws.{span-covers}
-use Rattle.descent.proofs.DescentLaws.{row-says, step-here, step-on, step_end}
+use Rattle.descent.proofs.DescentLaws.{row-says, step-found, step-on, step_end}
 use Rattle.descent.proofs.first_lowering.Goals as goal
 
 pub makes_smaller-requires : goal.makes_smaller-requires
@@ -17,7 +17,7 @@ makes_smaller-requires c =
 pub returns-then-makes_smaller : goal.returns-then-makes_smaller
 returns-then-makes_smaller c =
     let says = row-says _ c.requires.0 (omega arith) c.row.ensures c.makes_smaller.ensures in
-    (omega arith, c.loop-r.invariant ∙ step-here _ _ _ _ c.loop-r.r (omega arith) (says ∙ c.if-makes_smaller.true))
+    step-found _ _ _ _ c.loop-r.r (omega arith) c.loop-r.invariant (says ∙ c.if-makes_smaller.true)
 
 pub loop-r-preserved : goal.loop-r-preserved
 loop-r-preserved c =

@@ -1,55 +1,33 @@
 // Standard input, standard output and standard error. A call of the system that fails is told apart from the end of the input and from a write that took
-// all: an answer here is a failure or a count, and a failure has no count. What the system's read and write do is trusted.
+// all: an answer here is the system's error or a count, and an error has no count. What the system's read and write do is trusted.
 #![tactic(auto)]
 
-ghost use Rattle.std.specs.Prelude.{◌≡◌, cond, ℕ, ◌+◌, ◌^◌, ◌≤◌, ◌<◌, nat_abs, length};
-ghost use Rattle.stdio.specs.Answers.{read_on};
-ghost use Rattle.stdio.specs.Room.{Moved};
+ghost use Rattle.std.specs.Prelude.{◌≡◌, ◌+◌, ◌^◌, ◌≤◌, ◌<◌, length, IfOk};
+ghost use Rattle.stdio.specs.Answers.{read_on, write_answer};
 
+use std::io;
 use std::io::{Print, Read, Stderr, Stdin, Stdout};
+use std::ops::ControlFlow;
 
-// What the whole input came to: so many bytes at the start of a buffer, or a read that failed.
-#[derive(Clone, Copy)]
-pub enum Input {
-    Bytes(usize),
-    Failed,
-}
-
-// What became of bytes for standard output: all so many were taken, or a write failed.
-#[derive(Clone, Copy)]
-pub enum Output {
-    Bytes(usize),
-    Failed,
-}
-
-// How reading goes on after one read of the system: with so many bytes in all, or it is over.
-#[derive(Clone, Copy)]
-pub enum Reading {
-    More(usize),
-    Over(Input),
-}
-
-// Reads standard input into a buffer, to the end of the input or until the buffer is full.
-pub fn read(mut stdin: Stdin, buffer: &mut [u8]) -> Input
-    ensures { (bytes : ℕ) → result ≡ Input.Bytes bytes → bytes ≤ length buffer.new }
+// Reads standard input into a buffer, to the end of the input or until the buffer is full. The answer is how many bytes the input came to.
+pub fn read(mut stdin: Stdin, buffer: &mut [u8]) -> io::Result<usize>
+    ensures { IfOk result (λ bytes. bytes ≤ length buffer.new) }
 {
     let mut done = 0;
     while done < buffer.len() {
-        let got = answered(&mut stdin, &mut buffer[done..]);
-        match read_on(done, got) {
-            Reading::More(count) => done = count,
-            Reading::Over(input) => return input,
+        match read_on(done, stdin.read(&mut buffer[done..]))? {
+            ControlFlow::Continue(count) => done = count,
+            ControlFlow::Break(count) => return Ok(count),
         }
     }
-    Input::Bytes(done)
+    Ok(done)
 }
 
-// Hands bytes to standard output. Where a write fails, some of them may have been taken, from the first on.
-pub fn write(stdout: Stdout, bytes: &[u8]) -> Output
-    ensures { (count : ℕ) → result ≡ Output.Bytes count → count ≡ length bytes.now }
+// Hands bytes to standard output, and answers how many: all. Where a write fails, some of them may have been taken, from the first on.
+pub fn write(stdout: Stdout, bytes: &[u8]) -> io::Result<usize>
+    ensures { IfOk result (λ count. count ≡ length bytes.now) }
 {
-    let all = Print::write_all(&stdout, bytes).is_ok();
-    write_answer(bytes.len(), all)
+    write_answer(bytes.len(), Print::write_all(&stdout, bytes))
 }
 
 // Hands a line to standard error.
@@ -57,35 +35,23 @@ pub fn complain(stderr: Stderr, line: &[u8]) {
     let _ = Print::write_all(&stderr, line);
 }
 
-// One read of the system: -1 where it failed, else how many bytes it put at the start of the buffer, 0 at the end of the input.
-fn answered(stdin: &mut Stdin, buffer: &mut [u8]) -> isize
-    ensures { Moved (length buffer.new) result }
+// How reading goes on after one read of the system, where so many bytes were read before it: on with so many in all, or over with so many. A read of no bytes
+// is the end of the input.
+fn read_on(done: usize, answer: io::Result<usize>) -> io::Result<ControlFlow<usize, usize>>
+    requires { IfOk answer (λ got. done + got < 2 ^ 64) }
+    ensures { result ≡ read_on done answer }
 {
-    match stdin.read(buffer) {
-        Ok(count) => count as isize,
-        Err(_) => -1,
+    let got = answer?;
+    if got == 0 {
+        return Ok(ControlFlow::Break(done));
     }
+    Ok(ControlFlow::Continue(done + got))
 }
 
-// The answer of a read is -1 where it failed, and 0 at the end of the input.
-fn read_on(done: usize, got: isize) -> Reading
-    requires { done + nat_abs got < 2 ^ 64 }
-    ensures { result ≡ read_on done got }
+// What handing over so many bytes comes to by the system's answer.
+fn write_answer(count: usize, answer: io::Result<()>) -> io::Result<usize>
+    ensures { result ≡ write_answer count answer }
 {
-    if got < 0 {
-        return Reading::Over(Input::Failed);
-    }
-    if got > 0 {
-        return Reading::More(done + got as usize);
-    }
-    Reading::Over(Input::Bytes(done))
-}
-
-fn write_answer(count: usize, all: bool) -> Output
-    ensures { result ≡ cond all (Output.Bytes count) Output.Failed }
-{
-    if all {
-        return Output::Bytes(count);
-    }
-    Output::Failed
+    answer?;
+    Ok(count)
 }

@@ -17,7 +17,8 @@ mod spans;
 
 ghost use Rattle.std.specs.Prelude.{◌≡◌, true, ◌<◌, ◌≤◌, length, MatchOption};
 ghost use Rattle.packed.specs.Words.{bits_of, word_count, words_of, is_assignment};
-ghost use Rattle.store.specs.Stores.{max_variables, is_row, rows_of, row_at, FormedRows};
+ghost use Rattle.store.specs.Held.{held_by};
+ghost use Rattle.store.specs.Stores.{max_variables, row_at};
 ghost use Rattle.lexleader.specs.Rows.{moved, lowers};
 ghost use Rattle.lexleader.specs.Descent.{rest, to, step_by, descend};
 ghost use Rattle.valuation.specs.Tables.{bits_in, Table};
@@ -27,6 +28,8 @@ ghost use Rattle.descent.specs.Noted.{Noted};
 ghost use Rattle.descent.specs.Moving.{MovedSpan};
 
 use store::record::Record;
+use store::row::Row;
+use store::rows::Rows;
 use trial::Span;
 
 // How a descent ends, with the count of its moves.
@@ -37,67 +40,58 @@ pub enum Descended {
 }
 
 // Descends from an assignment of 1..n, by the rows of a well-formed store.
-pub fn descend(images: &[u16], rows: usize, n: usize, a: &mut [u64], limit: u64) -> Descended
-    requires { FormedRows n rows images.now × (is_assignment n a.old ≡ true) }
-    ensures answer { let held = rows_of n rows images.now in
-        outcome_of result ≡ answer_of (descend limit held (bits_of n a.old)) }
-    ensures reached { a.new ≡ descended n limit (rows_of n rows images.now) a.old }
+pub fn descend(rows: Rows, a: &mut [u64], limit: u64) -> Descended
+    requires { is_assignment rows.n a.old ≡ true }
+    ensures answer { outcome_of result ≡ answer_of (descend limit (held_by rows.entry) (bits_of rows.entry.n a.old)) }
+    ensures reached { a.new ≡ descended rows.entry.n limit (held_by rows.entry) a.old }
 {
     let mut values = [false; valuation::TABLE];
-    valuation::tabulate(a, n, &mut values);
+    valuation::tabulate(a, rows.n, &mut values);
     let mut next = values;
     let mut buffer = [Span { first: 0, end: 0 }; Record::MAX_ROWS];
-    let spans = &mut buffer[..rows];
-    spans::note(images, n, spans);
-    let ended = settle(images, rows, n, spans, &mut next, &mut values, limit);
-    write_back(&values, n, a);
+    let spans = &mut buffer[..rows.count];
+    spans::note(rows, spans);
+    let ended = settle(rows, spans, &mut next, &mut values, limit);
+    write_back(&values, rows.n, a);
     ended
 }
 
 // Descends from the assignment of a table. A second one, the same before and after, is lent to write moves into.
 fn settle(
-    images: &[u16],
-    rows: usize,
-    n: usize,
+    rows: Rows,
     spans: &[Span],
     next: &mut [bool],
     values: &mut [bool],
     limit: u64,
 ) -> Descended
-    requires { FormedRows n rows images.now × Noted n rows images.now spans.now
-        × Table n values.old × (next.old ≡ values.old) }
-    ensures answer { let held = rows_of n rows images.now in
-        outcome_of result ≡ answer_of (descend limit held (bits_in n values.old)) }
-    ensures table { Table n values.new }
-    ensures reached { let held = rows_of n rows images.now in
-        bits_in n values.new ≡ reached_by (descend limit held (bits_in n values.old)) }
+    requires { Noted rows.n rows.count rows.images.now spans.now × Table rows.n values.old × (next.old ≡ values.old) }
+    ensures answer { let n = rows.entry.n in
+        outcome_of result ≡ answer_of (descend limit (held_by rows.entry) (bits_in n values.old)) }
+    ensures table { Table rows.entry.n values.new }
+    ensures reached { let n = rows.entry.n in
+        bits_in n values.new ≡ reached_by (descend limit (held_by rows.entry) (bits_in n values.old)) }
     ensures same { next.new ≡ values.new }
 {
     let mut moves: u64 = 0;
-    while let Some(r) = first_lowering(images, rows, n, spans, values) {
+    while let Some(r) = first_lowering(rows, spans, values) {
         if moves == limit {
             return Descended::Spent(moves);
         }
-        move_by(store::rows::row(images, n, r), spans[r], next, values);
+        move_by(rows.row(r), spans[r], next, values);
         moves += 1;
     }
     Descended::Settled(moves)
 }
 
 // The first row, from 0, that makes the assignment of a table smaller.
-fn first_lowering(
-    images: &[u16],
-    rows: usize,
-    n: usize,
-    spans: &[Span],
-    values: &[bool],
-) -> Option<usize>
-    requires { FormedRows n rows images.now × Noted n rows images.now spans.now × Table n values.now }
-    ensures { let held = rows_of n rows images.now in let bits = bits_in n values.now in
-        MatchOption result (step_by held bits ≡ rest) (λ r. (r < rows) × (step_by held bits ≡ to (moved (row_at n r images.now) bits))) }
+fn first_lowering(rows: Rows, spans: &[Span], values: &[bool]) -> Option<usize>
+    requires { Noted rows.n rows.count rows.images.now spans.now × Table rows.n values.now }
+    ensures { let n = rows.entry.n in let bits = bits_in n values.now in
+        MatchOption result (step_by (held_by rows.entry) bits ≡ rest)
+        (λ r. (r < rows.entry.count) × (step_by (held_by rows.entry) bits ≡ to (moved (row_at n r rows.entry.images.now) bits))) }
 {
-    for r in 0..rows {
-        if makes_smaller(store::rows::row(images, n, r), spans[r], values) {
+    for r in 0..rows.count {
+        if makes_smaller(rows.row(r), spans[r], values) {
             return Some(r);
         }
     }
@@ -105,21 +99,20 @@ fn first_lowering(
 }
 
 // Whether a row, of which no variable outside of a span is moved, makes the assignment of a table smaller.
-fn makes_smaller(row: &[u16], span: Span, values: &[bool]) -> bool
-    requires { let n = length row.now in
-        (is_row n row.now ≡ true) × Covers row.now span.first span.end × Table n values.now }
-    ensures { result ≡ lowers row.now (bits_in (length row.now) values.now) }
+fn makes_smaller(row: Row, span: Span, values: &[bool]) -> bool
+    requires { let row = row.images.now in Covers row span.first span.end × Table (length row) values.now }
+    ensures { let row = row.entry.images.now in result ≡ lowers row (bits_in (length row) values.now) }
 {
-    trial::try_row(row, span, values).is_some_and(|found| found.lowers)
+    trial::try_row(row.images, span, values).is_some_and(|found| found.lowers)
 }
 
 // Moves the assignment of two tables that are the same by a row, of which no variable outside of a span is moved.
-fn move_by(row: &[u16], span: Span, next: &mut [bool], values: &mut [bool])
-    requires { let n = length row.now in
-        (is_row n row.now ≡ true) × Covers row.now span.first span.end × Table n values.old × (next.old ≡ values.old) }
-    ensures table { Table (length row.now) values.new }
-    ensures bits { let n = length row.now in
-        bits_in n values.new ≡ moved row.now (bits_in n values.old) }
+fn move_by(row: Row, span: Span, next: &mut [bool], values: &mut [bool])
+    requires { let row = row.images.now in
+        Covers row span.first span.end × Table (length row) values.old × (next.old ≡ values.old) }
+    ensures table { Table (length row.entry.images.now) values.new }
+    ensures bits { let row = row.entry.images.now in let n = length row in
+        bits_in n values.new ≡ moved row (bits_in n values.old) }
     ensures same { next.new ≡ values.new }
 {
     let from = 2 * (span.first as usize + 1);
@@ -130,14 +123,15 @@ fn move_by(row: &[u16], span: Span, next: &mut [bool], values: &mut [bool])
 
 // Writes into the second table what the variables of a span have once they are moved: the values of their images.
 #[tactic(auto, using(crate::proofs::MoveLaws::image_within))]
-fn move_span(row: &[u16], span: Span, values: &[bool], next: &mut [bool])
-    requires { let n = length row.now in
-        (is_row n row.now ≡ true) × Covers row.now span.first span.end × Table n values.now × (next.old ≡ values.now) }
-    ensures { MovedSpan row.now span.first span.end values.now next.new }
+fn move_span(row: Row, span: Span, values: &[bool], next: &mut [bool])
+    requires { let row = row.images.now in
+        Covers row span.first span.end × Table (length row) values.now × (next.old ≡ values.now) }
+    ensures { MovedSpan row.entry.images.now span.first span.end values.now next.new }
 {
+    let images = row.images;
     for i in span.first as usize..span.end as usize {
         let own = 2 * (i + 1);
-        let image = row[i] as usize;
+        let image = images[i] as usize;
         let value = values[image];
         next[own] = value;
         next[own + 1] = !value;

@@ -6,9 +6,9 @@ use Rattle.trial.proofs.OnTable.{table-places, table-answers}
 use Rattle.descent.proofs.makes_smaller.Goals as goal
 
 pub try_row-requires : goal.try_row-requires
-try_row-requires c = (c.requires.1, table-places _ _ _ c.requires.0 c.requires.2)
+try_row-requires c = (c.requires.0, table-places _ _ _ c.args.row.formed.good c.requires.1)
 
 pub returns : goal.returns
 returns c =
     let found : c.is_some_and.result ≡ lowers_of c.try_row.result = search rules in
-    found ∙ c.try_row.ensures.lowers ∙ (table-answers _ _ _ c.requires.0 c.requires.2).says
+    found ∙ c.try_row.ensures.lowers ∙ (table-answers _ _ _ c.args.row.formed.good c.requires.1).says

@@ -3,4 +3,4 @@ use Rattle.descent.proofs.MoveLaws.{MovedTo}
 use Rattle.descent.proofs.move_span.Given as goal
 
 abbrev pub invariant-loop-i : goal.invariant-loop-i
-invariant-loop-i l = MovedTo l.row l.initial.i l.values l.next l.i
+invariant-loop-i l = MovedTo l.images l.initial.i l.values l.next l.i

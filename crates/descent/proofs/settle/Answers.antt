@@ -2,7 +2,7 @@
 -- Assumes nothing.
 use native.Mathlib.Omega.{arith}
 use Rattle.store.specs.Stores.{row_at}
-use Rattle.store.proofs.RowParts.{part-size, part-row}
+use Rattle.store.proofs.RowParts.{part-size}
 use Rattle.lexleader.specs.Rows.{moved}
 use Rattle.valuation.specs.Tables.{bits_in}
 use Rattle.trial.proofs.PairLaws.{span-covers}
@@ -23,17 +23,16 @@ pub move_by-requires : goal.move_by-requires
 move_by-requires c =
     let r = c.in-Some.r in
     let inside = c.in-Some.ensures.0 in (
-      part-row c.requires.0 r inside _ c.row.ensures,
-      rw c.row.ensures (span-covers (c.requires.1.spans-are r inside)),
-      rw (part-size c.requires.0 r inside _ c.row.ensures) c.loop-r.invariant.0.table,
+      rw c.row.ensures (span-covers (c.requires.0.spans-are r inside)),
+      rw (part-size c.args.rows.formed r inside _ c.row.ensures) c.loop-r.invariant.0.table,
       c.loop-r.invariant.1,
     )
 
 pub loop-r-preserved : goal.loop-r-preserved
 loop-r-preserved c =
-    let n = c.args.n in
-    let size = part-size c.requires.0 c.in-Some.r c.in-Some.ensures.0 _ c.row.ensures in
-    let b = moved (row_at n c.in-Some.r c.args.images.now) (bits_in n c.loop-r.values) in (
+    let n = c.args.rows.n in
+    let size = part-size c.args.rows.formed c.in-Some.r c.in-Some.ensures.0 _ c.row.ensures in
+    let b = moved (row_at n c.in-Some.r c.args.rows.images.now) (bits_in n c.loop-r.values) in (
       reached-more _ _ _ _ _ _ c.loop-r.invariant.0 b _ c.if-moves-limit.false c.in-Some.ensures.1 (rw size at c.move_by.ensures.table) (rw (size, c.row.ensures) at c.move_by.ensures.bits),
       c.move_by.ensures.same,
     )

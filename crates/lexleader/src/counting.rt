@@ -7,14 +7,18 @@
 // own negation, adds the one clause that compares it with its image, and no auxiliary.
 //
 // How many clauses a row adds doesn't depend on the numbers of its auxiliaries, so counting needs no e: the contracts hold for every e.
-ghost use Rattle.std.specs.Prelude.{◌≡◌, true, ℕ, ◌*◌, ◌≤◌, length};
-ghost use Rattle.store.specs.Stores.{max_variables, max_clauses, is_row, rows_of, FormedRows};
+ghost use Rattle.std.specs.Prelude.{◌≡◌, ℕ, ◌*◌, ◌≤◌, length};
+ghost use Rattle.store.specs.Held.{held_by};
+ghost use Rattle.store.specs.Stores.{max_variables};
 ghost use Rattle.cycles.specs.Marks.{marks_of, unmarked};
 ghost use Rattle.lexleader.specs.Made.{row_clauses, auxiliaries, rows_clauses, all_auxiliaries};
 ghost use Rattle.lexleader.specs.Bounds.{max_auxiliaries};
 ghost use Rattle.lexleader.specs.Counted.{Counted};
 
+use store::form::Formed;
 use store::record::Record;
+use store::row::Row;
+use store::rows::Rows;
 
 // What a row adds: its auxiliaries and its clauses.
 #[derive(Clone, Copy)]
@@ -44,12 +48,11 @@ pub fn pair_count(marks: &[bool]) -> usize
 
 // What a row adds, and the marks of what is left out of it. A row with x1 .. xk adds k - 1 auxiliaries and six clauses for each, or the one
 // clause where k is 1.
-pub fn added_by(row: &[u16], marks: &mut [bool]) -> Added
-    requires { let n = length row.now in
-        (n ≤ max_variables) × (is_row n row.now ≡ true) × (length marks.old ≡ n) }
-    ensures added { let row = row.entry.now in
+pub fn added_by(row: Row, marks: &mut [bool]) -> Added
+    requires { length marks.old ≡ length row.images.now }
+    ensures added { let row = row.entry.images.now in
         (result.auxiliaries ≡ auxiliaries row) × ((e : ℕ) → result.clauses ≡ length (row_clauses e row)) }
-    ensures marks { marks.new ≡ marks_of row.now }
+    ensures marks { marks.new ≡ marks_of row.entry.images.now }
 {
     cycles::leave_out(row, marks);
     let k = pair_count(marks);
@@ -66,9 +69,9 @@ pub fn added_by(row: &[u16], marks: &mut [bool]) -> Added
 }
 
 // What all rows add, with room for the marks of one.
-fn added_by_rows(images: &[u16], rows: usize, n: usize, marks: &mut [bool]) -> Added
-    requires { FormedRows n rows images.now × (length marks.old ≡ n) }
-    ensures { let held = rows_of n rows images.now in
+fn added_by_rows(rows: Rows, marks: &mut [bool]) -> Added
+    requires { length marks.old ≡ rows.n }
+    ensures { let held = held_by rows.entry in
         (result.auxiliaries ≡ all_auxiliaries held)
         × ((e : ℕ) → result.clauses ≡ length (rows_clauses e held))
         × (result.auxiliaries ≤ max_auxiliaries)
@@ -76,8 +79,8 @@ fn added_by_rows(images: &[u16], rows: usize, n: usize, marks: &mut [bool]) -> A
 {
     let mut auxiliaries = 0;
     let mut clauses = 0;
-    for r in 0..rows {
-        let more = added_by(store::rows::row(images, n, r), marks);
+    for r in 0..rows.count {
+        let more = added_by(rows.row(r), marks);
         auxiliaries += more.auxiliaries;
         clauses += more.clauses;
     }
@@ -88,15 +91,14 @@ fn added_by_rows(images: &[u16], rows: usize, n: usize, marks: &mut [bool]) -> A
 }
 
 // N and M of a store: its own counts, and what its rows add.
-pub fn totals_of(counts: Record, images: &[u16]) -> Totals
-    requires { (counts.clauses ≤ max_clauses) × FormedRows counts.variables counts.rows images.now }
-    ensures { Counted counts images.now result }
+pub fn totals_of(s: Formed) -> Totals
+    ensures { Counted s.entry.counts s.entry.images.now result }
 {
     let mut marks = [false; Record::MAX_VARIABLES];
-    let n = counts.variables;
-    let added = added_by_rows(images, counts.rows, n, &mut marks[..n]);
+    let n = s.counts.variables;
+    let added = added_by_rows(s.rows(), &mut marks[..n]);
     Totals {
-        variables: counts.variables + added.auxiliaries,
-        clauses: counts.clauses + added.clauses,
+        variables: n + added.auxiliaries,
+        clauses: s.counts.clauses + added.clauses,
     }
 }

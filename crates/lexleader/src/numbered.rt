@@ -1,7 +1,8 @@
 // One clause of those that rows add, by its number, for the clause call: rows are passed by how many clauses each adds, and in the row that
 // has the clause the six of an auxiliary by division. What writes or tests clause after clause keeps a place and never asks for a number.
 ghost use Rattle.std.specs.Prelude.{◌≡◌, ◌∷◌, [], ◌+◌, ◌-◌, ◌≤◌, ◌<◌, length, get_or, drop, MatchOption};
-ghost use Rattle.store.specs.Stores.{max_variables, rows_of, FormedRows};
+ghost use Rattle.store.specs.Held.{held_by};
+ghost use Rattle.store.specs.Stores.{max_variables};
 ghost use Rattle.cycles.specs.Marks.{marks_of};
 ghost use Rattle.lexleader.specs.Rows.{pairs_of};
 ghost use Rattle.lexleader.specs.Made.{row_clauses, auxiliaries, rows_clauses};
@@ -11,6 +12,7 @@ ghost use Rattle.lexleader.specs.Clause.{ClauseIs, SpotOf, pair_at, pairs_at};
 use crate::places::Place;
 use crate::table::Clause;
 use crate::{counting, places};
+use store::rows::Rows;
 
 // Where a clause stands: in which row, that row's first auxiliary, and its number among the row's clauses, from 0.
 #[derive(Clone, Copy)]
@@ -21,15 +23,16 @@ pub struct Spot {
 }
 
 // Looks for clause number q, from 0, of those that all rows add, and leaves the marks of its row.
-pub fn find(images: &[u16], rows: usize, n: usize, q: usize, marks: &mut [bool]) -> Option<Spot>
-    requires { FormedRows n rows images.now × (length marks.old ≡ n) }
-    ensures { let images = images.entry.now in
-        MatchOption result (length (rows_clauses (n + 1) (rows_of n rows images)) ≤ q) (λ spot. SpotOf n rows images q spot marks.new) }
+pub fn find(rows: Rows, q: usize, marks: &mut [bool]) -> Option<Spot>
+    requires { length marks.old ≡ rows.n }
+    ensures { let n = rows.entry.n in
+        MatchOption result (length (rows_clauses (n + 1) (held_by rows.entry)) ≤ q)
+        (λ spot. SpotOf n rows.entry.count rows.entry.images.now q spot marks.new) }
 {
-    let mut e = n + 1;
+    let mut e = rows.n + 1;
     let mut left = q;
-    for r in 0..rows {
-        let more = counting::added_by(store::rows::row(images, n, r), marks);
+    for r in 0..rows.count {
+        let more = counting::added_by(rows.row(r), marks);
         if left < more.clauses {
             return Some(Spot {
                 row: r,

@@ -16,44 +16,44 @@ use Rattle.symmetry.specs.Sought.{Sought}
 use Rattle.symmetry.proofs.KeyLaws.{same-by-part}
 use native.Mathlib.Omega.{arith}
 use Rattle.symmetry.proofs.is_image.Goals as goal
-use Rattle.symmetry.proofs.is_image.Goals.{After-place, After-wide}
+use Rattle.symmetry.proofs.is_image.Goals.{After-place, After-from}
 
 -- each literal of the clause among those that have the mark is enough, as the keys agree
-pub loop-i-init : goal.loop-i-init
+pub loop-code-init : goal.loop-code-init
 unfolding within
-loop-i-init c image s = same-by-part image c.args.clause.now s.literals c.requires.1 (c.requires.0 image s)
+loop-code-init c image s = same-by-part image c.args.clause.now s.literals c.requires.1 (c.requires.0 image s)
 
 pub bounds-marks-place : goal.bounds-marks-place
 bounds-marks-place c = omega (arith, c.place.ensures.1, c.requires.2)
 
-good : (c : After-place) → is_literal max_variables c.wide.result ≡ true
+good : (c : After-place) → is_literal max_variables c.from.result ≡ true
 good c =
-    rw c.wide.ensures.0 (all-at (is_literal max_variables) c.args.clause.now 0 c.requires.1 c.loop-i.i (omega arith))
+    rw c.from.ensures (all-at (is_literal max_variables) c.args.clause.now 0 c.requires.1 c.loop-code.code-index (omega arith))
 
 -- whether the literal at i is one of those that have the mark
 tested : (c : After-place) (image : List ℕ) → Sought c.args.mark c.args.marks.now image
-    → (get_or c.args.marks.now c.place.result 0 ≡ c.args.mark → has image (get_or c.args.clause.now c.loop-i.i 0) ≡ true)
-    × ((get_or c.args.marks.now c.place.result 0 ≡ c.args.mark → ⊥) → has image (get_or c.args.clause.now c.loop-i.i 0) ≡ false)
+    → (get_or c.args.marks.now c.place.result 0 ≡ c.args.mark → has image (get_or c.args.clause.now c.loop-code.code-index 0) ≡ true)
+    × ((get_or c.args.marks.now c.place.result 0 ≡ c.args.mark → ⊥) → has image (get_or c.args.clause.now c.loop-code.code-index 0) ≡ false)
 tested c image sought =
-    let here = rw (← c.place.ensures.0) at (sought.marked c.wide.result (omega (arith, literal-low max_variables _ (good c)))) in (
-      λ e. rw c.wide.ensures.0 at (sym here ∙ eq-eqb _ _ e),
-      λ n. rw c.wide.ensures.0 at (sym here ∙ ne_eqb _ _ n),
+    let here = rw (← c.place.ensures.0) at (sought.marked c.from.result (omega (arith, literal-low max_variables _ (good c)))) in (
+      λ e. rw c.from.ensures at (sym here ∙ eq-eqb _ _ e),
+      λ n. rw c.from.ensures at (sym here ∙ ne_eqb _ _ n),
     )
 
 pub returns-then-marks-place : goal.returns-then-marks-place
 returns-then-marks-place c image s =
-    sym (c.loop-i.invariant image s ∙ all-drop-miss (has image) _ c.loop-i.i 0 (omega arith) ((tested (goal.at.returns-then-marks-place c).After-place image s).1 c.if-marks-place.true))
+    sym (c.loop-code.invariant image s ∙ all-drop-miss (has image) _ c.loop-code.code-index 0 (omega arith) ((tested (goal.at.returns-then-marks-place c).After-place image s).1 c.if-marks-place.true))
 
-pub loop-i-preserved : goal.loop-i-preserved
-loop-i-preserved c image s =
-    c.loop-i.invariant image s ∙ all-drop-hit (has image) _ c.loop-i.i 0 (omega arith) ((tested (goal.at.loop-i-preserved c).After-place image s).0 c.if-marks-place.false)
+pub loop-code-preserved : goal.loop-code-preserved
+loop-code-preserved c image s =
+    c.loop-code.invariant image s ∙ all-drop-hit (has image) _ c.loop-code.code-index 0 (omega arith) ((tested (goal.at.loop-code-preserved c).After-place image s).0 c.if-marks-place.false)
 
 pub returns : goal.returns
-returns c image s = sym (c.loop-i.invariant image s ∙ all-drop-end (has image) _ c.loop-i.i (omega arith))
+returns c image s = sym (c.loop-code.invariant image s ∙ all-drop-end (has image) _ c.loop-code.code-index (omega arith))
 
-good-at-After-wide : (c : After-wide) → is_literal max_variables c.wide.result ≡ true
-good-at-After-wide c =
-    rw c.wide.ensures.0 (all-at (is_literal max_variables) c.args.clause.now 0 c.requires.1 c.loop-i.i (omega arith))
+good-at-After-from : (c : After-from) → is_literal max_variables c.from.result ≡ true
+good-at-After-from c =
+    rw c.from.ensures (all-at (is_literal max_variables) c.args.clause.now 0 c.requires.1 c.loop-code.code-index (omega arith))
 
 pub place-requires : goal.place-requires
-place-requires c = good-at-After-wide c
+place-requires c = good-at-After-from c

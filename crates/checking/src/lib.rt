@@ -34,15 +34,8 @@ use cursor::Cursor;
 use lexleader::places::Place;
 use store::record::Record;
 
-// Every clause of the made formula is true, or the number of the first that is false, from 1.
-#[derive(Clone, Copy)]
-pub enum Checked {
-    Satisfied,
-    Falsified(usize),
-}
-
-// The first clause of the made formula that an assignment of 1..N makes false; how many clauses there are is known, and there is room for the
-// marks of a row.
+// The number, from 1, of the first clause of the made formula that an assignment of 1..N makes false; how many clauses there are is known, and
+// there is room for the marks of a row.
 pub fn first_false(
     counts: Record,
     literals: &[u16],
@@ -51,7 +44,7 @@ pub fn first_false(
     clauses: usize,
     a: &[u64],
     marks: &mut [bool],
-) -> Checked
+) -> Option<usize>
     requires { let s = stored counts literals ends images in
         (is_formed s ≡ true) × (is_assignment (variables_of s) a.now ≡ true) × (clauses ≡ clauses_of s) × (length marks.old ≡ counts.variables) }
     ensures { let s = stored counts literals.entry ends.entry images.entry in
@@ -61,6 +54,7 @@ pub fn first_false(
     valuation::tabulate(a, counts.variables, &mut values);
     let mut at = cursor::start(counts, images, marks);
     let mut q = 1;
+    // Counted by hand: the six clauses of an auxiliary are passed at once.
     while q <= clauses {
         if six_hold(counts, images, at, &values, a) {
             at = cursor::next_auxiliary(counts, images, at, marks);
@@ -68,12 +62,12 @@ pub fn first_false(
             continue;
         }
         if !holds_at(counts, literals, ends, images, at, &values, a) {
-            return Checked::Falsified(q);
+            return Some(q);
         }
         at = cursor::next(counts, images, at, marks);
         q += 1;
     }
-    Checked::Satisfied
+    None
 }
 
 // Whether a cursor stands at the first of an auxiliary's six clauses and they all hold.
@@ -202,12 +196,10 @@ fn stored_holds(clause: &[u16], values: &[bool]) -> bool
     requires { (i : ℕ) → i < length clause.now → get_or clause.now i 0 < length values.now }
     ensures { result ≡ any_of (by_code values.now) clause.now }
 {
-    let mut i = 0;
-    while i < clause.len() {
-        if values[clause[i] as usize] {
+    for code in clause {
+        if values[*code as usize] {
             return true;
         }
-        i += 1;
     }
     false
 }
@@ -218,12 +210,10 @@ fn codes_hold(clause: &[u32], a: &[u64]) -> bool
     ensures { let clause = clause.entry.now in
         ((n : ℕ) → all_of (is_literal n) clause ≡ true → result ≡ clause_holds (value_of (bits_of n a.now)) clause) }
 {
-    let mut i = 0;
-    while i < clause.len() {
-        if valuation::literal_value(a, clause[i]) {
+    for code in clause {
+        if valuation::literal_value(a, *code) {
             return true;
         }
-        i += 1;
     }
     false
 }

@@ -83,8 +83,7 @@ fn six_hold(counts: Record, images: &[u16], at: Cursor, values: &[bool], a: &[u6
         return false;
     }
     let row = store::rows::row(images, counts.variables, at.row);
-    let place = at.place;
-    table_holds(row, place, values, a)
+    table_holds(row, at.place, values, a)
 }
 
 // Whether the six clauses of the auxiliary at a place hold: it is true exactly when it is due, the next pair is ordered where it is true,
@@ -96,22 +95,11 @@ fn table_holds(row: &[u16], place: Place, values: &[bool], a: &[u64]) -> bool
     ensures { let six = six_at row.now place in
         ((n : ℕ) → LiteralsWithin n six → result ≡ formula_holds (value_of (bits_of n a.now)) six) }
 {
-    let i = place.index;
-    let next = place.next;
     let due = auxiliary_due(row, place, values, a);
     if valuation::variable_value(a, place.auxiliary as usize) {
-        if !due {
-            return false;
-        }
-        return is_ordered(row, next, values);
+        return due && is_ordered(row, place.next, values);
     }
-    if due {
-        return false;
-    }
-    if place.j == 1 {
-        return is_ordered(row, i, values);
-    }
-    true
+    !due && (place.j != 1 || is_ordered(row, place.index, values))
 }
 
 // Whether the auxiliary at a place has to be true.
@@ -122,14 +110,11 @@ fn auxiliary_due(row: &[u16], place: Place, values: &[bool], a: &[u64]) -> bool
     ensures { let row = row.entry.now in
         ((n : ℕ) → LiteralsWithin n (six_at row place) → result ≡ auxiliary_due (value_of (bits_of n a.now)) row place) }
 {
-    let i = place.index;
     if place.j == 1 {
-        return pair_agrees(row, i, values);
+        return pair_agrees(row, place.index, values);
     }
-    if !valuation::variable_value(a, place.auxiliary as usize - 1) {
-        return false;
-    }
-    pair_agrees(row, i, values)
+    valuation::variable_value(a, place.auxiliary as usize - 1)
+        && pair_agrees(row, place.index, values)
 }
 
 // Whether a variable and its image have the same value.
@@ -152,11 +137,7 @@ fn is_ordered(row: &[u16], i: usize, values: &[bool]) -> bool
         result ≡ (not (value pair.x) || value pair.y) }
 {
     let own = 2 * (i + 1);
-    if !values[own] {
-        return true;
-    }
-    let image = row[i] as usize;
-    values[image]
+    !values[own] || values[row[i] as usize]
 }
 
 // Whether the clause at a cursor has a true literal.

@@ -4,7 +4,6 @@ use mathlib.Core.Path.{sym, subst, ◌∙◌}
 use mathlib.Core.List.{◌∷◌, []}
 use Prim.Native.Nat.{ℕ, ◌+◌}
 use native.Mathlib.Omega.{arith}
-use borrow.Author.Tests.{not-true, not-false}
 use Rattle.packed.proofs.Form.{form-room}
 use Rattle.store.specs.Stores.{lent, plain_of}
 use Rattle.store.proofs.Formed.{formed, formed-rows}
@@ -75,7 +74,7 @@ pub returns-then-not-holds_at : goal.returns-then-not-holds_at
 returns-then-not-holds_at c =
     let t = c.loop-q.invariant.0 in
     let told = c.holds_at.ensures _ (head-within _ c.requires.0 c.args.a.now t (omega arith)) in
-    try-found _ c.requires.0 _ t (omega (arith, c.loop-q-test.true)) (sym told ∙ not-true _ c.if-not-holds_at.true-raw)
+    try-found _ c.requires.0 _ t (omega (arith, c.loop-q-test.true)) (sym told ∙ c.if-not-holds_at.true)
 
 pub next-at-requires : goal.next-at-requires
 next-at-requires c =
@@ -91,7 +90,7 @@ loop-q-preserved c =
     let t = c.loop-q.invariant.0 in
     let told = c.holds_at.ensures _ (head-within _ c.requires.0 a.a.now t (omega arith)) in
     let is = c.next-at.ensures.remaining (plain_of s) (plain-length s c.requires.0) in
-    (try-on s c.requires.0 a.a.now t (_ ∷ []) c.next-at.result is c.next-at.ensures.stands (one_holds _ _ (sym told ∙ not-false _ c.if-not-holds_at.false-raw)), c.next-at.ensures.marks)
+    (try-on s c.requires.0 a.a.now t (_ ∷ []) c.next-at.result is c.next-at.ensures.stands (one_holds _ _ (sym told ∙ c.if-not-holds_at.false)), c.next-at.ensures.marks)
 
 pub returns : goal.returns
 returns c = try-all _ c.requires.0 c.args.a.now c.loop-q.invariant.0 (omega arith)

@@ -41,18 +41,18 @@ pub enum Descended {
 
 // Descends from an assignment of 1..n, by the rows of a well-formed store.
 pub fn descend(rows: Rows, a: &mut [u64], limit: u64) -> Descended
-    requires { is_assignment rows.n a.old ≡ true }
-    ensures answer { outcome_of result ≡ answer_of (descend limit (held_by rows.entry) (bits_of rows.entry.n a.old)) }
-    ensures reached { a.new ≡ descended rows.entry.n limit (held_by rows.entry) a.old }
+    requires { is_assignment rows.counts.variables a.old ≡ true }
+    ensures answer { outcome_of result ≡ answer_of (descend limit (held_by rows.entry) (bits_of rows.entry.counts.variables a.old)) }
+    ensures reached { a.new ≡ descended rows.entry.counts.variables limit (held_by rows.entry) a.old }
 {
     let mut values = [false; valuation::TABLE];
-    valuation::tabulate(a, rows.n, &mut values);
+    valuation::tabulate(a, rows.counts.variables, &mut values);
     let mut next = values;
     let mut buffer = [Span { first: 0, end: 0 }; Record::MAX_ROWS];
-    let spans = &mut buffer[..rows.count];
+    let spans = &mut buffer[..rows.counts.rows];
     spans::note(rows, spans);
     let ended = settle(rows, spans, &mut next, &mut values, limit);
-    write_back(&values, rows.n, a);
+    write_back(&values, rows.counts.variables, a);
     ended
 }
 
@@ -64,11 +64,11 @@ fn settle(
     values: &mut [bool],
     limit: u64,
 ) -> Descended
-    requires { Noted rows.n rows.count rows.images.now spans.now × Table rows.n values.old × (next.old ≡ values.old) }
-    ensures answer { let n = rows.entry.n in
+    requires { Noted rows.counts.variables rows.counts.rows rows.images.now spans.now × Table rows.counts.variables values.old × (next.old ≡ values.old) }
+    ensures answer { let n = rows.entry.counts.variables in
         outcome_of result ≡ answer_of (descend limit (held_by rows.entry) (bits_in n values.old)) }
-    ensures table { Table rows.entry.n values.new }
-    ensures reached { let n = rows.entry.n in
+    ensures table { Table rows.entry.counts.variables values.new }
+    ensures reached { let n = rows.entry.counts.variables in
         bits_in n values.new ≡ reached_by (descend limit (held_by rows.entry) (bits_in n values.old)) }
     ensures same { next.new ≡ values.new }
 {
@@ -85,12 +85,12 @@ fn settle(
 
 // The first row, from 0, that makes the assignment of a table smaller.
 fn first_lowering(rows: Rows, spans: &[Span], values: &[bool]) -> Option<usize>
-    requires { Noted rows.n rows.count rows.images.now spans.now × Table rows.n values.now }
-    ensures { let n = rows.entry.n in let bits = bits_in n values.now in
+    requires { Noted rows.counts.variables rows.counts.rows rows.images.now spans.now × Table rows.counts.variables values.now }
+    ensures { let n = rows.entry.counts.variables in let bits = bits_in n values.now in
         MatchOption result (step_by (held_by rows.entry) bits ≡ rest)
-        (λ r. (r < rows.entry.count) × (step_by (held_by rows.entry) bits ≡ to (moved (row_at n r rows.entry.images.now) bits))) }
+        (λ r. (r < rows.entry.counts.rows) × (step_by (held_by rows.entry) bits ≡ to (moved (row_at n r rows.entry.images.now) bits))) }
 {
-    for r in 0..rows.count {
+    for r in 0..rows.counts.rows {
         if makes_smaller(rows.row(r), spans[r], values) {
             return Some(r);
         }

@@ -7,8 +7,8 @@ use trial::Span;
 
 // Notes the span of each row.
 pub fn note(rows: Rows, spans: &mut [Span])
-    requires { length spans.old ≡ rows.count }
-    ensures { Noted rows.entry.n rows.entry.count rows.entry.images.now spans.new }
+    requires { length spans.old ≡ rows.counts.rows }
+    ensures { Noted rows.entry.counts.variables rows.entry.counts.rows rows.entry.images.now spans.new }
 {
     for (r, span) in spans.iter_mut().enumerate() {
         *span = trial::span_of(rows.row(r).images);

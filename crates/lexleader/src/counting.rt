@@ -9,13 +9,12 @@
 // How many clauses a row adds doesn't depend on the numbers of its auxiliaries, so counting needs no e: the contracts hold for every e.
 ghost use Rattle.std.specs.Prelude.{◌≡◌, ℕ, ◌*◌, ◌≤◌, length};
 ghost use Rattle.store.specs.Held.{held_by};
-ghost use Rattle.store.specs.Stores.{max_variables};
+ghost use Rattle.store.specs.Stores.{max_variables, max_clauses};
 ghost use Rattle.cycles.specs.Marks.{marks_of, unmarked};
 ghost use Rattle.lexleader.specs.Made.{row_clauses, auxiliaries, rows_clauses, all_auxiliaries};
 ghost use Rattle.lexleader.specs.Bounds.{max_auxiliaries};
 ghost use Rattle.lexleader.specs.Counted.{Counted};
 
-use store::form::Formed;
 use store::record::Record;
 use store::row::Row;
 use store::rows::Rows;
@@ -70,7 +69,7 @@ pub fn added_by(row: Row, marks: &mut [bool]) -> Added
 
 // What all rows add, with room for the marks of one.
 fn added_by_rows(rows: Rows, marks: &mut [bool]) -> Added
-    requires { length marks.old ≡ rows.n }
+    requires { length marks.old ≡ rows.counts.variables }
     ensures { let held = held_by rows.entry in
         (result.auxiliaries ≡ all_auxiliaries held)
         × ((e : ℕ) → result.clauses ≡ length (rows_clauses e held))
@@ -79,7 +78,7 @@ fn added_by_rows(rows: Rows, marks: &mut [bool]) -> Added
 {
     let mut auxiliaries = 0;
     let mut clauses = 0;
-    for r in 0..rows.count {
+    for r in 0..rows.counts.rows {
         let more = added_by(rows.row(r), marks);
         auxiliaries += more.auxiliaries;
         clauses += more.clauses;
@@ -91,14 +90,15 @@ fn added_by_rows(rows: Rows, marks: &mut [bool]) -> Added
 }
 
 // N and M of a store: its own counts, and what its rows add.
-pub fn totals_of(s: Formed) -> Totals
-    ensures { Counted s.entry.counts s.entry.images.now result }
+pub fn totals_of(rows: Rows) -> Totals
+    requires { rows.counts.clauses ≤ max_clauses }
+    ensures { Counted rows.entry.counts rows.entry.images.now result }
 {
     let mut marks = [false; Record::MAX_VARIABLES];
-    let n = s.counts.variables;
-    let added = added_by_rows(s.rows(), &mut marks[..n]);
+    let n = rows.counts.variables;
+    let added = added_by_rows(rows, &mut marks[..n]);
     Totals {
         variables: n + added.auxiliaries,
-        clauses: s.counts.clauses + added.clauses,
+        clauses: rows.counts.clauses + added.clauses,
     }
 }

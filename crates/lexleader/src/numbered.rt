@@ -24,14 +24,14 @@ pub struct Spot {
 
 // Looks for clause number q, from 0, of those that all rows add, and leaves the marks of its row.
 pub fn find(rows: Rows, q: usize, marks: &mut [bool]) -> Option<Spot>
-    requires { length marks.old ≡ rows.n }
-    ensures { let n = rows.entry.n in
+    requires { length marks.old ≡ rows.counts.variables }
+    ensures { let n = rows.entry.counts.variables in
         MatchOption result (length (rows_clauses (n + 1) (held_by rows.entry)) ≤ q)
-        (λ spot. SpotOf n rows.entry.count rows.entry.images.now q spot marks.new) }
+        (λ spot. SpotOf n rows.entry.counts.rows rows.entry.images.now q spot marks.new) }
 {
-    let mut e = rows.n + 1;
+    let mut e = rows.counts.variables + 1;
     let mut left = q;
-    for r in 0..rows.count {
+    for r in 0..rows.counts.rows {
         let more = counting::added_by(rows.row(r), marks);
         if left < more.clauses {
             return Some(Spot {

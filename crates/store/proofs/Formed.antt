@@ -14,9 +14,7 @@ use Rattle.lists.proofs.Cases.{and_l, and_r}
 use Rattle.lists.proofs.Members.{all-at, all_in}
 use Rattle.lists.proofs.Distinct.{distinct-inj, inj-distinct}
 use Rattle.store.specs.Literals.{variable_of, is_literal}
-use Rattle.store.specs.Stores.{Store, max_variables, max_clauses, max_literals, max_rows, rising, literal_count, row_at, rows_of, held_rows, is_row, FormedRow, FormedRows, FormedClauses, is_formed}
-use Rattle.store.specs.Held.{held_by}
-use Rattle.store.specs.declared.rows.Rows.{Rows}
+use Rattle.store.specs.Stores.{Store, max_variables, max_clauses, max_literals, max_rows, rising, literal_count, row_at, held_rows, is_row, FormedRow, FormedRows, FormedClauses, is_formed}
 use Rattle.store.proofs.FormLaws.{variables, variable-at, literal-low, literal-high, literal-within, count_none, count-last}
 use Rattle.store.proofs.RowLaws.{rows_at, row-size}
 use Rattle.store.proofs.Cuts.{end_is}
@@ -122,11 +120,7 @@ pub formed-rows : (s : Store) → is_formed s ≡ true → FormedRows s.counts.v
 unfolding held_rows
 formed-rows s e = let r = rest_of s e in record { small = r.variables-fit; rows_fit = r.rows_fit; fits = r.images-long; good = rows-of s e }
 
--- its rows as `Formed::rows` gives them
-pub same-rows : (r : Rows) {n k : ℕ} {images : List ℕ} → r.n ≡ n → r.count ≡ k → r.images.now ≡ images → held_by r ≡ rows_of n k images
-same-rows r is-n is-k are = rw (is-n, is-k, are)
-
--- and each of them
+-- and each of its rows
 pub formed-row : (n k : ℕ) (images : List ℕ) → FormedRows n k images → (r : ℕ) → r < k → FormedRow (row_at n r images)
 formed-row n k images rows r h =
     let long : length (row_at n r images) ≡ n = row-size n k images rows.fits r h in

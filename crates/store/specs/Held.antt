@@ -6,8 +6,8 @@ use Rattle.store.specs.declared.rows.Rows.{Rows}
 
 -- the store that a well-formed one is
 abbrev pub store_of : Formed → Store
-store_of s = stored s.counts s.literals s.ends s.images
+store_of s = stored s.rows.counts s.literals s.ends s.rows.images
 
 -- the rows, as lists
 abbrev pub held_by : Rows → List (List ℕ)
-held_by rows = rows_of rows.n rows.count rows.images.now
+held_by rows = rows_of rows.counts.variables rows.counts.rows rows.images.now

@@ -10,14 +10,13 @@ use crate::record::Record;
 use crate::rows::Rows;
 use crate::{clauses, literal, rows};
 
-// A well-formed store.
+// A well-formed store: its record and its images are its rows, for what reads no more of it.
 #[derive(Clone, Copy)]
 pub struct Formed<'a> {
-    pub counts: Record,
+    pub rows: Rows<'a>,
     pub literals: &'a [u16],
     pub ends: &'a [u16],
-    pub images: &'a [u16],
-    pub ghost formed: { is_formed (stored counts literals ends images) ≡ true },
+    pub ghost formed: { is_formed (stored rows.counts literals ends rows.images) ≡ true },
 }
 
 impl<'a> Formed<'a> {
@@ -29,38 +28,24 @@ impl<'a> Formed<'a> {
         images: &'a [u16],
     ) -> Option<Formed<'a>>
         ensures { let s = stored counts literals.entry ends.entry images.entry in
-            MatchOption result (is_formed s ≡ false) (λ f. stored f.counts f.literals f.ends f.images ≡ s) }
+            MatchOption result (is_formed s ≡ false) (λ f. stored f.rows.counts f.literals f.ends f.rows.images ≡ s) }
     {
         if !is_formed(counts, literals, ends, images) {
             return None;
         }
         Some(Formed {
-            counts,
+            rows: Rows { counts, images },
             literals,
             ends,
-            images,
         })
     }
 
     // Clause c, from 0.
     pub fn clause(self, c: usize) -> &'a [u16]
-        requires { c < self.counts.clauses }
+        requires { c < self.rows.counts.clauses }
         ensures { result.now ≡ clause_at self.entry.literals.now self.entry.ends.now c }
     {
-        clauses::clause(self.literals, self.ends, self.counts.clauses, c)
-    }
-
-    // Its rows, for what reads no more of it.
-    pub fn rows(self) -> Rows<'a>
-        ensures n { result.n ≡ self.entry.counts.variables }
-        ensures count { result.count ≡ self.entry.counts.rows }
-        ensures images { result.images.now ≡ self.entry.images.now }
-    {
-        Rows {
-            images: self.images,
-            n: self.counts.variables,
-            count: self.counts.rows,
-        }
+        clauses::clause(self.literals, self.ends, self.rows.counts.clauses, c)
     }
 }
 

@@ -3,25 +3,25 @@ ghost use Rattle.std.specs.Prelude.{◌≡◌, ◌+◌, ◌*◌, ◌≤◌, ◌<
 ghost use Rattle.store.specs.Stores.{max_variables, row_at, appended, FormedRows};
 ghost use Rattle.store.specs.Identity.{moves_nothing};
 
+use crate::record::Record;
 use crate::row::Row;
 
-// The rows of a well-formed store.
+// The rows of a well-formed store, by its record and its images.
 #[derive(Clone, Copy)]
 pub struct Rows<'a> {
+    pub counts: Record,
     pub images: &'a [u16],
-    pub n: usize,
-    pub count: usize,
-    pub ghost formed: { FormedRows n count images.now },
+    pub ghost formed: { FormedRows counts.variables counts.rows images.now },
 }
 
 impl<'a> Rows<'a> {
     // Row r, from 0.
     pub fn row(self, r: usize) -> Row<'a>
-        requires { r < self.count }
-        ensures { result.images.now ≡ row_at self.entry.n r self.entry.images.now }
+        requires { r < self.counts.rows }
+        ensures { result.images.now ≡ row_at self.entry.counts.variables r self.entry.images.now }
     {
         Row {
-            images: row(self.images, self.n, r),
+            images: row(self.images, self.counts.variables, r),
         }
     }
 }

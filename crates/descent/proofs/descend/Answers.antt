@@ -8,11 +8,11 @@ use Rattle.descent.proofs.descend.Goals as goal
 
 pub tabulate-requires : goal.tabulate-requires
 tabulate-requires c =
-    (form-room c.args.rows.n c.args.a.now c.requires, omega (arith, c.args.rows.formed.small))
+    (form-room c.args.rows.counts.variables c.args.a.now c.requires, omega (arith, c.args.rows.formed.small))
 
 pub write_back-requires : goal.write_back-requires
 write_back-requires c =
-    (c.args.rows.formed.small, c.settle-ended.ensures.table, form-count c.args.rows.n c.args.a.now c.requires)
+    (c.args.rows.formed.small, c.settle-ended.ensures.table, form-count c.args.rows.counts.variables c.args.a.now c.requires)
 
 pub returns-clause-reached : goal.returns-clause-reached
 unfolding descended

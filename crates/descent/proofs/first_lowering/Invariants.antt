@@ -8,4 +8,4 @@ use Rattle.descent.proofs.first_lowering.Given as goal
 
 abbrev pub invariant-loop-r : goal.invariant-loop-r
 invariant-loop-r l =
-    step_by (held_by l.rows) (bits_in l.rows.n l.values) ≡ step_by (rows_from l.rows.n l.rows.count l.rows.images.now l.r) (bits_in l.rows.n l.values)
+    step_by (held_by l.rows) (bits_in l.rows.counts.variables l.values) ≡ step_by (rows_from l.rows.counts.variables l.rows.counts.rows l.rows.images.now l.r) (bits_in l.rows.counts.variables l.values)

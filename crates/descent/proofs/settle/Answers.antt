@@ -30,7 +30,7 @@ move_by-requires c =
 
 pub loop-r-preserved : goal.loop-r-preserved
 loop-r-preserved c =
-    let n = c.args.rows.n in
+    let n = c.args.rows.counts.variables in
     let size = part-size c.args.rows.formed c.in-Some.r c.in-Some.ensures.0 _ c.row.ensures in
     let b = moved (row_at n c.in-Some.r c.args.rows.images.now) (bits_in n c.loop-r.values) in (
       reached-more _ _ _ _ _ _ c.loop-r.invariant.0 b _ c.if-moves-limit.false c.in-Some.ensures.1 (rw size at c.move_by.ensures.table) (rw (size, c.row.ensures) at c.move_by.ensures.bits),

@@ -9,7 +9,7 @@ use Rattle.descent.proofs.settle.Given as goal
 
 abbrev pub invariant-loop-r : goal.invariant-loop-r
 invariant-loop-r l =
-    Reached l.rows.n l.limit (held_by l.rows) (bits_in l.rows.n l.initial.values) l.values l.moves × (l.next ≡ l.values)
+    Reached l.rows.counts.variables l.limit (held_by l.rows) (bits_in l.rows.counts.variables l.initial.values) l.values l.moves × (l.next ≡ l.values)
 
 abbrev pub decreases-loop-r : goal.decreases-loop-r
 decreases-loop-r l = l.limit - l.moves

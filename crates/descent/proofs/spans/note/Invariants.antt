@@ -6,4 +6,4 @@ use Rattle.descent.specs.Noted.{span_at}
 use Rattle.descent.proofs.spans.note.Given as goal
 
 abbrev pub invariant-loop-r : goal.invariant-loop-r
-invariant-loop-r l = (q : ℕ) → q < l.r → IsSpan (row_at l.rows.n q l.rows.images.now) (span_at l.spans q).first (span_at l.spans q).end
+invariant-loop-r l = (q : ℕ) → q < l.r → IsSpan (row_at l.rows.counts.variables q l.rows.images.now) (span_at l.spans q).first (span_at l.spans q).end

@@ -13,19 +13,19 @@ added_by-more-requires c =
 
 pub overflow_add-auxiliaries : goal.overflow_add-auxiliaries
 overflow_add-auxiliaries c =
-    let more = summed-more c.args.rows.n c.args.rows.count c.args.rows.images.now c.args.rows.formed c.loop-r.invariant (omega arith) c.row.ensures c.added_by-more.ensures.added in
+    let more = summed-more c.args.rows.counts.variables c.args.rows.counts.rows c.args.rows.images.now c.args.rows.formed c.loop-r.invariant (omega arith) c.row.ensures c.added_by-more.ensures.added in
     omega (arith, more.few-auxiliaries, c.args.rows.formed.rows_fit)
 
 pub overflow_add-clauses : goal.overflow_add-clauses
 overflow_add-clauses c =
-    let more = summed-more c.args.rows.n c.args.rows.count c.args.rows.images.now c.args.rows.formed c.loop-r.invariant (omega arith) c.row.ensures c.added_by-more.ensures.added in
+    let more = summed-more c.args.rows.counts.variables c.args.rows.counts.rows c.args.rows.images.now c.args.rows.formed c.loop-r.invariant (omega arith) c.row.ensures c.added_by-more.ensures.added in
     omega (arith, more.few-clauses, c.args.rows.formed.rows_fit)
 
 pub loop-r-preserved : goal.loop-r-preserved
 loop-r-preserved c =
-    summed-more c.args.rows.n c.args.rows.count c.args.rows.images.now c.args.rows.formed c.loop-r.invariant (omega arith) c.row.ensures c.added_by-more.ensures.added
+    summed-more c.args.rows.counts.variables c.args.rows.counts.rows c.args.rows.images.now c.args.rows.formed c.loop-r.invariant (omega arith) c.row.ensures c.added_by-more.ensures.added
 
 pub returns : goal.returns
 returns c =
-    let all = summed-all c.args.rows.n c.args.rows.count c.args.rows.images.now c.loop-r.invariant (omega arith) in
+    let all = summed-all c.args.rows.counts.variables c.args.rows.counts.rows c.args.rows.images.now c.loop-r.invariant (omega arith) in
     (all.0, all.1, omega (arith, c.args.rows.formed.rows_fit), omega (arith, c.args.rows.formed.rows_fit))

@@ -4,4 +4,4 @@ use Rattle.lexleader.proofs.Left.{Summed}
 use Rattle.lexleader.proofs.counting.added_by_rows.Given as goal
 
 abbrev pub invariant-loop-r : goal.invariant-loop-r
-invariant-loop-r l = Summed l.rows.n l.rows.count l.rows.images.now l.auxiliaries l.clauses l.r
+invariant-loop-r l = Summed l.rows.counts.variables l.rows.counts.rows l.rows.images.now l.auxiliaries l.clauses l.r

@@ -19,7 +19,7 @@ returns-then-left-more c =
     let f = c.args.rows.formed in
     let adds = subst (Adds _ _) c.row.ensures c.added_by-more.ensures.added in
     let inside = adds.1 c.loop-r.e in
-    let here = sought-here a.n a.count a.images.now c.args.q c.loop-r.e c.loop-r.left c.loop-r.r c.loop-r.invariant (omega arith) (omega (arith, inside)) in
+    let here = sought-here a.counts.variables a.counts.rows a.images.now c.args.q c.loop-r.e c.loop-r.left c.loop-r.r c.loop-r.invariant (omega arith) (omega (arith, inside)) in
     record {
       within = omega arith;
       some = here.0;
@@ -29,8 +29,8 @@ returns-then-left-more c =
             c.loop-r.invariant.low,
             f.small,
             f.rows_fit,
-            auxiliaries-most (row_at a.n c.loop-r.r a.images.now),
-            row-size a.n a.count a.images.now f.fits c.loop-r.r (omega arith),
+            auxiliaries-most (row_at a.counts.variables c.loop-r.r a.images.now),
+            row-size a.counts.variables a.counts.rows a.images.now f.fits c.loop-r.r (omega arith),
           );
       inside = omega (arith, inside);
       is = here.1;
@@ -40,15 +40,15 @@ returns-then-left-more c =
 pub overflow_add-e-in-loop-r : goal.overflow_add-e-in-loop-r
 overflow_add-e-in-loop-r c =
     let a = c.args.rows in
-    let later = sought-later a.n a.count a.images.now c.args.q c.loop-r.e c.loop-r.left c.loop-r.r c.loop-r.invariant (omega arith) c.args.rows.formed c.row.ensures c.added_by-more.ensures.added (omega arith) in
+    let later = sought-later a.counts.variables a.counts.rows a.images.now c.args.q c.loop-r.e c.loop-r.left c.loop-r.r c.loop-r.invariant (omega arith) c.args.rows.formed c.row.ensures c.added_by-more.ensures.added (omega arith) in
     omega (arith, later.low, c.args.rows.formed.rows_fit)
 
 pub loop-r-preserved : goal.loop-r-preserved
 loop-r-preserved c =
     let a = c.args.rows in
-    sought-later a.n a.count a.images.now c.args.q c.loop-r.e c.loop-r.left c.loop-r.r c.loop-r.invariant (omega arith) c.args.rows.formed c.row.ensures c.added_by-more.ensures.added (omega arith)
+    sought-later a.counts.variables a.counts.rows a.images.now c.args.q c.loop-r.e c.loop-r.left c.loop-r.r c.loop-r.invariant (omega arith) c.args.rows.formed c.row.ensures c.added_by-more.ensures.added (omega arith)
 
 pub returns : goal.returns
 returns c =
     let a = c.args.rows in
-    sought-none a.n a.count a.images.now c.args.q c.loop-r.e c.loop-r.left c.loop-r.r c.loop-r.invariant (omega arith)
+    sought-none a.counts.variables a.counts.rows a.images.now c.args.q c.loop-r.e c.loop-r.left c.loop-r.r c.loop-r.invariant (omega arith)

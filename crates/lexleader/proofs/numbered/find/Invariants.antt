@@ -4,4 +4,4 @@ use Rattle.lexleader.proofs.Left.{Sought}
 use Rattle.lexleader.proofs.numbered.find.Given as goal
 
 abbrev pub invariant-loop-r : goal.invariant-loop-r
-invariant-loop-r l = Sought l.rows.n l.rows.count l.rows.images.now l.q l.e l.left l.r
+invariant-loop-r l = Sought l.rows.counts.variables l.rows.counts.rows l.rows.images.now l.q l.e l.left l.r

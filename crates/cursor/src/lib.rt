@@ -14,7 +14,8 @@
 #![tactic(auto)]
 
 ghost use Rattle.std.specs.Prelude.{◌≡◌, true, List, [], ◌∷◌, ℕ, ◌+◌, ◌≤◌, length, get_or};
-ghost use Rattle.store.specs.Stores.{rows_of, rows_from, FormedRows};
+ghost use Rattle.store.specs.Held.{held_by};
+ghost use Rattle.store.specs.Stores.{rows_from};
 ghost use Rattle.lexleader.specs.Made.{made, rows_clauses};
 ghost use Rattle.lexleader.specs.Bounds.{max_before};
 ghost use Rattle.lexleader.specs.Places.{clauses_at, six_at, auxiliary_after, PlaceStands, PlaceAfter};
@@ -22,6 +23,7 @@ ghost use Rattle.cursor.specs.Cursors.{added_from, remaining, row_of, CursorStan
 
 use lexleader::places::Place;
 use store::record::Record;
+use store::rows::Rows;
 
 // How many plain clauses are passed, the row whose clauses come next, and the place among them.
 #[derive(Clone, Copy)]
@@ -32,59 +34,55 @@ pub struct Cursor {
 }
 
 // The cursor before the first clause.
-pub fn start(counts: Record, images: &[u16], marks: &mut [bool]) -> Cursor
-    requires { FormedRows counts.variables counts.rows images.now × (length marks.old ≡ counts.variables) }
-    ensures stands { CursorStands counts images.now result }
-    ensures remaining { let images = images.entry.now in
-        let rows = rows_of counts.variables counts.rows images in
-        ((plain : List (List ℕ)) → remaining plain counts images result ≡ made counts.variables plain rows) }
-    ensures marks { RowMarked counts images.now result marks.new }
+pub fn start(rows: Rows, marks: &mut [bool]) -> Cursor
+    requires { length marks.old ≡ rows.counts.variables }
+    ensures stands { CursorStands rows.entry.counts rows.entry.images.now result }
+    ensures remaining { let counts = rows.entry.counts in let held = held_by rows.entry in
+        ((plain : List (List ℕ)) → remaining plain counts rows.entry.images.now result ≡ made counts.variables plain held) }
+    ensures marks { RowMarked rows.entry.counts rows.entry.images.now result marks.new }
 {
-    row_from(counts, images, 0, 0, counts.variables as u32 + 1, marks)
+    row_from(rows, 0, 0, rows.counts.variables as u32 + 1, marks)
 }
 
 // Marks what is left out of the row that a cursor is in.
-pub fn mark(counts: Record, images: &[u16], cursor: Cursor, marks: &mut [bool])
-    requires { CursorStands counts images.now cursor × (length marks.old ≡ counts.variables) }
-    ensures { RowMarked counts images.now cursor marks.new }
+pub fn mark(rows: Rows, cursor: Cursor, marks: &mut [bool])
+    requires { CursorStands rows.counts rows.images.now cursor × (length marks.old ≡ rows.counts.variables) }
+    ensures { RowMarked rows.entry.counts rows.entry.images.now cursor marks.new }
 {
-    if cursor.row < counts.rows {
-        cycles::leave_out(
-            store::rows::row(images, counts.variables, cursor.row),
-            marks,
-        );
+    if cursor.row < rows.counts.rows {
+        cycles::leave_out(rows.row(cursor.row), marks);
     }
 }
 
 // The cursor after the clause at one.
-pub fn next(counts: Record, images: &[u16], cursor: Cursor, marks: &mut [bool]) -> Cursor
-    requires { CursorStands counts images.now cursor × ClauseRemains counts cursor × RowMarked counts images.now cursor marks.old }
-    ensures stands { CursorStands counts images.now result }
-    ensures remaining { let images = images.entry.now in
+pub fn next(rows: Rows, cursor: Cursor, marks: &mut [bool]) -> Cursor
+    requires { CursorStands rows.counts rows.images.now cursor × ClauseRemains rows.counts cursor × RowMarked rows.counts rows.images.now cursor marks.old }
+    ensures stands { CursorStands rows.entry.counts rows.entry.images.now result }
+    ensures remaining { let counts = rows.entry.counts in let images = rows.entry.images.now in
         ((plain : List (List ℕ)) → length plain ≡ counts.clauses
         → remaining plain counts images cursor ≡ get_or (remaining plain counts images cursor) 0 [] ∷ remaining plain counts images result) }
-    ensures marks { RowMarked counts images.now result marks.new }
+    ensures marks { RowMarked rows.entry.counts rows.entry.images.now result marks.new }
 {
-    if cursor.plain < counts.clauses {
+    if cursor.plain < rows.counts.clauses {
         return Cursor {
             plain: cursor.plain + 1,
             ..cursor
         };
     }
-    next_added(counts, images, cursor, marks)
+    next_added(rows, cursor, marks)
 }
 
 // The cursor after a clause that a row adds, in the same row or a later one.
-pub fn next_added(counts: Record, images: &[u16], cursor: Cursor, marks: &mut [bool]) -> Cursor
-    requires { CursorStands counts images.now cursor × AtAdded counts cursor × RowMarked counts images.now cursor marks.old }
-    ensures after { let images = images.entry.now in
+pub fn next_added(rows: Rows, cursor: Cursor, marks: &mut [bool]) -> Cursor
+    requires { CursorStands rows.counts rows.images.now cursor × AtAdded rows.counts cursor × RowMarked rows.counts rows.images.now cursor marks.old }
+    ensures after { let counts = rows.entry.counts in let images = rows.entry.images.now in
         let clause = get_or (clauses_at (row_of counts images cursor) cursor.place) 0 [] in
         CursorAfter counts images cursor (clause ∷ []) result }
-    ensures marks { RowMarked counts images.now result marks.new }
+    ensures marks { RowMarked rows.entry.counts rows.entry.images.now result marks.new }
 {
-    let row = store::rows::row(images, counts.variables, cursor.row);
+    let row = rows.row(cursor.row).images;
     let place = lexleader::places::next_place(row, marks, cursor.place);
-    at_place(counts, images, cursor, place, marks)
+    at_place(rows, cursor, place, marks)
 }
 
 // Whether a cursor stands at the first of an auxiliary's six clauses.
@@ -98,69 +96,50 @@ pub fn at_auxiliary(counts: Record, cursor: Cursor) -> bool
 }
 
 // The cursor after the six clauses of an auxiliary, from one at the first of them.
-pub fn next_auxiliary(counts: Record, images: &[u16], cursor: Cursor, marks: &mut [bool]) -> Cursor
-    requires { CursorStands counts images.now cursor × AtAuxiliary counts cursor × RowMarked counts images.now cursor marks.old }
-    ensures after { let images = images.entry.now in
+pub fn next_auxiliary(rows: Rows, cursor: Cursor, marks: &mut [bool]) -> Cursor
+    requires { CursorStands rows.counts rows.images.now cursor × AtAuxiliary rows.counts cursor × RowMarked rows.counts rows.images.now cursor marks.old }
+    ensures after { let counts = rows.entry.counts in let images = rows.entry.images.now in
         CursorAfter counts images cursor (six_at (row_of counts images cursor) cursor.place) result }
-    ensures marks { RowMarked counts images.now result marks.new }
+    ensures marks { RowMarked rows.entry.counts rows.entry.images.now result marks.new }
 {
-    let row = store::rows::row(images, counts.variables, cursor.row);
+    let row = rows.row(cursor.row).images;
     let place = lexleader::places::next_auxiliary(row, marks, cursor.place);
-    at_place(counts, images, cursor, place, marks)
+    at_place(rows, cursor, place, marks)
 }
 
 // The cursor at a later place of its row, or past the row's last clause at the first one of a later row.
-fn at_place(
-    counts: Record,
-    images: &[u16],
-    cursor: Cursor,
-    place: Place,
-    marks: &mut [bool],
-) -> Cursor
-    requires { let row = row_of counts images.now cursor in
-        CursorStands counts images.now cursor × AtAdded counts cursor
-        × PlaceStands row place × (auxiliary_after row place ≡ auxiliary_after row cursor.place) × RowMarked counts images.now cursor marks.old }
-    ensures after { let images = images.entry.now in
+fn at_place(rows: Rows, cursor: Cursor, place: Place, marks: &mut [bool]) -> Cursor
+    requires { let counts = rows.counts in let images = rows.images.now in
+        let row = row_of counts images cursor in
+        CursorStands counts images cursor × AtAdded counts cursor
+        × PlaceStands row place × (auxiliary_after row place ≡ auxiliary_after row cursor.place) × RowMarked counts images cursor marks.old }
+    ensures after { let counts = rows.entry.counts in let images = rows.entry.images.now in
         ((clauses : List (List ℕ)) → PlaceAfter (row_of counts images cursor) cursor.place clauses place
         → CursorAfter counts images cursor clauses result) }
-    ensures marks { RowMarked counts images.now result marks.new }
+    ensures marks { RowMarked rows.entry.counts rows.entry.images.now result marks.new }
 {
-    if place.index < counts.variables {
+    if place.index < rows.counts.variables {
         return Cursor { place, ..cursor };
     }
-    row_from(
-        counts,
-        images,
-        cursor.plain,
-        cursor.row + 1,
-        place.auxiliary,
-        marks,
-    )
+    row_from(rows, cursor.plain, cursor.row + 1, place.auxiliary, marks)
 }
 
 // The cursor at the first clause that a row or a later one adds, where e is the row's first auxiliary.
-fn row_from(
-    counts: Record,
-    images: &[u16],
-    plain: usize,
-    row: usize,
-    e: u32,
-    marks: &mut [bool],
-) -> Cursor
-    requires { FormedRows counts.variables counts.rows images.now × (length marks.old ≡ counts.variables)
-        × (plain ≤ counts.clauses) × (row ≤ counts.rows) × (e ≤ max_before row + 1) }
-    ensures stands { CursorStands counts images.now result × (result.plain ≡ plain) }
-    ensures remaining { let images = images.entry.now in
-        let rows = rows_from counts.variables counts.rows images row in
-        added_from counts images result.row result.place ≡ rows_clauses e rows }
-    ensures marks { RowMarked counts images.now result marks.new }
+fn row_from(rows: Rows, plain: usize, row: usize, e: u32, marks: &mut [bool]) -> Cursor
+    requires { let counts = rows.counts in
+        (length marks.old ≡ counts.variables) × (plain ≤ counts.clauses) × (row ≤ counts.rows) × (e ≤ max_before row + 1) }
+    ensures stands { CursorStands rows.entry.counts rows.entry.images.now result × (result.plain ≡ plain) }
+    ensures remaining { let counts = rows.entry.counts in let images = rows.entry.images.now in
+        let left = rows_from counts.variables counts.rows images row in
+        added_from counts images result.row result.place ≡ rows_clauses e left }
+    ensures marks { RowMarked rows.entry.counts rows.entry.images.now result marks.new }
 {
-    let n = counts.variables;
+    let n = rows.counts.variables;
     let mut first = e;
-    for r in row..counts.rows {
-        let held = store::rows::row(images, n, r);
+    for r in row..rows.counts.rows {
+        let held = rows.row(r);
         cycles::leave_out(held, marks);
-        let place = lexleader::places::first_place(held, marks, first);
+        let place = lexleader::places::first_place(held.images, marks, first);
         if place.index < n {
             return Cursor {
                 plain,
@@ -172,7 +151,7 @@ fn row_from(
     }
     Cursor {
         plain,
-        row: counts.rows,
+        row: rows.counts.rows,
         place: nowhere(),
     }
 }

@@ -7,8 +7,8 @@ use Rattle.cursor.proofs.RowLaws.{place-past, place-few, after-here}
 use Rattle.cursor.proofs.CursorLaws.{past-added}
 use Rattle.cursor.proofs.at_place.Goals as goal
 
-pub returns-then-place-counts-clause-after : goal.returns-then-place-counts-clause-after
-returns-then-place-counts-clause-after c clauses z =
+pub returns-then-place-rows-clause-after : goal.returns-then-place-rows-clause-after
+returns-then-place-rows-clause-after c clauses z =
     let a = c.args in
     let p = c.requires.0 in
     let here = c.requires.1.row in
@@ -18,10 +18,10 @@ returns-then-place-counts-clause-after c clauses z =
         plain = p.plain;
         row = p.row;
         place = λ _. c.requires.2;
-        there = λ _. c.if-place-counts.true;
+        there = λ _. c.if-place-rows.true;
         after-most = λ _. omega (arith, c.requires.3, p.after-most here);
       };
-      passed = past-added a.counts a.images.now a.cursor _ c.requires.1.past refl clauses (after-here a.counts a.images.now a.cursor.row p.rows here clauses a.cursor.place a.place z);
+      passed = past-added a.rows.counts a.rows.images.now a.cursor _ c.requires.1.past refl clauses (after-here a.rows.counts a.rows.images.now a.cursor.row p.rows here clauses a.cursor.place a.place z);
     }
 
 pub row_from-requires : goal.row_from-requires
@@ -29,17 +29,17 @@ row_from-requires c =
     let a = c.args in
     let p = c.requires.0 in
     let here = c.requires.1.row in
-    let few = place-few a.counts a.images.now a.cursor.row p.rows here a.place c.if-place-counts.false (omega (arith, c.requires.3, p.after-most here)) in
-    (p.rows, c.requires.4.room, p.plain, omega arith, few)
+    let few = place-few a.rows.counts a.rows.images.now a.cursor.row p.rows here a.place c.if-place-rows.false (omega (arith, c.requires.3, p.after-most here)) in
+    (c.requires.4.room, p.plain, omega arith, few)
 
 pub returns-clause-after : goal.returns-clause-after
 returns-clause-after c clauses z =
     let a = c.args in
     let rows = c.requires.0.rows in
     let here = c.requires.1.row in
-    let on = place-past a.counts a.images.now a.cursor.row rows here a.place c.if-place-counts.false ∙ sym c.row_from.ensures.remaining in
-    let left = after-here a.counts a.images.now a.cursor.row rows here clauses a.cursor.place a.place z ∙ ap (λ (l : List (List ℕ)). clauses ++ l) on in
+    let on = place-past a.rows.counts a.rows.images.now a.cursor.row rows here a.place c.if-place-rows.false ∙ sym c.row_from.ensures.remaining in
+    let left = after-here a.rows.counts a.rows.images.now a.cursor.row rows here clauses a.cursor.place a.place z ∙ ap (λ (l : List (List ℕ)). clauses ++ l) on in
     record {
       stands = c.row_from.ensures.stands.0;
-      passed = past-added a.counts a.images.now a.cursor c.row_from.result c.requires.1.past c.row_from.ensures.stands.1 clauses left;
+      passed = past-added a.rows.counts a.rows.images.now a.cursor c.row_from.result c.requires.1.past c.row_from.ensures.stands.1 clauses left;
     }

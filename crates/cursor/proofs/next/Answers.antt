@@ -4,7 +4,7 @@ use Rattle.lexleader.proofs.PlaceLaws.{by-head}
 use Rattle.cursor.proofs.CursorLaws.{next-plain}
 use Rattle.cursor.proofs.next.Goals as goal
 
-pub returns-then-cursor-counts-clause-remaining : goal.returns-then-cursor-counts-clause-remaining
-returns-then-cursor-counts-clause-remaining c plain many =
+pub returns-then-cursor-rows-clause-remaining : goal.returns-then-cursor-rows-clause-remaining
+returns-then-cursor-rows-clause-remaining c plain many =
     let a = c.args in
-    by-head (next-plain plain a.counts many a.images.now a.cursor (search rules))
+    by-head (next-plain plain a.rows.counts many a.rows.images.now a.cursor (search rules))

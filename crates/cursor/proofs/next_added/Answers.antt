@@ -10,4 +10,4 @@ pub returns-clause-after : goal.returns-clause-after
 returns-clause-after c =
     let place = c.args.cursor.place in
     c.at_place.ensures.after _
-    (subst (λ (row : List ℕ). PlaceAfter row place (get_or (clauses_at row place) 0 [] ∷ []) c.next_place-place.result) c.row-row.ensures c.next_place-place.ensures)
+    (subst (λ (row : List ℕ). PlaceAfter row place (get_or (clauses_at row place) 0 [] ∷ []) c.next_place-place.result) c.row.ensures c.next_place-place.ensures)

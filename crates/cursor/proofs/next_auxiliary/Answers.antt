@@ -11,4 +11,4 @@ returns-clause-after c =
     let place = c.args.cursor.place in
     let first : place.r - 1 ≡ 0 = omega (arith, c.requires.1.first) in
     c.at_place.ensures.after _
-    (subst (λ (row : List ℕ). PlaceAfter row place (six_at row place) c.next_auxiliary-place.result) c.row-row.ensures (rw first at c.next_auxiliary-place.ensures))
+    (subst (λ (row : List ℕ). PlaceAfter row place (six_at row place) c.next_auxiliary-place.result) c.row.ensures (rw first at c.next_auxiliary-place.ensures))

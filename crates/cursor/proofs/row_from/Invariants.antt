@@ -10,5 +10,5 @@ use Rattle.cursor.proofs.row_from.Given as goal
 abbrev pub invariant-loop-r : goal.invariant-loop-r
 invariant-loop-r l = record {
   few : l.first ≤ max_before l.r + 1;
-  same : rows_clauses l.e (rows_from l.counts.variables l.counts.rows l.images l.row) ≡ rows_clauses l.first (rows_from l.counts.variables l.counts.rows l.images l.r);
+  same : rows_clauses l.e (rows_from l.rows.counts.variables l.rows.counts.rows l.rows.images.now l.row) ≡ rows_clauses l.first (rows_from l.rows.counts.variables l.rows.counts.rows l.rows.images.now l.r);
 }

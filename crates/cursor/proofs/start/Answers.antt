@@ -9,20 +9,20 @@ use Rattle.lexleader.specs.Made.{made, rows_clauses}
 use Rattle.cursor.specs.Cursors.{remaining}
 use Rattle.cursor.proofs.start.Goals as goal
 
-pub overflow_cast-counts : goal.overflow_cast-counts
-overflow_cast-counts c = omega (arith, c.requires.0.small)
+pub overflow_cast-rows : goal.overflow_cast-rows
+overflow_cast-rows c = omega (arith, c.args.rows.formed.small)
 
-pub overflow_add-counts : goal.overflow_add-counts
-overflow_add-counts c = omega (arith, c.requires.0.small)
+pub overflow_add-rows : goal.overflow_add-rows
+overflow_add-rows c = omega (arith, c.args.rows.formed.small)
 
 pub row_from-requires : goal.row_from-requires
-row_from-requires c = (c.requires.0, c.requires.1, omega arith, omega arith, omega (arith, c.requires.0.small))
+row_from-requires c = (c.requires, omega arith, omega arith, omega (arith, c.args.rows.formed.small))
 
 pub returns : goal.returns
 unfolding remaining made
 returns c = let a = c.args in
-    let n = a.counts.variables in
-    let all = c.row_from.ensures.remaining ∙ ap (rows_clauses (n + 1)) (from_first n a.counts.rows a.images.now) in
+    let n = a.rows.counts.variables in
+    let all = c.row_from.ensures.remaining ∙ ap (rows_clauses (n + 1)) (from_first n a.rows.counts.rows a.rows.images.now) in
     record {
       stands = c.row_from.ensures.stands.0;
       remaining = λ plain. ap₂ (λ (k : ℕ) (l : List (List ℕ)). drop k plain ++ l) c.row_from.ensures.stands.1 all;

@@ -43,12 +43,12 @@ loop-code-init c = record { places = c.requires.2; sends = λ x g h. absurd (ome
 
 -- the code at hand is a literal of the row's variables, and so is its image
 pub image-requires : goal.image-requires
-image-requires c = literal-within _ c.loop-code.code (omega arith) (omega arith)
+image-requires c = literal-within _ _ (omega arith) (omega arith)
 
 pub place-requires : goal.place-requires
 place-requires c =
     let literal = image-requires (goal.at.place-requires c).In-loop-code in
-    rw c.image.ensures (widened _ _ c.requires.0 (image-good _ c.args.row.now (row_of _ c.args.row.now c.requires.1) c.loop-code.code literal))
+    rw c.image.ensures (widened _ _ c.requires.0 (image-good _ c.args.row.now (row_of _ c.args.row.now c.requires.1) _ literal))
 
 pub place-requires-in-loop-code : goal.place-requires-in-loop-code
 place-requires-in-loop-code c = widened _ _ c.requires.0 (image-requires (goal.at.place-requires-in-loop-code c).In-loop-code)

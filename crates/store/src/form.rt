@@ -58,7 +58,7 @@ pub fn is_row(row: &[u16], n: usize) -> bool
         if !is_literal(*code, n) {
             return false;
         }
-        let v = literal::variable(literal::wide(*code));
+        let v = literal::variable(u32::from(*code));
         if seen[v] {
             return false;
         }

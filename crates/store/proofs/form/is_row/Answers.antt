@@ -1,5 +1,5 @@
 -- `store::form::is_row` meets its contract. Assumes nothing.
-use Rattle.std.proofs.Common.{ℕ, ◌≡◌, true, get_or, sym, ap, ◌∙◌, arith}
+use Rattle.std.proofs.Common.{◌≡◌, true, get_or, sym, ◌∙◌, arith}
 use Rattle.store.specs.Literals.{variable_of, is_literal}
 use Rattle.store.proofs.FormLaws.{literal-high, passed_none, passed-more, row-length, row-outside, row-twice, row-all}
 use Rattle.store.proofs.form.is_row.Goals as goal
@@ -20,7 +20,7 @@ literal : (c : After-variable-v) → is_literal c.args.n (get_or c.args.row.now 
 literal c = sym c.is_literal.ensures ∙ c.if-not-is_literal.false
 
 its : (c : After-variable-v) → c.variable-v.result ≡ variable_of (get_or c.args.row.now c.loop-code.code-index 0)
-its c = c.variable-v.ensures ∙ ap (λ (k : ℕ). variable_of k) c.wide.ensures.0
+its c = omega arith
 
 pub bounds-seen-v : goal.bounds-seen-v
 bounds-seen-v c = omega (arith, its c, literal-high _ _ (literal c), c.requires)

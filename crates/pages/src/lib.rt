@@ -117,8 +117,7 @@ fn add_added(
     let cursor = page.cursor;
     let row = store::rows::row(images, counts.variables, cursor.row);
     let clause = lexleader::places::clause_at(row, cursor.place);
-    let codes = clause.literals;
-    let bytes = put_line(&codes[..clause.count], page.bytes, out)?;
+    let bytes = put_line(&clause.literals[..clause.count], page.bytes, out)?;
     let cursor = cursor::next_added(counts, images, cursor, marks);
     Some(Page { bytes, cursor })
 }

@@ -78,10 +78,7 @@ fn fill_row(row: &[u16], values: &[bool], marks: &mut [bool], out: &mut [u64], w
 {
     let added = lexleader::counting::added_by(row, marks);
     let all = added.auxiliaries;
-    let agreed = agreeing(row, values, marks);
-    if all <= agreed {
-        return writer::push_run(out, w, true, all);
-    }
+    let agreed = agreeing(row, values, marks).min(all);
     let begun = writer::push_run(out, w, true, agreed);
     writer::push_run(out, begun, false, all - agreed)
 }

@@ -9,9 +9,9 @@
 // writer takes up to 32 values at a time (`packed::writer`). Values are read from a table by code (`valuation::tabulate`), not from the
 // words.
 //
-// What makes the proof go: `settings-alike` and `settings-apart` (proofs/Runs.antt) say that the definition, which carries agreement
-// along the pairs, is these two runs; each function's contract is that it appends its values to whatever the writer holds (`Appends`),
-// so the loop over the rows needs only that the rows passed and the rows left make up all of them.
+// What makes the proof go: `settings-runs` (proofs/Runs.antt) says that the definition, which carries agreement along the pairs, is these
+// two runs; each function's contract is that it appends its values to whatever the writer holds (`Appends`), so the loop over the rows
+// needs only that the rows passed and the rows left make up all of them.
 #![tactic(auto)]
 
 ghost use Rattle.std.specs.Prelude.{◌≡◌, true, ◌++◌, ◌≤◌, length, drop};

@@ -1,5 +1,6 @@
 -- What is read from the table by code: a literal of 1..m has a place there, and its value is the one that it has in every assignment of the words that has its
 -- variable. Assumes nothing.
+use Rattle.std.specs.List.{list_any, All}
 use mathlib.Core.Path.{◌≡◌, refl, sym, ap₂, ◌∙◌}
 use mathlib.Core.Bool.{Bool, true, not, cond, ◌&&◌, ◌||◌, beq}
 use mathlib.Core.List.{List, [], ◌∷◌}
@@ -41,11 +42,11 @@ module _ {m : ℕ} {values : List Bool} {a : List ℕ} (t : TableOf m values a) 
       t.table.value code low high ∙ rw (t.bits, same)
 
   -- a clause
-  pub clause-places : (clause : List ℕ) → all_of (is_literal m) clause ≡ true → (i : ℕ) → i < length clause → get_or clause i 0 < length values
-  clause-places clause good i h = place (get_or clause i 0) (all-at (is_literal m) clause 0 good i h)
+  pub clause-places : (clause : List ℕ) → all_of (is_literal m) clause ≡ true → All (λ code. code < length values) clause
+  clause-places clause good i d h = place (get_or clause i d) (all-at (is_literal m) clause d good i h)
 
   pub read-clause : (n : ℕ) (clause : List ℕ) → all_of (is_literal m) clause ≡ true → all_of (is_literal n) clause ≡ true
-      → any_of (by_code values) clause ≡ clause_holds (value_of (bits_of n a)) clause
+      → list_any (by_code values) clause ≡ clause_holds (value_of (bits_of n a)) clause
   unfolding clause_holds any_of all_of
   read-clause n [] l k = refl
   read-clause n (code ∷ clause) l k =

@@ -15,7 +15,8 @@
 
 ghost use Rattle.std.specs.Prelude.{◌≡◌, true, not, ◌||◌, [], ℕ, ◌*◌, ◌<◌, length, get_or};
 ghost use Rattle.std.specs.Bool.{beq};
-ghost use Rattle.lists.specs.Tests.{any_of, all_of};
+ghost use Rattle.std.specs.List.{list_any, All};
+ghost use Rattle.lists.specs.Tests.{all_of};
 ghost use Rattle.packed.specs.Words.{bits_of, is_assignment};
 ghost use Rattle.packed.specs.Order.{value_of};
 ghost use Rattle.store.specs.Literals.{is_literal};
@@ -174,15 +175,10 @@ fn holds_at(
 
 // Whether a clause of the store has a true literal.
 fn stored_holds(clause: &[u16], values: &[bool]) -> bool
-    requires { (i : ℕ) → i < length clause.now → get_or clause.now i 0 < length values.now }
-    ensures { result ≡ any_of (by_code values.now) clause.now }
+    requires { All (λ code. code < length values.now) clause.now }
+    ensures { result ≡ list_any (by_code values.now) clause.now }
 {
-    for code in clause {
-        if values[*code as usize] {
-            return true;
-        }
-    }
-    false
+    clause.iter().any(|code| values[*code as usize])
 }
 
 // Whether a clause of any codes, as the rows add them, has a true literal.
@@ -191,6 +187,7 @@ fn codes_hold(clause: &[u32], a: &[u64]) -> bool
     ensures { let clause = clause.entry.now in
         ((n : ℕ) → all_of (is_literal n) clause ≡ true → result ≡ clause_holds (value_of (bits_of n a.now)) clause) }
 {
+    // A loop and no `any`, as what is read is known only of variables that the words hold.
     for code in clause {
         if valuation::literal_value(a, *code) {
             return true;

@@ -25,7 +25,8 @@ use lexleader::places::Place;
 use store::record::Record;
 use store::rows::Rows;
 
-// How many plain clauses are passed, the row whose clauses come next, and the place among them.
+// How many plain clauses are passed, the row whose clauses come next, and the place among them. Past all rows the row is their count
+// (`CursorStands`).
 #[derive(Clone, Copy)]
 pub struct Cursor {
     pub plain: usize,

@@ -2,17 +2,20 @@
 // measured before it is written, so that a refusal has written nothing.
 #![tactic(auto)]
 
-ghost use Rattle.std.specs.Prelude.{◌≡◌, true, ◌+◌, ◌≤◌, [], length, get_or, map};
+ghost use Rattle.std.specs.Prelude.{◌≡◌, ◌+◌, ◌≤◌, [], length, get_or, map};
 ghost use Rattle.store.specs.Refusals.{said, buffer_left};
-ghost use Rattle.store.specs.Stores.{stored, rows_of, is_formed, FormedRows, max_literals};
+ghost use Rattle.store.specs.Held.{store_of, held_by};
+ghost use Rattle.store.specs.Stores.{max_literals};
 ghost use Rattle.lexleader.specs.Made.{rows_clauses};
 ghost use Rattle.render.specs.Text.{clause_line, header_line};
 ghost use Rattle.emit.specs.Emit.{line_of, clause_by, added_by, written_if};
 
 use lexleader::counting::Totals;
+use store::form::Formed;
 use store::literal::Coded;
 use store::record::Record;
 use store::refusal::Refusal;
+use store::rows::Rows;
 
 // Writes the header line of N variables and M clauses.
 pub fn header(total: Totals, out: &mut [u8]) -> Result<u64, Refusal>
@@ -30,53 +33,35 @@ pub fn header(total: Totals, out: &mut [u8]) -> Result<u64, Refusal>
 }
 
 // Writes the line of clause q, from 1.
-pub fn clause(
-    counts: Record,
-    literals: &[u16],
-    ends: &[u16],
-    images: &[u16],
-    q: usize,
-    out: &mut [u8],
-) -> Result<u64, Refusal>
-    requires { is_formed (stored counts literals ends images) ≡ true }
-    ensures answer { let s = stored counts literals.entry ends.entry images.entry in
-        said result ≡ clause_by s q (length out.old) }
-    ensures buffer { let s = stored counts literals.entry ends.entry images.entry in
-        out.new ≡ buffer_left (said result) (line_of s q) out.old }
+pub fn clause(s: Formed, q: usize, out: &mut [u8]) -> Result<u64, Refusal>
+    ensures answer { said result ≡ clause_by (store_of s.entry) q (length out.old) }
+    ensures buffer { out.new ≡ buffer_left (said result) (line_of (store_of s.entry) q) out.old }
 {
     if q == 0 {
         return Err(Refusal::NoSuchClause);
     }
     let c = q - 1;
+    let rows = s.rows;
+    let counts = rows.counts;
     if c < counts.clauses {
-        return write_clause(
-            store::clauses::clause(literals, ends, counts.clauses, c),
-            out,
-        );
+        return write_clause(s.clause(c), out);
     }
     let mut marks = [false; Record::MAX_VARIABLES];
     let n = counts.variables;
-    added(counts, images, c - counts.clauses, &mut marks[..n], out)
+    added(rows, c - counts.clauses, &mut marks[..n], out)
 }
 
 // A clause that the rows add, by its number among those, from 0, with room for the marks of a row.
-fn added(
-    counts: Record,
-    images: &[u16],
-    c: usize,
-    marks: &mut [bool],
-    out: &mut [u8],
-) -> Result<u64, Refusal>
-    requires { FormedRows counts.variables counts.rows images.now × (length marks.old ≡ counts.variables) }
-    ensures answer { let rows = rows_of counts.variables counts.rows images.now in
-        said result ≡ added_by (rows_clauses (counts.variables + 1) rows) c (length out.old) }
-    ensures buffer { let rows = rows_of counts.variables counts.rows images.now in
-        out.new ≡ buffer_left (said result) (clause_line (get_or (rows_clauses (counts.variables + 1) rows) c [])) out.old }
+fn added(rows: Rows, c: usize, marks: &mut [bool], out: &mut [u8]) -> Result<u64, Refusal>
+    requires { length marks.old ≡ rows.counts.variables }
+    ensures answer { let clauses = rows_clauses (rows.entry.counts.variables + 1) (held_by rows.entry) in
+        said result ≡ added_by clauses c (length out.old) }
+    ensures buffer { let clauses = rows_clauses (rows.entry.counts.variables + 1) (held_by rows.entry) in
+        out.new ≡ buffer_left (said result) (clause_line (get_or clauses c [])) out.old }
 {
-    let n = counts.variables;
-    match lexleader::numbered::find(images, counts.rows, n, c, marks) {
+    match lexleader::numbered::find(rows, c, marks) {
         Some(spot) => {
-            let row = store::rows::row(images, n, spot.row);
+            let row = rows.row(spot.row).images;
             let clause = lexleader::numbered::row_clause(row, marks, spot.auxiliary, spot.number);
             write_clause(&clause.literals[..clause.count], out)
         }

@@ -11,7 +11,7 @@ pub returns-in-Some-clause-answer : goal.returns-in-Some-clause-answer
 returns-in-Some-clause-answer c =
     let spot = c.in-Some.spot in
     let room = length c.args.out.now in
-    let is = c.row_clause-clause.ensures.are ∙ ap (λ (row : List ℕ). get_or (row_clauses spot.auxiliary row) spot.number []) c.row-row.ensures ∙ sym c.in-Some.ensures.is in
+    let is = c.row_clause-clause.ensures.are ∙ ap (λ (row : List ℕ). get_or (row_clauses spot.auxiliary row) spot.number []) c.row.ensures ∙ sym c.in-Some.ensures.is in
     c.write_clause.ensures.answer ∙ ap (λ (clause : List ℕ). written_if (clause_line clause) room) (map-id _ ∙ is) ∙ sym (added-there _ c.args.c room c.in-Some.ensures.some)
 
 pub returns-in-None-clause-answer : goal.returns-in-None-clause-answer

@@ -11,7 +11,8 @@ ghost use Rattle.std.specs.Prelude.{◌≡◌, true, ◌+◌, ◌*◌, ◌≤◌
 ghost use Rattle.lists.specs.Sums.{sum_of};
 ghost use Rattle.lists.specs.Tests.{all_of};
 ghost use Rattle.store.specs.Literals.{variable_of, is_literal};
-ghost use Rattle.store.specs.Stores.{max_variables, max_literals, stored, is_formed, is_row, rows_of, FormedRows};
+ghost use Rattle.store.specs.Held.{store_of, held_by};
+ghost use Rattle.store.specs.Stores.{max_variables, max_literals};
 ghost use Rattle.cycles.specs.Marks.{marks_of};
 ghost use Rattle.lexleader.specs.Made.{auxiliaries};
 ghost use Rattle.lexleader.specs.Bounds.{max_made_variables};
@@ -20,7 +21,10 @@ ghost use Rattle.measure.specs.Shares.{row_figures, added_figures, literals_for}
 ghost use Rattle.measure.specs.Shares.{word_bytes, plain_bytes, agree_bytes, pair_bytes, of_place, auxiliary_bytes, PairsSummed};
 
 use lexleader::counting;
+use store::form::Formed;
 use store::record::Record;
+use store::row::Row;
+use store::rows::Rows;
 
 // Variables, clauses, literals without closing zeros, bytes of text.
 #[derive(Clone, Copy)]
@@ -39,16 +43,15 @@ struct Pairs {
 }
 
 // The figures of a well-formed store's made formula.
-pub fn figures_of(counts: Record, literals: &[u16], ends: &[u16], images: &[u16]) -> Figures
-    requires { is_formed (stored counts literals ends images) ≡ true }
-    ensures { result ≡ figures_of (stored counts literals.entry ends.entry images.entry) }
+pub fn figures_of(s: Formed) -> Figures
+    ensures { result ≡ figures_of (store_of s.entry) }
 {
-    let m = counts.clauses;
-    let used = store::clauses::literal_count(ends, m);
-    let words = literal_bytes(&literals[..used]);
+    let m = s.rows.counts.clauses;
+    let used = store::clauses::literal_count(s.ends, m);
+    let words = literal_bytes(&s.literals[..used]);
     let mut marks = [false; Record::MAX_VARIABLES];
-    let n = counts.variables;
-    let added = added_figures(images, counts.rows, n, &mut marks[..n]);
+    let n = s.rows.counts.variables;
+    let added = added_figures(s.rows, &mut marks[..n]);
     let variables = added.variables;
     let clauses = m + added.clauses;
     let header = render::header_length(variables as u64, clauses as u64);
@@ -80,16 +83,17 @@ fn word_bytes(code: u16) -> u16
 }
 
 // What rows add, and N, with room for the marks of one row.
-fn added_figures(images: &[u16], rows: usize, n: usize, marks: &mut [bool]) -> Figures
-    requires { FormedRows n rows images.now × (length marks.old ≡ n) }
-    ensures { result ≡ added_figures n (rows_of n rows images.now) }
+fn added_figures(rows: Rows, marks: &mut [bool]) -> Figures
+    requires { length marks.old ≡ rows.counts.variables }
+    ensures { result ≡ added_figures rows.entry.counts.variables (held_by rows.entry) }
 {
+    let n = rows.counts.variables;
     let mut variables = n;
     let mut clauses = 0;
     let mut literals = 0;
     let mut bytes = 0;
-    for r in 0..rows {
-        let more = row_figures(store::rows::row(images, n, r), variables, marks);
+    for r in 0..rows.counts.rows {
+        let more = row_figures(rows.row(r), variables, marks);
         variables = more.variables;
         clauses += more.clauses;
         literals += more.literals;
@@ -104,10 +108,9 @@ fn added_figures(images: &[u16], rows: usize, n: usize, marks: &mut [bool]) -> F
 }
 
 // What a row adds, and the last number in use after it, where `last` is that before it.
-fn row_figures(row: &[u16], last: usize, marks: &mut [bool]) -> Figures
-    requires { let n = length row.now in
-        (n ≤ max_variables) × (is_row n row.now ≡ true) × (length marks.old ≡ n) × (last + auxiliaries row.now ≤ max_made_variables) }
-    ensures { result ≡ row_figures last row.now }
+fn row_figures(row: Row, last: usize, marks: &mut [bool]) -> Figures
+    requires { let row = row.images.now in (length marks.old ≡ length row) × (last + auxiliaries row ≤ max_made_variables) }
+    ensures { result ≡ row_figures last row.entry.images.now }
 {
     let added = counting::added_by(row, marks);
     let count = added.auxiliaries;
@@ -116,7 +119,7 @@ fn row_figures(row: &[u16], last: usize, marks: &mut [bool]) -> Figures
     let words = pairs.bytes + auxiliary_bytes(last + 1, count) - spared(row, pairs.last);
     Figures {
         variables: last + count,
-        clauses: clauses,
+        clauses,
         literals: literals_for(count, clauses),
         bytes: words + 2 * clauses,
     }
@@ -134,16 +137,17 @@ fn literals_for(count: usize, clauses: usize) -> usize
 
 // The bytes of a row's pairs, were the last one like the others, and its place. In the loop `x` is the variable at i, and `last` that of the
 // last pair, 0 while there is none: with no branch, and 16 bits to each, compilers take eight variables at once.
-fn pairs_of(row: &[u16], marks: &[bool]) -> Pairs
-    requires { let n = length row.now in (n ≤ max_variables) × (is_row n row.now ≡ true) × (marks.now ≡ marks_of row.now) }
-    ensures { PairsSummed row.now result }
+fn pairs_of(row: Row, marks: &[bool]) -> Pairs
+    requires { marks.now ≡ marks_of row.images.now }
+    ensures { PairsSummed row.entry.images.now result }
 {
+    let images = row.images;
     let mut bytes: u16 = 0;
     let mut last: u16 = 0;
     let mut x: u16 = 1;
     for (i, mark) in marks.iter().enumerate() {
         let own = !*mark as u16;
-        bytes += own * pair_bytes(x, row[i]);
+        bytes += own * pair_bytes(x, images[i]);
         last = last.max(own * x);
         x += 1;
     }
@@ -154,12 +158,12 @@ fn pairs_of(row: &[u16], marks: &[bool]) -> Pairs
 }
 
 // What the last pair has not of these bytes: no auxiliary is its own, so it stands in no clause r2 to r5.
-fn spared(row: &[u16], last: Option<usize>) -> usize
-    requires { let n = length row.now in (n ≤ max_variables) × (is_row n row.now ≡ true) × IfSome last (λ i. i < n) }
-    ensures { result ≡ of_place agree_bytes row.now last }
+fn spared(row: Row, last: Option<usize>) -> usize
+    requires { IfSome last (λ i. i < length row.images.now) }
+    ensures { result ≡ of_place agree_bytes row.entry.images.now last }
 {
     match last {
-        Some(i) => 4 * usize::from(plain_bytes(i as u16 + 1, row[i])),
+        Some(i) => 4 * usize::from(plain_bytes(i as u16 + 1, row.images[i])),
         None => 0,
     }
 }

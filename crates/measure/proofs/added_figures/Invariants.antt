@@ -5,4 +5,4 @@ use Rattle.measure.proofs.added_figures.Given as goal
 
 abbrev pub invariant-loop-r : goal.invariant-loop-r
 invariant-loop-r l =
-    (length l.marks ≡ l.n) × FiguresSummed l.n l.rows l.images l.variables l.clauses l.literals l.bytes l.r
+    (length l.marks ≡ l.rows.counts.variables) × FiguresSummed l.rows.counts.variables l.rows.counts.rows l.rows.images.now l.variables l.clauses l.literals l.bytes l.r

@@ -3,4 +3,4 @@ use Rattle.measure.proofs.Walk.{PairsPassed}
 use Rattle.measure.proofs.pairs_of.Given as goal
 
 abbrev pub invariant-loop-i : goal.invariant-loop-i
-invariant-loop-i l = PairsPassed l.row l.marks l.bytes l.last l.x l.i
+invariant-loop-i l = PairsPassed l.images l.marks l.bytes l.last l.x l.i

@@ -6,8 +6,10 @@ use Rattle.lists.proofs.Cases.{and_l, and_r, and_both, lt-or-le, eq-or-ne}
 use Rattle.lists.proofs.Members.{has-head, has_other, has-again}
 use Rattle.numbers.specs.Numbers.{numbers, number_count}
 use Rattle.store.specs.Literals.{is_literal}
-use Rattle.store.specs.Stores.{max_variables}
+use Rattle.store.specs.Stores.{clause_at, clauses_in, FormedFormula, max_variables}
+use Rattle.store.proofs.Cuts.{clause-is}
 use Rattle.store.proofs.FormLaws.{literal-low, literal-high, literal-within}
+use Rattle.store.proofs.Within.{clause-good}
 use Rattle.keys.specs.Keys.{key_by, key_of}
 use Rattle.keys.specs.Marks.{Below, Marked, Places, OwnPlaces, sent_clause}
 use Rattle.keys.proofs.KeyLaws.{Hand, hand-rest}
@@ -89,3 +91,9 @@ module _ (own : List ℕ) (places : OwnPlaces own) where
   -- so that the sum is the clause's own key
   pub own_key : (table clause other : List ℕ) → table ≡ numbers → all_of (is_literal max_variables) clause ≡ true → other ≡ clause → key_by table (sent_clause own clause) ≡ key_of other
   own_key table clause other is good e = rw (is, sent-own clause good, e)
+
+-- what is summed of clause c of a store is the key of clause c of its formula
+pub clause_key : (own table literals ends : List ℕ) (m c : ℕ) → OwnPlaces own → table ≡ numbers → FormedFormula max_variables m literals ends → c < m
+    → key_by table (sent_clause own (clause_at literals ends c)) ≡ key_of (get_or (clauses_in m literals ends) c [])
+clause_key own table literals ends m c places is f h =
+    own_key own places table _ _ is (clause-good max_variables m literals ends f c h) (clause-is literals ends m c f.clauses.known h)

@@ -13,8 +13,7 @@ ghost use Rattle.numbers.specs.Numbers.{numbers, number_count};
 ghost use Rattle.keys.specs.Keys.{key_by, keys_of, right_keys};
 ghost use Rattle.keys.specs.Marks.{Below, Marked, Places, OwnPlaces, sent_to, sent_clause};
 
-use std::num::wrapping_add_u64;
-use store::{clauses, literal};
+use store::clauses;
 
 // Writes the keys of m clauses at the start of a slice.
 pub fn write(literals: &[u16], ends: &[u16], m: usize, keys: &mut [u64])
@@ -45,12 +44,10 @@ pub fn are_right(
     }
     let own = own_places();
     let mut marks = [0u16; numbers::COUNT];
-    let mut c = 0;
-    while c < m {
-        if keys[c] != key_at(literals, ends, m, c, &own, table, &mut marks) {
+    for (c, key) in keys[..m].iter().enumerate() {
+        if *key != key_at(literals, ends, m, c, &own, table, &mut marks) {
             return false;
         }
-        c += 1;
     }
     true
 }
@@ -60,8 +57,8 @@ fn own_places() -> [u16; numbers::COUNT]
     ensures { OwnPlaces result }
 {
     let mut own = [0u16; numbers::COUNT];
-    for i in 0..numbers::COUNT {
-        own[i] = i as u16;
+    for (i, place) in own.iter_mut().enumerate() {
+        *place = i as u16;
     }
     own
 }
@@ -105,14 +102,12 @@ fn key(
     ensures marked { Marked mark (sent_clause places.now clause.now) marks.new }
     ensures below { Below (mark + 1) marks.new }
 {
-    let mut sum = 0;
-    let mut i = clause.len();
-    while 0 < i {
-        i -= 1;
-        let place = sent(places, literal::wide(clause[i]));
+    let mut sum: u64 = 0;
+    for code in clause.iter().rev() {
+        let place = sent(places, u32::from(*code));
         if marks[place] != mark {
             marks[place] = mark;
-            sum = wrapping_add_u64(sum, table[place]);
+            sum = sum.wrapping_add(table[place]);
         }
     }
     sum

@@ -2,13 +2,13 @@
 use mathlib.Core.Path.{◌≡◌, refl, ap, ◌∙◌}
 use mathlib.Core.Bool.{Bool, true, false, cond, not}
 use Prim.Native.Nat.{ℕ}
+use Rattle.std.proofs.Common.{Result, Ok, Err}
 use native.Mathlib.Omega.{arith}
 use Rattle.lists.proofs.Cases.{and_l, and_r, and_both}
 use Rattle.store.specs.Stores.{Store, is_formed, plain_of}
 use Rattle.store.specs.declared.refusal.Refusal.{Refusal}
 use Rattle.keys.specs.Keys.{right_keys}
 use Rattle.standing.specs.Keyed.{Keyed, with_keys, well_formed, standing_of}
-use Rattle.standing.specs.declared.Standing.{Standing}
 
 module _ (s : Keyed) where
   -- the store's form, and right keys
@@ -33,33 +33,33 @@ module _ (s : Keyed) where
   its-keys e = and_r (is_formed s.store) (right_keys (plain_of s.store) s.keys) e
 
   -- what is found once the store is open
-  abbrev open_standing : Bool → Standing
-  open_standing formed = cond (not formed) (Standing.Refused Refusal.BadlyFormed) Standing.Ready
+  abbrev open_standing : Bool → Result Unit Refusal
+  open_standing formed = cond (not formed) (Err Refusal.BadlyFormed) (Ok tt)
 
-  by-open : (b : Bool) → s.store.counts.is_open ≡ b → standing_of s ≡ cond (not b) (Standing.Refused Refusal.NotOpen) (open_standing (well_formed s))
+  by-open : (b : Bool) → s.store.counts.is_open ≡ b → standing_of s ≡ cond (not b) (Err Refusal.NotOpen) (open_standing (well_formed s))
   unfolding standing_of
-  by-open b e = ap (λ (c : Bool). cond (not c) (Standing.Refused Refusal.NotOpen) (open_standing (well_formed s))) e
+  by-open b e = ap (λ (c : Bool). cond (not c) (Err Refusal.NotOpen) (open_standing (well_formed s))) e
 
-  pub not-open : s.store.counts.is_open ≡ false → standing_of s ≡ Standing.Refused Refusal.NotOpen
+  pub not-open : s.store.counts.is_open ≡ false → standing_of s ≡ Err Refusal.NotOpen
   not-open e = by-open false e
 
-  pub badly-formed : s.store.counts.is_open ≡ true → well_formed s ≡ false → standing_of s ≡ Standing.Refused Refusal.BadlyFormed
+  pub badly-formed : s.store.counts.is_open ≡ true → well_formed s ≡ false → standing_of s ≡ Err Refusal.BadlyFormed
   badly-formed e f = by-open true e ∙ ap open_standing f
 
-  pub ready_of : s.store.counts.is_open ≡ true → well_formed s ≡ true → standing_of s ≡ Standing.Ready
+  pub ready_of : s.store.counts.is_open ≡ true → well_formed s ≡ true → standing_of s ≡ Ok tt
   ready_of e f = by-open true e ∙ ap open_standing f
 
-  pub ready : standing_of s ≡ Standing.Ready → (s.store.counts.is_open ≡ true) × (well_formed s ≡ true)
+  pub ready : standing_of s ≡ Ok tt → (s.store.counts.is_open ≡ true) × (well_formed s ≡ true)
   unfolding standing_of
   ready e = go s.store.counts.is_open refl (well_formed s) refl e
     where
       go : (a : Bool) → s.store.counts.is_open ≡ a → (b : Bool) → well_formed s ≡ b
-          → cond (not a) (Standing.Refused Refusal.NotOpen) (open_standing b) ≡ Standing.Ready → (s.store.counts.is_open ≡ true) × (well_formed s ≡ true)
+          → cond (not a) (Err Refusal.NotOpen) (open_standing b) ≡ Ok tt → (s.store.counts.is_open ≡ true) × (well_formed s ≡ true)
       go true p true q k = (p, q)
       go true p false q k = let z : ◌≡◌ {A = ℕ} 0 1 = cc in absurd (omega arith)
       go false p b q k = let z : ◌≡◌ {A = ℕ} 0 1 = cc in absurd (omega arith)
 
-  pub ready-form : standing_of s ≡ Standing.Ready → is_formed s.store ≡ true
+  pub ready-form : standing_of s ≡ Ok tt → is_formed s.store ≡ true
   ready-form e = its-form (ready e).1
 
   -- a formed store with the same clauses is well formed with the same keys

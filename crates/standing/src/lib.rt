@@ -8,12 +8,6 @@ ghost use Rattle.standing.specs.Keyed.{keyed, well_formed, standing_of};
 use store::record::Record;
 use store::refusal::Refusal;
 
-#[derive(Clone, Copy)]
-pub enum Standing {
-    Ready,
-    Refused(Refusal),
-}
-
 // Whether a store is open and well formed: 20, then 21.
 pub fn admit(
     counts: Record,
@@ -21,7 +15,7 @@ pub fn admit(
     ends: &[u16],
     keys: &[u64],
     images: &[u16],
-) -> Standing
+) -> Result<(), Refusal>
     ensures { result ≡ standing_of (keyed counts literals.entry ends.entry keys.entry images.entry) }
 {
     admit_by(counts, literals, ends, keys, images, &numbers::numbers())
@@ -35,17 +29,17 @@ pub fn admit_by(
     keys: &[u64],
     images: &[u16],
     table: &[u64; numbers::COUNT],
-) -> Standing
+) -> Result<(), Refusal>
     requires { table.now ≡ numbers }
     ensures { result ≡ standing_of (keyed counts literals.entry ends.entry keys.entry images.entry) }
 {
     if !counts.is_open {
-        return Standing::Refused(Refusal::NotOpen);
+        return Err(Refusal::NotOpen);
     }
     if !well_formed(counts, literals, ends, keys, images, table) {
-        return Standing::Refused(Refusal::BadlyFormed);
+        return Err(Refusal::BadlyFormed);
     }
-    Standing::Ready
+    Ok(())
 }
 
 // The form of the store first: only then are its clauses there to be summed.
@@ -60,8 +54,6 @@ fn well_formed(
     requires { table.now ≡ numbers }
     ensures { result ≡ well_formed (keyed counts literals.entry ends.entry keys.entry images.entry) }
 {
-    if !store::form::is_formed(counts, literals, ends, images) {
-        return false;
-    }
-    keys::are_right(literals, ends, counts.clauses, keys, table)
+    store::form::is_formed(counts, literals, ends, images)
+        && keys::are_right(literals, ends, counts.clauses, keys, table)
 }

@@ -46,11 +46,11 @@ module _ (n code : ℕ) where
   literal-within low high = and_both (le-leb 1 (variable_of code) low) (le-leb (variable_of code) n high)
 
   -- one test for both: the code less 2, which wraps where the variable is 0, is below 2 n
-  pub literal-below : (w : ℕ) → w ≡ code → w < 65536 → n ≤ max_variables → ltb ((w + 65534) % 65536) (2 * n) ≡ is_literal n code
-  literal-below w is low small =
-      bool-ext (ltb ((w + 65534) % 65536) (2 * n)) (is_literal n code)
-      (λ e. let below = ltb-true ((w + 65534) % 65536) (2 * n) e in literal-within (omega arith) (omega arith))
-      (λ e. lt-ltb ((w + 65534) % 65536) (2 * n) (omega (arith, literal-low e, literal-high e)))
+  pub literal-below : code < 65536 → n ≤ max_variables → ltb ((code + 65534) % 65536) (2 * n) ≡ is_literal n code
+  literal-below low small =
+      bool-ext (ltb ((code + 65534) % 65536) (2 * n)) (is_literal n code)
+      (λ e. let below = ltb-true ((code + 65534) % 65536) (2 * n) e in literal-within (omega arith) (omega arith))
+      (λ e. lt-ltb ((code + 65534) % 65536) (2 * n) (omega (arith, literal-low e, literal-high e)))
 
 pub opposite-within : (n code : ℕ) → is_literal n code ≡ true → is_literal n (opposite_of code) ≡ true
 opposite-within n code e =

@@ -54,18 +54,15 @@ pub fn is_row(row: &[u16], n: usize) -> bool
         return false;
     }
     let mut seen = [false; Record::MAX_VARIABLES + 1];
-    let mut i = 0;
-    while i < row.len() {
-        let code = row[i];
-        if !is_literal(code, n) {
+    for code in row {
+        if !is_literal(*code, n) {
             return false;
         }
-        let v = literal::variable(literal::wide(code));
+        let v = literal::variable(u32::from(*code));
         if seen[v] {
             return false;
         }
         seen[v] = true;
-        i += 1;
     }
     true
 }
@@ -75,12 +72,10 @@ fn rows_formed(images: &[u16], n: usize, k: usize) -> bool
     requires { (n ≤ max_variables) × (k * n ≤ length images.now) }
     ensures { result ≡ all_of (is_row n) (rows_of n k images.now) }
 {
-    let mut r = 0;
-    while r < k {
+    for r in 0..k {
         if !is_row(rows::row(images, n, r), n) {
             return false;
         }
-        r += 1;
     }
     true
 }
@@ -90,10 +85,8 @@ fn ends_rise(ends: &[u16]) -> bool
     ensures { result ≡ rising 0 ends.now }
 {
     let mut rise = true;
-    let mut i = 0;
-    while i + 1 < ends.len() {
-        rise = rise & (ends[i] <= ends[i + 1]);
-        i += 1;
+    for i in 1..ends.len() {
+        rise &= ends[i - 1] <= ends[i];
     }
     rise
 }
@@ -103,20 +96,17 @@ fn literals_within(literals: &[u16], n: usize) -> bool
     ensures { result ≡ all_of (is_literal n) literals.now }
 {
     let mut all = true;
-    let mut i = 0;
-    while i < literals.len() {
-        all = all & is_literal(literals[i], n);
-        i += 1;
+    for code in literals {
+        all &= is_literal(*code, n);
     }
     all
 }
 
 // Whether a code is that of a literal of 1..n. One test serves for both ends: less 2, the codes 0 and 1 wrap to numbers that are not below 2 n.
-// It wraps by a remainder, as std's wrapping_sub_u16 goes two ways, and compares 16 bits: so the loop above has eight codes to a step.
+// It compares 16 bits: so the loop above has eight codes to a step.
 fn is_literal(code: u16, n: usize) -> bool
     requires { n ≤ max_variables }
     ensures { result ≡ is_literal n code }
 {
-    let less = (literal::wide(code) + 65534) % 65536;
-    (less as u16) < (2 * n) as u16
+    code.wrapping_sub(2) < (2 * n) as u16
 }

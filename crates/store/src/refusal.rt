@@ -2,7 +2,7 @@
 ghost use Rattle.std.specs.Prelude.{◌≡◌};
 ghost use Rattle.store.specs.Refusals.{number_of, place_of};
 
-#[derive(Clone, Copy)]
+#[derive(Clone, Copy, Debug, PartialEq, Eq)]
 pub enum Refusal {
     NoProblemLine(usize), // 1
     SizeOverLimit(usize), // 2
@@ -60,27 +60,19 @@ impl Refusal {
         ensures { result ≡ place_of self }
     {
         match self {
-            Refusal::NoProblemLine(at) => at,
-            Refusal::SizeOverLimit(at) => at,
-            Refusal::NotNumber(at) => at,
-            Refusal::LiteralBeyond(at) => at,
-            Refusal::TooManyLiterals(at) => at,
-            Refusal::ClauseCount(at) => at,
-            Refusal::NameNotNumber(at) => at,
-            Refusal::BadName(at) => at,
-            Refusal::ValueNotNumber(at) => at,
-            Refusal::BadValue(at) => at,
+            Refusal::NoProblemLine(at)
+            | Refusal::SizeOverLimit(at)
+            | Refusal::NotNumber(at)
+            | Refusal::LiteralBeyond(at)
+            | Refusal::TooManyLiterals(at)
+            | Refusal::ClauseCount(at)
+            | Refusal::NameNotNumber(at)
+            | Refusal::BadName(at)
+            | Refusal::ValueNotNumber(at)
+            | Refusal::BadValue(at) => at,
             Refusal::NoSymmetry(clause) => clause,
-            Refusal::BadAssignment => 0,
-            Refusal::NoSuchClause => 0,
-            Refusal::NoFigure => 0,
-            Refusal::BadInput => 0,
-            Refusal::NotOpen => 0,
-            Refusal::BadlyFormed => 0,
-            Refusal::RowsFull => 0,
             Refusal::TooShort(needed) => needed,
-            Refusal::NoRow => 0,
-            Refusal::MovesNothing => 0,
+            _ => 0,
         }
     }
 }

@@ -19,26 +19,18 @@ pub fn append(images: &mut [u16], n: usize, k: usize, row: &[u16])
     ensures { images.new ≡ appended n k row.now images.old }
 {
     let at = k * n;
-    let mut j = 0;
-    while j < n {
-        images[at + j] = row[j];
-        j += 1;
-    }
+    images[at..at + n].copy_from_slice(row);
 }
 
-// Whether every variable is its own image. `own` is the code of the variable at i.
+// Whether every variable is its own image.
 pub fn moves_nothing(row: &[u16]) -> bool
     requires { length row.now ≤ max_variables }
     ensures { result ≡ moves_nothing row.now }
 {
-    let mut own: u16 = 2;
-    let mut i = 0;
-    while i < row.len() {
-        if row[i] != own {
+    for (i, image) in row.iter().enumerate() {
+        if *image as usize != 2 * (i + 1) {
             return false;
         }
-        own += 2;
-        i += 1;
     }
     true
 }

@@ -1,5 +1,5 @@
 -- `keys::are_right` meets its contract. The invariant: the answer is that for the clauses from clause c on, and no mark is above c. Assumes nothing.
-use Rattle.std.proofs.Common.{◌≡◌, ◌+◌, ◌-◌, drop}
+use Rattle.std.proofs.Common.{◌≡◌, ◌+◌, drop}
 use Rattle.store.specs.Stores.{clauses_in}
 use Rattle.keys.specs.Keys.{right_keys}
 use Rattle.keys.specs.Marks.{Below}
@@ -8,7 +8,4 @@ use Rattle.keys.proofs.are_right.Given as goal
 abbrev pub invariant-loop-c : goal.invariant-loop-c
 invariant-loop-c l =
     let formula = clauses_in l.m l.literals l.ends in
-    (right_keys formula l.keys ≡ right_keys (drop l.c formula) (drop l.c l.keys)) × Below (l.c + 1) l.marks
-
-abbrev pub decreases-loop-c : goal.decreases-loop-c
-decreases-loop-c l = l.m - l.c
+    record { rest : right_keys formula l.keys ≡ right_keys (drop l.c formula) (drop l.c l.keys); below : Below (l.c + 1) l.marks }

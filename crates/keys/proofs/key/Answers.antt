@@ -1,111 +1,83 @@
--- `keys::key` meets its contract. The invariant: the sum is the key of what the literals from i on are sent to, and that is marked. Assumes nothing.
-use Rattle.std.proofs.Common.{◌≡◌, ℕ, ◌-◌, ◌<◌, ◌≤◌, true, List, length, drop, sym, ap, ◌∙◌, arith}
+-- `keys::key` meets its contract. Assumes nothing.
+use Rattle.std.proofs.Common.{◌≡◌, ℕ, ◌≤◌, List, length, sym, ap, ◌∙◌, arith}
 use lib.ListN.{length-map}
+use lib.Seq.{take_all}
 use Rattle.lists.proofs.Members.{all-at, map_at}
 use Rattle.store.specs.Literals.{is_literal}
 use Rattle.store.specs.Stores.{max_variables}
-use Rattle.keys.specs.Keys.{key_by}
 use Rattle.keys.specs.Marks.{sent_to, sent_clause}
-use Rattle.keys.proofs.KeyLaws.{Hand, key-none, key-again, key_more}
+use Rattle.keys.proofs.KeyLaws.{FromEnd, from_end, Hand, key-none, key-again, key_more}
 use Rattle.keys.proofs.MarkLaws.{came, is-new, marked-none, marked-again, marked_more, below_more, below_next}
 use Rattle.keys.proofs.key.Goals as goal
-use Rattle.keys.proofs.key.Goals.{After-loop-i, After-sent-place, After-slice_known-1, After-wide, After-wrapping_add_u64-sum, Else-marks-place}
+use Rattle.keys.proofs.key.Goals.{After-sent-place}
+
+pub loop-code-init : goal.loop-code-init
+loop-code-init c =
+    let a = c.args in
+    let sent : List ℕ = sent_clause a.places.now a.clause.now in
+    let left : List ℕ = c.into_iter-code-iterator.result.iter.rest.now in
+    let whole : left ≡ a.clause.now = cc (c.into_iter-code-iterator.ensures.into_iter_gives, c.rev-code-items.ensures.source, c.iter.ensures.rest) in
+    let size : length left ≡ length a.clause.now = ap length whole in
+    let end : length sent ≤ length left = omega (arith, length-map a.clause.now (sent_to a.places.now)) in
+    record {
+      front = whole ∙ sym (take_all (length left) a.clause.now (omega arith));
+      key = sym (key-none a.table.now sent (length left) end);
+      marked = marked-none a.mark sent a.marks.now (length left) end c.requires.2;
+      below = below_next _ _ c.requires.2;
+    }
+
+-- the literal at hand is one of the clause's
+pub sent-place-requires : goal.sent-place-requires
+sent-place-requires c =
+    let f = from_end c.args.clause.now _ _ _ c.loop-code.invariant.front c.in-Some.ensures.steps in
+    (rw (c.from.ensures, f.is) (all-at (is_literal max_variables) c.args.clause.now 0 c.requires.0 _ f.inside), c.requires.1)
+
+turn : (c : After-sent-place) → FromEnd c.args.clause.now c.loop-code.code-iterator.iter.rest.now c.next.new.self.iter.rest.now c.in-Some.code.now
+turn c = from_end c.args.clause.now _ _ _ c.loop-code.invariant.front c.in-Some.ensures.steps
 
 -- what the clause is sent to
-abbrev sent : After-slice_known-1 → List ℕ
+abbrev sent : After-sent-place → List ℕ
 sent c = sent_clause c.args.places.now c.args.clause.now
 
-size : (c : After-slice_known-1) → length (sent c) ≡ length c.args.clause.now
-size c = length-map c.args.clause.now (sent_to c.args.places.now)
-
-pub loop-i-init : goal.loop-i-init
-loop-i-init c =
-    let end : length (sent c) ≤ length c.args.clause.now = omega (arith, size c) in
-    (sym (key-none c.args.table.now (sent c) _ end), marked-none c.args.mark (sent c) c.args.marks.now _ end c.requires.2, omega arith, below_next _ _ c.requires.2)
-
--- it has a mark
-pub bounds-marks-place : goal.bounds-marks-place
-bounds-marks-place c = omega (arith, c.sent-place.ensures.1, c.loop-i.invariant.3.room)
-
--- what the clause is sent to
-abbrev sent-at-After-wrapping_add_u64-sum : After-wrapping_add_u64-sum → List ℕ
-sent-at-After-wrapping_add_u64-sum c = sent_clause c.args.places.now c.args.clause.now
-
--- what the clause is sent to
-abbrev sent-at-After-sent-place : After-sent-place → List ℕ
-sent-at-After-sent-place c = sent_clause c.args.places.now c.args.clause.now
-
-size-at-After-sent-place : (c : After-sent-place) → length (sent-at-After-sent-place c) ≡ length c.args.clause.now
-size-at-After-sent-place c = length-map c.args.clause.now (sent_to c.args.places.now)
-
 -- and so is the one that it is sent to
-hand : (c : After-sent-place) → Hand (sent-at-After-sent-place c) (c.loop-i.i - 1) c.loop-i.i (sent_to c.args.places.now c.wide.result) c.sent-place.result
+hand : (c : After-sent-place) → Hand (sent c) (length c.next.new.self.iter.rest.now) (length c.loop-code.code-iterator.iter.rest.now) (sent_to c.args.places.now c.from.result) c.sent-place.result
 hand c =
-    let within : c.loop-i.i - 1 < length c.args.clause.now = omega (arith, c.loop-i.invariant.2) in
+    let f = turn c in
     record {
-      next = omega arith;
-      inside = omega (arith, size-at-After-sent-place c);
-      is = ap (sent_to c.args.places.now) c.wide.ensures.0 ∙ sym (map_at (sent_to c.args.places.now) c.args.clause.now (c.loop-i.i - 1) 0 0 within);
+      next = f.next;
+      inside = omega (arith, f.inside, length-map c.args.clause.now (sent_to c.args.places.now));
+      is = ap (sent_to c.args.places.now) (c.from.ensures ∙ f.is) ∙ sym (map_at (sent_to c.args.places.now) c.args.clause.now _ 0 0 f.inside);
       low = omega arith;
       placed = omega (arith, c.sent-place.ensures.0);
     }
 
-pub loop-i-preserved-then-marks-place : goal.loop-i-preserved-then-marks-place
-loop-i-preserved-then-marks-place c =
-    let new = is-new c.args.mark (sent-at-After-wrapping_add_u64-sum c) c.loop-i.marks _ _ _ _ (hand (goal.at.loop-i-preserved-then-marks-place c).After-sent-place) c.loop-i.invariant.1 c.if-marks-place.true in (
-      c.wrapping_add_u64-sum.ensures.value ∙ key_more c.args.table.now (sent-at-After-wrapping_add_u64-sum c) _ _ _ _ (hand (goal.at.loop-i-preserved-then-marks-place c).After-sent-place) new _ c.loop-i.invariant.0,
-      marked_more c.args.mark (sent-at-After-wrapping_add_u64-sum c) c.loop-i.marks _ _ _ _ (hand (goal.at.loop-i-preserved-then-marks-place c).After-sent-place) c.loop-i.invariant.1 (omega (arith, c.sent-place.ensures.1, c.loop-i.invariant.3.room)),
-      omega (arith, c.loop-i.invariant.2),
-      below_more c.args.mark c.loop-i.marks _ c.sent-place.ensures.1 c.loop-i.invariant.3,
-    )
-
--- what the clause is sent to
-abbrev sent-at-Else-marks-place : Else-marks-place → List ℕ
-sent-at-Else-marks-place c = sent_clause c.args.places.now c.args.clause.now
-
-pub loop-i-preserved : goal.loop-i-preserved
-loop-i-preserved c =
-    let seen = came c.args.mark (sent-at-Else-marks-place c) c.loop-i.marks _ _ _ _ (hand (goal.at.loop-i-preserved c).After-sent-place) c.loop-i.invariant.1 c.if-marks-place.false in (
-      c.loop-i.invariant.0 ∙ key-again c.args.table.now (sent-at-Else-marks-place c) _ _ _ _ (hand (goal.at.loop-i-preserved c).After-sent-place) seen,
-      marked-again c.args.mark (sent-at-Else-marks-place c) c.loop-i.marks _ _ _ _ (hand (goal.at.loop-i-preserved c).After-sent-place) c.loop-i.invariant.1 seen,
-      omega (arith, c.loop-i.invariant.2),
-      c.loop-i.invariant.3,
-    )
-
--- what the clause is sent to
-abbrev sent-at-After-loop-i : After-loop-i → List ℕ
-sent-at-After-loop-i c = sent_clause c.args.places.now c.args.clause.now
-
-pub returns : goal.returns
-returns c = let none : c.loop-i.i ≡ 0 = omega arith in
+pub loop-code-preserved-then-marks-place : goal.loop-code-preserved-then-marks-place
+loop-code-preserved-then-marks-place c =
+    let at = (goal.at.loop-code-preserved-then-marks-place c).After-sent-place in
+    let i = c.loop-code.invariant in
+    let h = hand at in
+    let new = is-new c.args.mark (sent at) c.loop-code.marks _ _ _ _ h i.marked c.if-marks-place.true in
     record {
-      key = c.loop-i.invariant.0 ∙ ap (λ (k : ℕ). key_by c.args.table.now (drop k (sent-at-After-loop-i c))) none;
-      marked = rw none at c.loop-i.invariant.1;
-      below = c.loop-i.invariant.3;
+      front = (turn at).front;
+      key = key_more c.args.table.now (sent at) _ _ _ _ h new _ i.key;
+      marked = marked_more c.args.mark (sent at) c.loop-code.marks _ _ _ _ h i.marked (omega (arith, c.sent-place.ensures.1, i.below.room));
+      below = below_more c.args.mark c.loop-code.marks _ c.sent-place.ensures.1 i.below;
     }
 
-pub shape_of-marks : goal.shape_of-marks
-shape_of-marks c = c.loop-i.invariant.3.room ∙ sym c.requires.2.room
+pub loop-code-preserved : goal.loop-code-preserved
+loop-code-preserved c =
+    let at = (goal.at.loop-code-preserved c).After-sent-place in
+    let i = c.loop-code.invariant in
+    let h = hand at in
+    let seen = came c.args.mark (sent at) c.loop-code.marks _ _ _ _ h i.marked c.if-marks-place.false in
+    record {
+      front = (turn at).front;
+      key = i.key ∙ key-again c.args.table.now (sent at) _ _ _ _ h seen;
+      marked = marked-again c.args.mark (sent at) c.loop-code.marks _ _ _ _ h i.marked seen;
+      below = i.below;
+    }
 
--- the literal at hand is one of the clause's
-good : (c : After-wide) → is_literal max_variables c.wide.result ≡ true
-good c =
-    rw c.wide.ensures.0 (all-at (is_literal max_variables) c.args.clause.now 0 c.requires.0 (c.loop-i.i - 1) (omega (arith, c.loop-i.invariant.2)))
-
-pub sent-place-requires : goal.sent-place-requires
-sent-place-requires c = (good c, c.requires.1)
-
-pub offset_bounds-marks-place : goal.offset_bounds-marks-place
-offset_bounds-marks-place c = omega (arith, c.sent-place.ensures.1)
-
-pub offset_bounds-marks-place-then-marks-place : goal.offset_bounds-marks-place-then-marks-place
-offset_bounds-marks-place-then-marks-place c = omega (arith, c.sent-place.ensures.1)
-
-pub bounds-marks-place-then-marks-place : goal.bounds-marks-place-then-marks-place
-bounds-marks-place-then-marks-place c = omega (arith, c.sent-place.ensures.1, c.loop-i.invariant.3.room)
-
-pub offset_bounds-table-place : goal.offset_bounds-table-place
-offset_bounds-table-place c = omega (arith, c.sent-place.ensures.1)
-
-pub bounds-table-place : goal.bounds-table-place
-bounds-table-place c = c.sent-place.ensures.1
+pub returns : goal.returns
+returns c =
+    let none = c.in-None.ensures.steps.0 in
+    record { key = rw none at c.loop-code.invariant.key; marked = rw none at c.loop-code.invariant.marked; below = c.loop-code.invariant.below }

@@ -4,12 +4,12 @@ use Rattle.store.specs.Stores.{max_variables}
 use Rattle.store.proofs.Within.{clause-good}
 use Rattle.keys.proofs.key_at.Goals as goal
 
-pub clause-requires : goal.clause-requires
-clause-requires c = (c.requires.0.clauses, c.requires.1)
-
 pub key-requires : goal.key-requires
 key-requires c =
     (rw c.clause.ensures (clause-good max_variables c.args.m c.args.literals.now c.args.ends.now c.requires.0 c.args.c c.requires.1), c.requires.2, c.requires.3)
+
+pub overflow_cast-c : goal.overflow_cast-c
+overflow_cast-c c = omega (arith, c.requires.0.clauses-fit, c.requires.1)
 
 pub returns : goal.returns
 returns c = let next : c.args.c + 1 + 1 ≡ c.args.c + 2 = omega arith in
@@ -18,9 +18,3 @@ returns c = let next : c.args.c + 1 + 1 ≡ c.args.c + 2 = omega arith in
       marked = rw c.clause.ensures at c.key.ensures.marked;
       below = rw next at c.key.ensures.below;
     }
-
-pub overflow_cast-c : goal.overflow_cast-c
-overflow_cast-c c = omega (arith, c.requires.0.clauses-fit, c.requires.1)
-
-pub shape_of-marks : goal.shape_of-marks
-shape_of-marks c = c.key.auto.marks

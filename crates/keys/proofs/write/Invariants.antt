@@ -1,5 +1,5 @@
 -- `keys::write` meets its contract. The invariant: the keys from clause c on, stored from c on, give what is to be written, and no mark is above c. Assumes nothing.
-use Rattle.std.proofs.Common.{◌≡◌, ◌+◌, ◌-◌, ◌≤◌, length, drop}
+use Rattle.std.proofs.Common.{◌≡◌, ◌+◌, drop}
 use lib.Seq.{sets}
 use Rattle.lists.specs.Writing.{overwritten}
 use Rattle.store.specs.Stores.{clauses_in}
@@ -10,7 +10,4 @@ use Rattle.keys.proofs.write.Given as goal
 abbrev pub invariant-loop-c : goal.invariant-loop-c
 invariant-loop-c l =
     let all = keys_of (clauses_in l.m l.literals l.ends) in
-    (overwritten all l.initial.keys ≡ sets l.keys l.c (drop l.c all)) × Below (l.c + 1) l.marks × (l.c ≤ l.m) × (length l.keys ≡ length l.initial.keys)
-
-abbrev pub decreases-loop-c : goal.decreases-loop-c
-decreases-loop-c l = l.m - l.c
+    record { written : overwritten all l.initial.keys ≡ sets l.keys l.c (drop l.c all); below : Below (l.c + 1) l.marks }

@@ -1,12 +1,8 @@
 -- `store::form::rows_formed` meets its contract. The invariant: all rows are permutations if those from row r on are. Assumes nothing.
-use mathlib.Core.Path.{◌≡◌}
-use Prim.Native.Nat.{◌-◌, ◌≤◌}
+use Rattle.std.proofs.Common.{◌≡◌}
 use Rattle.lists.specs.Tests.{all_of}
 use Rattle.store.specs.Stores.{is_row, rows_of, rows_from}
 use Rattle.store.proofs.form.rows_formed.Given as goal
 
 abbrev pub invariant-loop-r : goal.invariant-loop-r
-invariant-loop-r l = (l.r ≤ l.k) × (all_of (is_row l.n) (rows_of l.n l.k l.images) ≡ all_of (is_row l.n) (rows_from l.n l.k l.images l.r))
-
-abbrev pub decreases-loop-r : goal.decreases-loop-r
-decreases-loop-r l = l.k - l.r
+invariant-loop-r l = all_of (is_row l.n) (rows_of l.n l.k l.images) ≡ all_of (is_row l.n) (rows_from l.n l.k l.images l.r)

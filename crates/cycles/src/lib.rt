@@ -8,7 +8,7 @@
 // marks that are left at the end are those of the variables left out.
 #![tactic(auto)]
 
-ghost use Rattle.std.specs.Prelude.{◌≡◌, true, ◌≤◌, length, replicate};
+ghost use Rattle.std.specs.Prelude.{◌≡◌, true, ◌≤◌, length};
 ghost use Rattle.store.specs.Stores.{max_variables, is_row};
 ghost use Rattle.cycles.specs.Cycles.{sent_to, turns};
 ghost use Rattle.cycles.specs.Marks.{marks_of, Visited};

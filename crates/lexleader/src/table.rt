@@ -6,7 +6,7 @@
 // allow, "A agrees with A moved by p on x1 .. xj", and no other: without r4 and r5 an auxiliary could be false where all agrees, and a kept
 // model would have several settings (`one-setting`, proofs/Theorems.antt). r6, with r1 of the first column, makes the order: where
 // everything up to xj agrees, xj+1 is at most yj+1.
-ghost use Rattle.std.specs.Prelude.{◌≡◌, ◌∷◌, [], ◌+◌, ◌-◌, ◌≤◌, get_or};
+ghost use Rattle.std.specs.Prelude.{[], ◌+◌, ◌-◌, ◌≤◌, get_or};
 ghost use Rattle.lexleader.specs.Bounds.{max_made_variables};
 ghost use Rattle.lexleader.specs.Clause.{ClauseIs, table_of};
 

@@ -5,7 +5,7 @@
 
 pub mod writer;
 
-ghost use Rattle.std.specs.Prelude.{◌≡◌, false, ◌+◌, ◌-◌, ◌*◌, ◌≤◌, length, MatchOption};
+ghost use Rattle.std.specs.Prelude.{◌≡◌, ◌+◌, ◌-◌, ◌*◌, ◌≤◌, length, MatchOption};
 ghost use Rattle.packed.specs.Words.{max_words, bit_at, word_count, is_assignment};
 ghost use Rattle.packed.specs.Order.{all_bits, first_difference, part, lesser_of, FirstUnequal};
 

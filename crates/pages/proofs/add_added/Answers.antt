@@ -11,8 +11,8 @@ use Rattle.pages.proofs.add_added.Goals as goal
 pub returns-in_err-bytes-clause-step : goal.returns-in_err-bytes-clause-step
 returns-in_err-bytes-clause-step c = λ plain many.
     let a = c.args in
-    let is = c.clause_at-clause.ensures.are ∙ ap (λ (row : List ℕ). get_or (clauses_at row a.page.cursor.place) 0 []) c.row-row.ensures in
-    let next = added-head plain a.counts many a.images.now a.page.cursor c.requires.0 c.requires.1 in
+    let is = c.clause_at-clause.ensures.are ∙ ap (λ (row : List ℕ). get_or (clauses_at row a.page.cursor.place) 0 []) c.row.ensures in
+    let next = added-head plain a.rows.counts many a.rows.images.now a.page.cursor c.requires.0 c.requires.1 in
     let k = c.clause_at-clause in
     let few = length-take-le k.result.count k.result.literals (omega (arith, k.ensures.most, k.ensures.room)) in
     rw c.from_residual.ensures
@@ -21,6 +21,6 @@ returns-in_err-bytes-clause-step c = λ plain many.
 pub returns-clause-step : goal.returns-clause-step
 returns-clause-step c = λ plain many.
     let a = c.args in
-    let is = c.clause_at-clause.ensures.are ∙ ap (λ (row : List ℕ). get_or (clauses_at row a.page.cursor.place) 0 []) c.row-row.ensures in
+    let is = c.clause_at-clause.ensures.are ∙ ap (λ (row : List ℕ). get_or (clauses_at row a.page.cursor.place) 0 []) c.row.ensures in
     let after = c.next_added-cursor.ensures.after in
     adds plain _ _ _ _ (after.passed plain many) (ap clause_line (map-id _ ∙ is)) c.in_ok-bytes.ensures after.stands refl

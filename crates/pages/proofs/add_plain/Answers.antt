@@ -1,10 +1,17 @@
 -- `pages::add_plain` meets its contract: the clause's line is added where it fits. Assumes nothing.
 use Rattle.std.proofs.Common.{ℕ, List, length, sym, ap, refl, ◌∙◌, arith}
 use Rattle.std.proofs.lemmas.List.{map-id}
+use Rattle.store.proofs.Formed.{formed, formed-clauses}
 use Rattle.render.specs.Text.{clause_line}
+use Rattle.emit.proofs.WrittenLaws.{clause-short}
 use Rattle.cursor.proofs.CursorLaws.{next-plain}
 use Rattle.pages.proofs.FillLaws.{full, adds}
 use Rattle.pages.proofs.add_plain.Goals as goal
+
+pub put_line-requires : goal.put_line-requires
+put_line-requires c =
+    let s = c.args.s in
+    (rw c.clause-clause.ensures (clause-short s.rows.counts.clauses s.literals.now s.ends.now (formed-clauses _ (formed _ s.formed)) c.args.page.cursor.plain c.requires.0), c.requires.1)
 
 pub returns-in_err-bytes-clause-step : goal.returns-in_err-bytes-clause-step
 returns-in_err-bytes-clause-step c = λ plain many is images stands.

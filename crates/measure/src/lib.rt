@@ -116,7 +116,7 @@ fn row_figures(row: &[u16], last: usize, marks: &mut [bool]) -> Figures
     let words = pairs.bytes + auxiliary_bytes(last + 1, count) - spared(row, pairs.last);
     Figures {
         variables: last + count,
-        clauses: clauses,
+        clauses,
         literals: literals_for(count, clauses),
         bytes: words + 2 * clauses,
     }

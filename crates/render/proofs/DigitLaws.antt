@@ -132,9 +132,6 @@ pub record Counted (x n y : ℕ) : Type 0 where
   pub low : y < 2 ^ 64
   pub count : length (decimal x) + 1 ≡ n + length (decimal y)
 
-pub counted_none : {x : ℕ} → x < 2 ^ 64 → Counted x 1 x
-counted_none low = record { low = low; count = omega arith }
-
 module _ {x n y : ℕ} (g : Counted x n y) where
   pub counted-more : 10 ≤ y → Counted x (n + 1) (y / 10)
   counted-more h = record { low = omega (arith, g.low); count = omega (arith, g.count, digits_more y g.low h) }

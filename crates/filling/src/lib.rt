@@ -18,7 +18,7 @@ ghost use Rattle.std.specs.Prelude.{◌≡◌, true, ◌++◌, ◌≤◌, length
 ghost use Rattle.packed.specs.Words.{word_count, is_assignment};
 ghost use Rattle.packed.specs.Order.{value_of};
 ghost use Rattle.packed.specs.Writing.{WriterRoom, Appends};
-ghost use Rattle.store.specs.Stores.{max_variables, is_row, rows_of, FormedRows};
+ghost use Rattle.store.specs.Held.{held_by};
 ghost use Rattle.cycles.specs.Marks.{marks_of};
 ghost use Rattle.lexleader.specs.Rows.{pairs_of};
 ghost use Rattle.lexleader.specs.Made.{auxiliaries, all_auxiliaries, made_variables, row_settings, settings};
@@ -28,53 +28,47 @@ ghost use Rattle.filling.specs.Written.{agreeing, filled_words};
 use packed::writer;
 use packed::writer::Writer;
 use store::record::Record;
+use store::row::Row;
+use store::rows::Rows;
 use trial::Span;
 
-// Writes the assignment of 1..N that an assignment of 1..n fills in as, and answers how many words it has.
-pub fn fill(images: &[u16], rows: usize, n: usize, a: &[u64], out: &mut [u64]) -> usize
-    requires { let needed = word_count (made_variables n (rows_of n rows images.now)) in
-        FormedRows n rows images.now × (is_assignment n a.now ≡ true) × (needed ≤ length out.old) }
-    ensures words { result ≡ word_count (made_variables n (rows_of n rows images.now)) }
-    ensures buffer { let held = rows_of n rows images.now in
+// Writes the assignment of 1..N that an assignment of 1..n fills in as, by the rows of a well-formed store, and answers how many words it has.
+pub fn fill(rows: Rows, a: &[u64], out: &mut [u64]) -> usize
+    requires { let n = rows.counts.variables in
+        (is_assignment n a.now ≡ true) × (word_count (made_variables n (held_by rows)) ≤ length out.old) }
+    ensures words { result ≡ word_count (made_variables rows.entry.counts.variables (held_by rows.entry)) }
+    ensures buffer { let n = rows.entry.counts.variables in let held = held_by rows.entry in
         out.new ≡ filled_words n held a.now ++ drop (word_count (made_variables n held)) out.old }
 {
+    let n = rows.counts.variables;
     let mut values = [false; valuation::TABLE];
     valuation::tabulate(a, n, &mut values);
     let plain = valuation::write(&values, n, out);
     let mut marks = [false; Record::MAX_VARIABLES];
-    let all = fill_rows(images, rows, n, &values, &mut marks[..n], out, plain);
+    let all = fill_rows(rows, &values, &mut marks[..n], out, plain);
     writer::finish(out, all)
 }
 
 // The values of the auxiliaries of all rows, for the assignment of a table, with room for the marks of a row.
-fn fill_rows(
-    images: &[u16],
-    rows: usize,
-    n: usize,
-    values: &[bool],
-    marks: &mut [bool],
-    out: &mut [u64],
-    w: Writer,
-) -> Writer
-    requires { let held = rows_of n rows images.now in
-        FormedRows n rows images.now × Table n values.now × (length marks.old ≡ n) × WriterRoom w (all_auxiliaries held) out.old }
-    ensures { let held = rows_of n rows images.now in
-        Appends w (settings held (bits_in n values.now)) out.old result out.new }
+fn fill_rows(rows: Rows, values: &[bool], marks: &mut [bool], out: &mut [u64], w: Writer) -> Writer
+    requires { let n = rows.counts.variables in
+        Table n values.now × (length marks.old ≡ n) × WriterRoom w (all_auxiliaries (held_by rows)) out.old }
+    ensures { let bits = bits_in rows.entry.counts.variables values.now in
+        Appends w (settings (held_by rows.entry) bits) out.old result out.new }
 {
     let mut taken = w;
-    for r in 0..rows {
-        taken = fill_row(store::rows::row(images, n, r), values, marks, out, taken);
+    for r in 0..rows.counts.rows {
+        taken = fill_row(rows.row(r), values, marks, out, taken);
     }
     taken
 }
 
 // The values of a row's auxiliaries, one for each x but the last: true as far as the x agree with their images, false from there on.
-fn fill_row(row: &[u16], values: &[bool], marks: &mut [bool], out: &mut [u64], w: Writer) -> Writer
-    requires { let n = length row.now in
-        (n ≤ max_variables) × (is_row n row.now ≡ true) × Table n values.now × (length marks.old ≡ n)
-        × WriterRoom w (auxiliaries row.now) out.old }
-    ensures { let bits = bits_in (length row.now) values.now in
-        Appends w (row_settings row.now bits) out.old result out.new }
+fn fill_row(row: Row, values: &[bool], marks: &mut [bool], out: &mut [u64], w: Writer) -> Writer
+    requires { let row = row.images.now in let n = length row in
+        Table n values.now × (length marks.old ≡ n) × WriterRoom w (auxiliaries row) out.old }
+    ensures { let row = row.entry.images.now in
+        Appends w (row_settings row (bits_in (length row) values.now)) out.old result out.new }
 {
     let added = lexleader::counting::added_by(row, marks);
     let all = added.auxiliaries;
@@ -84,17 +78,16 @@ fn fill_row(row: &[u16], values: &[bool], marks: &mut [bool], out: &mut [u64], w
 }
 
 // How many x agree with their images before the first that does not, by the marks of what is left out of the row.
-fn agreeing(row: &[u16], values: &[bool], marks: &[bool]) -> usize
-    requires { let n = length row.now in
-        (n ≤ max_variables) × (is_row n row.now ≡ true) × Table n values.now × (marks.now ≡ marks_of row.now) }
-    ensures { let bits = bits_in (length row.now) values.now in
-        result ≡ agreeing (value_of bits) (pairs_of row.now) }
+fn agreeing(row: Row, values: &[bool], marks: &[bool]) -> usize
+    requires { let row = row.images.now in Table (length row) values.now × (marks.now ≡ marks_of row) }
+    ensures { let row = row.entry.images.now in
+        result ≡ agreeing (value_of (bits_in (length row) values.now)) (pairs_of row) }
 {
     let span = Span {
         first: 0,
-        end: row.len() as u16,
+        end: row.images.len() as u16,
     };
-    match trial::try_row(row, span, values) {
+    match trial::try_row(row.images, span, values) {
         Some(tried) => lexleader::counting::pair_count(&marks[..tried.variable - 1]),
         None => lexleader::counting::pair_count(marks),
     }

@@ -12,12 +12,12 @@ use Rattle.filling.proofs.fill_row.Goals as goal
 
 pub push_run-requires : goal.push_run-requires
 push_run-requires c =
-    let bits = bits_in (length c.args.row.now) c.args.values.now in
-    run_room c.requires.4 (halfway _ bits _ _ c.added_by-added.ensures.added.0 c.agreeing.ensures _ c.min-agreed.ensures c.push_run-begun.ensures)
-    (sym (length-row c.args.row.now bits)) _
+    let bits = bits_in (length c.args.row.images.now) c.args.values.now in
+    run_room c.requires.2 (halfway _ bits _ _ c.added_by-added.ensures.added.0 c.agreeing.ensures _ c.min-agreed.ensures c.push_run-begun.ensures)
+    (sym (length-row c.args.row.images.now bits)) _
     (omega (arith, length-replicate (c.added_by-added.result.auxiliaries - c.min-agreed.result) false))
 
 pub returns : goal.returns
 returns c =
-    let bits = bits_in (length c.args.row.now) c.args.values.now in
+    let bits = bits_in (length c.args.row.images.now) c.args.values.now in
     run-last (halfway _ bits _ _ c.added_by-added.ensures.added.0 c.agreeing.ensures _ c.min-agreed.ensures c.push_run-begun.ensures) c.push_run.ensures

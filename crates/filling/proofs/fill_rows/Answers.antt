@@ -4,8 +4,9 @@ use Prim.Native.Nat.{ℕ, ◌+◌}
 use native.Mathlib.Omega.{arith}
 use lib.ListN.{length-append}
 use Rattle.packed.proofs.Runs.{run_more, run_end, run_room}
-use Rattle.store.specs.Stores.{rows_of, rows_from, row_at}
-use Rattle.store.proofs.RowParts.{part-size, part-row}
+use Rattle.store.specs.Held.{held_by}
+use Rattle.store.specs.Stores.{rows_from, row_at}
+use Rattle.store.proofs.RowParts.{part-size}
 use Rattle.lexleader.specs.Made.{auxiliaries, row_settings, settings}
 use Rattle.lexleader.proofs.Settings.{length-row, length-settings}
 use Rattle.valuation.specs.Tables.{bits_in}
@@ -14,31 +15,28 @@ use Rattle.filling.proofs.fill_rows.Goals as goal
 
 pub fill_row-taken-requires : goal.fill_row-taken-requires
 fill_row-taken-requires c =
-    let a = c.args in
+    let a = c.args.rows in
+    let n = a.counts.variables in
     let r : ℕ = c.loop-r.r in
-    let row = row_at a.n r a.images.now in
-    let held = rows_of a.n a.rows a.images.now in
-    let bits = bits_in a.n a.values.now in
-    let later = settings (rows_from a.n a.rows a.images.now (r + 1)) bits in
-    let size = part-size c.requires.0 r (omega arith) _ c.row.ensures in
-    let run = rw (over-more a.n a.rows a.images.now bits r (omega arith)) at c.loop-r.invariant in
-    let room = run_room c.requires.3 run (sym (length-settings held bits)) (auxiliaries row) (omega (arith, length-append (row_settings row bits) later, length-row row bits)) in (
-      omega (arith, size, c.requires.0.small),
-      part-row c.requires.0 r (omega arith) _ c.row.ensures,
-      rw size c.requires.1,
-      c.loop-r.auto.marks ∙ c.requires.2 ∙ sym size,
-      rw c.row.ensures room,
-    )
+    let row = row_at n r a.images.now in
+    let bits = bits_in n c.args.values.now in
+    let later = settings (rows_from n a.counts.rows a.images.now (r + 1)) bits in
+    let size = part-size a.formed r (omega arith) _ c.row.ensures in
+    let run = rw (over-more n a.counts.rows a.images.now bits r (omega arith)) at c.loop-r.invariant in
+    let room = run_room c.requires.2 run (sym (length-settings (held_by a) bits)) (auxiliaries row) (omega (arith, length-append (row_settings row bits) later, length-row row bits)) in
+    (rw size c.requires.0, c.loop-r.auto.marks ∙ c.requires.1 ∙ sym size, rw c.row.ensures room)
 
 pub loop-r-preserved : goal.loop-r-preserved
 loop-r-preserved c =
-    let a = c.args in
-    let bits = bits_in a.n a.values.now in
-    let size = part-size c.requires.0 c.loop-r.r (omega arith) _ c.row.ensures in
-    let run = rw (over-more a.n a.rows a.images.now bits c.loop-r.r (omega arith)) at c.loop-r.invariant in
+    let a = c.args.rows in
+    let n = a.counts.variables in
+    let bits = bits_in n c.args.values.now in
+    let size = part-size a.formed c.loop-r.r (omega arith) _ c.row.ensures in
+    let run = rw (over-more n a.counts.rows a.images.now bits c.loop-r.r (omega arith)) at c.loop-r.invariant in
     run_more run (rw (size, c.row.ensures) at c.fill_row-taken.ensures)
 
 pub returns : goal.returns
 returns c =
-    let a = c.args in
-    run_end (rw (over-end a.n a.rows a.images.now (bits_in a.n a.values.now) c.loop-r.r (omega arith)) at c.loop-r.invariant)
+    let a = c.args.rows in
+    let n = a.counts.variables in
+    run_end (rw (over-end n a.counts.rows a.images.now (bits_in n c.args.values.now) c.loop-r.r (omega arith)) at c.loop-r.invariant)

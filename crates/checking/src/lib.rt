@@ -20,7 +20,7 @@ ghost use Rattle.lists.specs.Tests.{all_of};
 ghost use Rattle.packed.specs.Words.{bits_of, is_assignment};
 ghost use Rattle.packed.specs.Order.{value_of};
 ghost use Rattle.store.specs.Literals.{is_literal};
-ghost use Rattle.store.specs.Stores.{is_row, stored, is_formed};
+ghost use Rattle.store.specs.Held.{store_of};
 ghost use Rattle.lexleader.specs.Models.{clause_holds, formula_holds};
 ghost use Rattle.lexleader.specs.Clause.{pair_at};
 ghost use Rattle.lexleader.specs.Places.{six_at, ClauseStands};
@@ -33,89 +33,77 @@ ghost use Rattle.checking.specs.SixClauses.{LiteralsWithin, auxiliary_due};
 
 use cursor::Cursor;
 use lexleader::places::Place;
-use store::record::Record;
+use store::form::Formed;
+use store::row::Row;
+use store::rows::Rows;
 
-// The number, from 1, of the first clause of the made formula that an assignment of 1..N makes false; how many clauses there are is known, and
-// there is room for the marks of a row.
-pub fn first_false(
-    counts: Record,
-    literals: &[u16],
-    ends: &[u16],
-    images: &[u16],
-    clauses: usize,
-    a: &[u64],
-    marks: &mut [bool],
-) -> Option<usize>
-    requires { let s = stored counts literals ends images in
-        (is_formed s ≡ true) × (is_assignment (variables_of s) a.now ≡ true) × (clauses ≡ clauses_of s) × (length marks.old ≡ counts.variables) }
-    ensures { let s = stored counts literals.entry ends.entry images.entry in
-        verdict_of result ≡ first_false s a.now }
+// The number, from 1, of the first clause of a store's made formula that an assignment of 1..N makes false; how many clauses there are is known,
+// and there is room for the marks of a row.
+pub fn first_false(s: Formed, clauses: usize, a: &[u64], marks: &mut [bool]) -> Option<usize>
+    requires { (is_assignment (variables_of (store_of s)) a.now ≡ true) × (clauses ≡ clauses_of (store_of s)) × (length marks.old ≡ s.rows.counts.variables) }
+    ensures { verdict_of result ≡ first_false (store_of s.entry) a.now }
 {
     let mut values = [false; valuation::TABLE];
-    valuation::tabulate(a, counts.variables, &mut values);
-    let mut at = cursor::start(counts, images, marks);
+    valuation::tabulate(a, s.rows.counts.variables, &mut values);
+    let mut at = cursor::start(s.rows, marks);
     let mut q = 1;
     // Counted by hand: the six clauses of an auxiliary are passed at once.
     while q <= clauses {
-        if six_hold(counts, images, at, &values, a) {
-            at = cursor::next_auxiliary(counts, images, at, marks);
+        if six_hold(s.rows, at, &values, a) {
+            at = cursor::next_auxiliary(s.rows, at, marks);
             q += 6;
             continue;
         }
-        if !holds_at(counts, literals, ends, images, at, &values, a) {
+        if !holds_at(s, at, &values, a) {
             return Some(q);
         }
-        at = cursor::next(counts, images, at, marks);
+        at = cursor::next(s.rows, at, marks);
         q += 1;
     }
     None
 }
 
 // Whether a cursor stands at the first of an auxiliary's six clauses and they all hold.
-fn six_hold(counts: Record, images: &[u16], at: Cursor, values: &[bool], a: &[u64]) -> bool
-    requires { CursorStands counts images.now at × TableOf counts.variables values.now a.now
-        × LiteralsWithin (64 * length a.now) (added_from counts images.now at.row at.place) }
-    ensures { let images = images.entry.now in
-        let six = six_at (row_of counts images at) at.place in
+fn six_hold(rows: Rows, at: Cursor, values: &[bool], a: &[u64]) -> bool
+    requires { let counts = rows.counts in
+        CursorStands counts rows.images.now at × TableOf counts.variables values.now a.now
+        × LiteralsWithin (64 * length a.now) (added_from counts rows.images.now at.row at.place) }
+    ensures { let counts = rows.entry.counts in
+        let six = six_at (row_of counts rows.entry.images.now at) at.place in
         (result ≡ true → AtAuxiliary counts at
         × ((n : ℕ) → LiteralsWithin n six → formula_holds (value_of (bits_of n a.now)) six ≡ true)) }
 {
-    if !cursor::at_auxiliary(counts, at) {
-        return false;
-    }
-    let row = store::rows::row(images, counts.variables, at.row);
-    table_holds(row, at.place, values, a)
+    cursor::at_auxiliary(rows.counts, at) && table_holds(rows.row(at.row), at.place, values, a)
 }
 
 // Whether the six clauses of the auxiliary at a place hold: it is true exactly when it is due, the next pair is ordered where it is true,
 // and so is the pair of the row's first auxiliary.
-fn table_holds(row: &[u16], place: Place, values: &[bool], a: &[u64]) -> bool
-    requires { let n = length row.now in
-        ClauseStands row.now place × (place.next < n) × (is_row n row.now ≡ true)
-        × TableOf n values.now a.now × LiteralsWithin (64 * length a.now) (six_at row.now place) }
-    ensures { let six = six_at row.now place in
+fn table_holds(row: Row, place: Place, values: &[bool], a: &[u64]) -> bool
+    requires { let row = row.images.now in
+        ClauseStands row place × (place.next < length row)
+        × TableOf (length row) values.now a.now × LiteralsWithin (64 * length a.now) (six_at row place) }
+    ensures { let six = six_at row.entry.images.now place in
         ((n : ℕ) → LiteralsWithin n six → result ≡ formula_holds (value_of (bits_of n a.now)) six) }
 {
     let due = auxiliary_due(row, place, values, a);
     if valuation::variable_value(a, place.auxiliary as usize) {
-        return due && is_ordered(row, place.next, values);
+        return due && is_ordered(row.images, place.next, values);
     }
-    !due && (place.j != 1 || is_ordered(row, place.index, values))
+    !due && (place.j != 1 || is_ordered(row.images, place.index, values))
 }
 
 // Whether the auxiliary at a place has to be true.
-fn auxiliary_due(row: &[u16], place: Place, values: &[bool], a: &[u64]) -> bool
-    requires { let n = length row.now in
-        ClauseStands row.now place × (is_row n row.now ≡ true)
-        × TableOf n values.now a.now × LiteralsWithin (64 * length a.now) (six_at row.now place) }
-    ensures { let row = row.entry.now in
+fn auxiliary_due(row: Row, place: Place, values: &[bool], a: &[u64]) -> bool
+    requires { let row = row.images.now in
+        ClauseStands row place × TableOf (length row) values.now a.now × LiteralsWithin (64 * length a.now) (six_at row place) }
+    ensures { let row = row.entry.images.now in
         ((n : ℕ) → LiteralsWithin n (six_at row place) → result ≡ auxiliary_due (value_of (bits_of n a.now)) row place) }
 {
     if place.j == 1 {
-        return pair_agrees(row, place.index, values);
+        return pair_agrees(row.images, place.index, values);
     }
     valuation::variable_value(a, place.auxiliary as usize - 1)
-        && pair_agrees(row, place.index, values)
+        && pair_agrees(row.images, place.index, values)
 }
 
 // Whether a variable and its image have the same value.
@@ -142,32 +130,18 @@ fn is_ordered(row: &[u16], i: usize, values: &[bool]) -> bool
 }
 
 // Whether the clause at a cursor has a true literal.
-fn holds_at(
-    counts: Record,
-    literals: &[u16],
-    ends: &[u16],
-    images: &[u16],
-    at: Cursor,
-    values: &[bool],
-    a: &[u64],
-) -> bool
-    requires { let s = stored counts literals ends images in
-        (is_formed s ≡ true) × CursorStands counts images.now at × ClauseRemains counts at
-        × TableOf counts.variables values.now a.now
-        × (all_of (is_literal (64 * length a.now)) (get_or (remaining_of s at) 0 []) ≡ true) }
-    ensures { let s = stored counts literals.entry ends.entry images.entry in
-        let clause = get_or (remaining_of s at) 0 [] in
+fn holds_at(s: Formed, at: Cursor, values: &[bool], a: &[u64]) -> bool
+    requires { let counts = s.rows.counts in
+        CursorStands counts s.rows.images.now at × ClauseRemains counts at × TableOf counts.variables values.now a.now
+        × (all_of (is_literal (64 * length a.now)) (get_or (remaining_of (store_of s) at) 0 []) ≡ true) }
+    ensures { let clause = get_or (remaining_of (store_of s.entry) at) 0 [] in
         ((n : ℕ) → all_of (is_literal n) clause ≡ true → result ≡ clause_holds (value_of (bits_of n a.now)) clause) }
 {
-    if at.plain < counts.clauses {
-        return stored_holds(
-            store::clauses::clause(literals, ends, counts.clauses, at.plain),
-            values,
-        );
+    if at.plain < s.rows.counts.clauses {
+        return stored_holds(s.clause(at.plain), values);
     }
-    let row = store::rows::row(images, counts.variables, at.row);
-    let place = at.place;
-    let clause = lexleader::places::clause_at(row, place);
+    let row = s.rows.row(at.row);
+    let clause = lexleader::places::clause_at(row.images, at.place);
     let codes = clause.literals;
     let count = clause.count;
     codes_hold(&codes[..count], a)

@@ -1,4 +1,4 @@
--- The clause at a cursor, the first of those that are left: a plain one, or the one at the cursor's place in its row. Assumes nothing.
+-- The clause at a cursor, the first of those that are left: a plain one, or the one at the cursor's place in its row; and the six clauses of an auxiliary there. Assumes nothing.
 use mathlib.Core.Path.{◌≡◌, sym, ap, ◌∙◌}
 use mathlib.Core.Bool.{Bool, true}
 use mathlib.Core.List.{List, []}

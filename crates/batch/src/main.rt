@@ -6,7 +6,9 @@ use std::io;
 
 fn main(rt: HostRuntime) -> io::Result<()> {
     let mut data = [0u8; 65536];
-    let read = stdio::read(rt.stdin(), &mut data)?;
+    let Ok(read) = stdio::read(rt.stdin(), &mut data) else {
+        return Ok(());
+    };
     inputs(&rt, &data[..read])
 }
 
@@ -22,7 +24,9 @@ fn inputs(rt: &HostRuntime, data: &[u8]) -> io::Result<()> {
             break;
         }
         println!(rt; "input {count}")?;
-        printing::print(rt.stdout(), &data[from..to])?;
+        if printing::print(rt.stdout(), &data[from..to]).is_err() {
+            break;
+        }
         at = to;
     }
     Ok(())

@@ -10,9 +10,9 @@ use borrow.Author.Tests.{eq-eqb, ne_eqb, le-leb, lt-leb, lt-ltb, le-ltb}
 use lib.ListN.{length, get_or, drop}
 use lib.Seq.{length-slice}
 use Rattle.lists.proofs.Cases.{lt-or-le}
-use Rattle.store.specs.Refusals.{said, buffer_left, refused}
+use Rattle.std.proofs.Common.{Result, Ok, Err}
+use Rattle.store.specs.Refusals.{said_result, buffer_left, refused}
 use Rattle.store.specs.Stores.{Store, literal_count, clause_at, FormedClauses, max_literals, is_formed}
-use Rattle.store.specs.declared.answer.Answer.{Answer}
 use Rattle.store.specs.declared.refusal.Refusal.{Refusal}
 use Rattle.lexleader.specs.Store.{clauses_of}
 use Rattle.lexleader.specs.Counted.{Counted}
@@ -28,19 +28,19 @@ at-start line out = ap (λ (k : ℕ). line ++ drop k out) (zero-add (length line
 
 -- what a function that measures, tests and writes a line says and leaves
 module _ (line out : List ℕ) where
-  abbrev pub Writes : Answer → List ℕ → Type 0
-  Writes answer after = (said answer ≡ written_if line (length out)) × (after ≡ buffer_left (said answer) line out)
+  abbrev pub Writes : Result ℕ Refusal → List ℕ → Type 0
+  Writes answer after = (said_result answer ≡ written_if line (length out)) × (after ≡ buffer_left (said_result answer) line out)
 
-  pub left_alone : (needed : ℕ) → needed ≡ length line → length out < needed → Writes (Answer.Refused (Refusal.TooShort needed)) out
+  pub left_alone : (needed : ℕ) → needed ≡ length line → length out < needed → Writes (Err (Refusal.TooShort needed)) out
   unfolding written_if
   left_alone needed is h = (rw (is, lt-leb (length line) (length out) (rw is at h)), refl)
 
-  pub put-there : (after : List ℕ) (needed : ℕ) → needed ≡ length line → needed ≤ length out → after ≡ written_at 0 line out → Writes (Answer.Value needed) after
+  pub put-there : (after : List ℕ) (needed : ℕ) → needed ≡ length line → needed ≤ length out → after ≡ written_at 0 line out → Writes (Ok needed) after
   unfolding written_if
   put-there after needed is h e = (rw (is, le-leb (length line) (length out) (rw is at h)), e ∙ at-start line out)
 
 -- another name for the line
-pub same_line : {line other : List ℕ} → line ≡ other → (out : List ℕ) (answer : Answer) (after : List ℕ) → Writes line out answer after → Writes other out answer after
+pub same_line : {line other : List ℕ} → line ≡ other → (out : List ℕ) (answer : Result ℕ Refusal) (after : List ℕ) → Writes line out answer after → Writes other out answer after
 same_line e out answer after w = rw e at w
 
 -- the header of the totals that were counted

@@ -2,31 +2,31 @@
 // measured before it is written, so that a refusal has written nothing.
 #![tactic(auto)]
 
-ghost use Rattle.std.specs.Prelude.{◌≡◌, true, ◌+◌, ◌≤◌, [], length, get_or};
-ghost use Rattle.store.specs.Refusals.{said, buffer_left};
+ghost use Rattle.std.specs.Prelude.{◌≡◌, true, ◌+◌, ◌≤◌, [], length, get_or, map};
+ghost use Rattle.store.specs.Refusals.{said_result, buffer_left};
 ghost use Rattle.store.specs.Stores.{stored, rows_of, is_formed, FormedRows, max_literals};
 ghost use Rattle.lexleader.specs.Made.{rows_clauses};
 ghost use Rattle.render.specs.Text.{clause_line, header_line};
 ghost use Rattle.emit.specs.Emit.{line_of, clause_by, added_by, written_if};
 
 use lexleader::counting::Totals;
-use store::answer::Answer;
+use store::literal::Coded;
 use store::record::Record;
 use store::refusal::Refusal;
 
 // Writes the header line of N variables and M clauses.
-pub fn header(total: Totals, out: &mut [u8]) -> Answer
-    ensures answer { said result ≡ written_if (header_line total.variables total.clauses) (length out.old) }
-    ensures buffer { out.new ≡ buffer_left (said result) (header_line total.variables total.clauses) out.old }
+pub fn header(total: Totals, out: &mut [u8]) -> Result<u64, Refusal>
+    ensures answer { said_result result ≡ written_if (header_line total.variables total.clauses) (length out.old) }
+    ensures buffer { out.new ≡ buffer_left (said_result result) (header_line total.variables total.clauses) out.old }
 {
     let variables = total.variables as u64;
     let clauses = total.clauses as u64;
     let needed = render::header_length(variables, clauses);
     if out.len() < needed {
-        return Answer::Refused(Refusal::TooShort(needed));
+        return Err(Refusal::TooShort(needed));
     }
     render::put_header(out, 0, variables, clauses);
-    Answer::Value(needed as u64)
+    Ok(needed as u64)
 }
 
 // Writes the line of clause q, from 1.
@@ -37,19 +37,19 @@ pub fn clause(
     images: &[u16],
     q: usize,
     out: &mut [u8],
-) -> Answer
+) -> Result<u64, Refusal>
     requires { is_formed (stored counts literals ends images) ≡ true }
     ensures answer { let s = stored counts literals.entry ends.entry images.entry in
-        said result ≡ clause_by s q (length out.old) }
+        said_result result ≡ clause_by s q (length out.old) }
     ensures buffer { let s = stored counts literals.entry ends.entry images.entry in
-        out.new ≡ buffer_left (said result) (line_of s q) out.old }
+        out.new ≡ buffer_left (said_result result) (line_of s q) out.old }
 {
     if q == 0 {
-        return Answer::Refused(Refusal::NoSuchClause);
+        return Err(Refusal::NoSuchClause);
     }
     let c = q - 1;
     if c < counts.clauses {
-        return write_stored(
+        return write_clause(
             store::clauses::clause(literals, ends, counts.clauses, c),
             out,
         );
@@ -60,49 +60,41 @@ pub fn clause(
 }
 
 // A clause that the rows add, by its number among those, from 0, with room for the marks of a row.
-fn added(counts: Record, images: &[u16], c: usize, marks: &mut [bool], out: &mut [u8]) -> Answer
+fn added(
+    counts: Record,
+    images: &[u16],
+    c: usize,
+    marks: &mut [bool],
+    out: &mut [u8],
+) -> Result<u64, Refusal>
     requires { FormedRows counts.variables counts.rows images.now × (length marks.old ≡ counts.variables) }
     ensures answer { let rows = rows_of counts.variables counts.rows images.now in
-        said result ≡ added_by (rows_clauses (counts.variables + 1) rows) c (length out.old) }
+        said_result result ≡ added_by (rows_clauses (counts.variables + 1) rows) c (length out.old) }
     ensures buffer { let rows = rows_of counts.variables counts.rows images.now in
-        out.new ≡ buffer_left (said result) (clause_line (get_or (rows_clauses (counts.variables + 1) rows) c [])) out.old }
+        out.new ≡ buffer_left (said_result result) (clause_line (get_or (rows_clauses (counts.variables + 1) rows) c [])) out.old }
 {
     let n = counts.variables;
     let spot = lexleader::numbered::find(images, counts.rows, n, c, marks);
     if spot.row == counts.rows {
-        return Answer::Refused(Refusal::NoSuchClause);
+        return Err(Refusal::NoSuchClause);
     }
     let row = store::rows::row(images, n, spot.row);
     let clause = lexleader::numbered::row_clause(row, marks, spot.auxiliary, spot.number);
     let codes = clause.literals;
     let count = clause.count;
-    write_codes(&codes[..count], out)
+    write_clause(&codes[..count], out)
 }
 
-// A clause of stored codes.
-fn write_stored(clause: &[u16], out: &mut [u8]) -> Answer
+// A clause, of stored or of made codes.
+fn write_clause<C: Coded>(clause: &[C], out: &mut [u8]) -> Result<u64, Refusal>
     requires { length clause.now ≤ max_literals }
-    ensures answer { said result ≡ written_if (clause_line clause.now) (length out.old) }
-    ensures buffer { out.new ≡ buffer_left (said result) (clause_line clause.now) out.old }
-{
-    let needed = render::stored_length(clause);
-    if out.len() < needed {
-        return Answer::Refused(Refusal::TooShort(needed));
-    }
-    render::put_stored(out, 0, clause);
-    Answer::Value(needed as u64)
-}
-
-// A clause of any codes.
-fn write_codes(clause: &[u32], out: &mut [u8]) -> Answer
-    requires { length clause.now ≤ max_literals }
-    ensures answer { said result ≡ written_if (clause_line clause.now) (length out.old) }
-    ensures buffer { out.new ≡ buffer_left (said result) (clause_line clause.now) out.old }
+    ensures answer { said_result result ≡ written_if (clause_line (map C.code clause.now)) (length out.old) }
+    ensures buffer { out.new ≡ buffer_left (said_result result) (clause_line (map C.code clause.now)) out.old }
 {
     let needed = render::clause_length(clause);
     if out.len() < needed {
-        return Answer::Refused(Refusal::TooShort(needed));
+        return Err(Refusal::TooShort(needed));
     }
     render::put_clause(out, 0, clause);
-    Answer::Value(needed as u64)
+    Ok(needed as u64)
 }

@@ -154,20 +154,19 @@ pub left-start : {x at k : ℕ} {buffer : List ℕ} → x < 2 ^ 64 → k ≡ at 
 left-start low e h = record { low = low; place = e; room = omega arith; size = refl; bytes = refl }
 
 module _ {x at : ℕ} {buffer out : List ℕ} {k y : ℕ} (g : Left x at buffer out k y) where
-  pub left-more : 10 ≤ y → Left x at buffer (set out (k - 1) (y - y / 10 * 10 + 48)) (k - 1) (y / 10)
+  pub left-more : 10 ≤ y → Left x at buffer (set out (k - 1) (y % 10 + 48)) (k - 1) (y / 10)
   left-more h =
       let ds : List ℕ = decimal (y / 10) in
       let split : decimal y ≡ ds ++ ((y % 10 + 48) ∷ []) = decimal-more y g.low h in
       let l = digits_more y g.low h in
       let e : k - 1 ≡ at + length ds = omega (arith, g.place) in
-      let d : y - y / 10 * 10 + 48 ≡ y % 10 + 48 = omega arith in
-      let s = length-set out (k - 1) (y - y / 10 * 10 + 48) in
+      let s = length-set out (k - 1) (y % 10 + 48) in
       record {
         low = omega (arith, g.low);
         place = e;
         room = omega (arith, g.room);
         size = omega (arith, g.size);
-        bytes = g.bytes ∙ ap (λ (bytes : List ℕ). written_at at bytes out) split ∙ sym (rw (d, e) (written_last at (y % 10 + 48) ds out (omega (arith, g.room, g.place))));
+        bytes = g.bytes ∙ ap (λ (bytes : List ℕ). written_at at bytes out) split ∙ sym (rw e (written_last at (y % 10 + 48) ds out (omega (arith, g.room, g.place))));
       }
 
   pub left-last : y < 10 → set out at (y + 48) ≡ written_at at (decimal x) buffer

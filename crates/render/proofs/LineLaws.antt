@@ -1,12 +1,13 @@
 -- Literals, clauses and the header as bytes: their lengths, and how a loop over a clause measures and writes its line. Assumes nothing.
 use mathlib.Core.Path.{◌≡◌, refl, sym, ap, ◌∙◌}
 use mathlib.Core.Bool.{Bool, true, false}
-use mathlib.Core.List.{List, [], ◌∷◌, ◌++◌, append_assoc}
+use mathlib.Core.List.{List, [], ◌∷◌, ◌++◌, append_assoc, map}
 use Prim.Native.Nat.{ℕ, suc, ◌+◌, ◌*◌, ◌^◌, ◌≤◌, ◌<◌, zero-le, suc-le-suc}
 use native.Mathlib.Nat.{add-zero, mul-suc}
 use native.Mathlib.Omega.{arith}
 use mir.Val.{bool_byte}
 use lib.ListN.{length, set, get_or, drop, length-append, drop_of_length-le}
+use Rattle.std.proofs.lemmas.List.{length-map, get_or-map}
 use Rattle.lists.proofs.Steps.{drop-step}
 use Rattle.store.specs.Literals.{variable_of, is_negative}
 use Rattle.store.specs.Stores.{max_literals}
@@ -70,12 +71,21 @@ header-within variables clauses few many = omega (arith, length-header variables
 abbrev pub word_text : ℕ → List ℕ
 word_text code = literal_text code ++ 32 ∷ []
 
+-- the code that a clause has at i
+pub record CodeAt (clause : List ℕ) (i code : ℕ) : Type 0 where
+  pub inside : i < length clause
+  pub is : code ≡ get_or clause i 0
+
+-- it is that of what a slice has there
+pub code-at : {X : Type 0} (f : X → ℕ) (xs : List X) (i : ℕ) {x : X} {code : ℕ} → i < length xs → x ≡ get_or xs i x → code ≡ f x → CodeAt (map f xs) i code
+code-at f xs i {x} h read e = record { inside = rw length-map h; is = e ∙ ap f read ∙ sym (get_or-map f xs i x 0 h) }
+
 module _ (clause : List ℕ) (i : ℕ) where
-  -- its code's word, and the rest
-  module _ (h : i < length clause) {code : ℕ} (e : code ≡ get_or clause i 0) where
+  -- its word, and the rest
+  module _ {code : ℕ} (a : CodeAt clause i code) where
     line_at : clause_line (drop i clause) ≡ word_text code ++ clause_line (drop (i + 1) clause)
     unfolding clause_line
-    line_at = rw (e, drop-step clause i 0 h) (sym (append_assoc (literal_text (get_or clause i 0)) (32 ∷ []) (clause_line (drop (i + 1) clause))))
+    line_at = rw (a.is, drop-step clause i 0 a.inside) (sym (append_assoc (literal_text (get_or clause i 0)) (32 ∷ []) (clause_line (drop (i + 1) clause))))
 
     length_at : length (clause_line (drop i clause)) ≡ length (word_text code) + length (clause_line (drop (i + 1) clause))
     length_at = ap length line_at ∙ length-append (word_text code) (clause_line (drop (i + 1) clause))
@@ -122,9 +132,9 @@ measured-start clause h = record { fits = h; sum = omega arith }
 
 module _ {clause : List ℕ} {i n : ℕ} (g : Measured clause i n) where
   -- w bytes for the literal i
-  module _ (h : i < length clause) {code w : ℕ} (e : code ≡ get_or clause i 0) (d : w ≡ length (literal_text code)) where
+  module _ {code w : ℕ} (a : CodeAt clause i code) (d : w ≡ length (literal_text code)) where
     pub measured-more : Measured clause (i + 1) (n + (w + 1))
-    measured-more = record { fits = g.fits; sum = omega (arith, g.sum, length_at clause i h e, length-append (literal_text code) (32 ∷ [])) }
+    measured-more = record { fits = g.fits; sum = omega (arith, g.sum, length_at clause i a, length-append (literal_text code) (32 ∷ [])) }
 
     pub measured-fits : n + (w + 1) < 2 ^ 32
     measured-fits = omega (arith, g.fits, measured-more.sum, line-short clause)
@@ -146,20 +156,20 @@ line-start clause at buffer h = record { place = refl; room = h; size = refl; by
 
 module _ {clause : List ℕ} {at : ℕ} {buffer : List ℕ} {i next : ℕ} {out : List ℕ} (g : Line clause at buffer i next out) where
   -- the word of the literal i
-  module _ (h : i < length clause) {code : ℕ} (e : code ≡ get_or clause i 0) where
+  module _ {code : ℕ} (a : CodeAt clause i code) where
     pub word_room : next + length (word_text code) ≤ length out
-    word_room = omega (arith, g.room, length_at clause i h e)
+    word_room = omega (arith, g.room, length_at clause i a)
 
     pub line-more : {end : ℕ} {made : List ℕ} → Wrote next (word_text code) out end made → Line clause at buffer (i + 1) end made
     line-more {end} {made} p =
         let same : length made ≡ length out = ap length p.1 ∙ length-written next (word_text code) out word_room in
-        let l = length_at clause i h e in
+        let l = length_at clause i a in
         record {
           place = omega (arith, g.place, p.0);
           room = omega (arith, g.room, p.0);
           size = same ∙ g.size;
           bytes = g.bytes
-              ∙ ap (λ (bytes : List ℕ). written_at next bytes out) (line_at clause i h e)
+              ∙ ap (λ (bytes : List ℕ). written_at next bytes out) (line_at clause i a)
               ∙ sym (rw (p.0, p.1) (written-written next (word_text code) (clause_line (drop (i + 1) clause)) out (omega (arith, g.room))));
         }
 

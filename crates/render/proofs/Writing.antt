@@ -4,9 +4,8 @@ use mathlib.Core.List.{List, [], ◌∷◌, ◌++◌}
 use Prim.Native.Nat.{ℕ, suc, ◌+◌, ◌≤◌, ◌<◌}
 use native.Mathlib.Nat.{add-zero}
 use native.Mathlib.Omega.{arith}
-use lib.ListN.{length, set, get_or, drop, length-append, length-drop, length-set}
-use lib.Seq.{sets, length-sets, sets-eq, set-set, set_comm, paste-zero}
-use Rattle.lists.proofs.Steps.{drop-step}
+use lib.ListN.{length, set, length-append, length-set}
+use lib.Seq.{sets, length-sets, sets-eq, set-set, set_comm}
 use Rattle.render.specs.Text.{written_at}
 
 -- as stores, one byte after another
@@ -14,26 +13,8 @@ pub stores : (at : ℕ) (bytes buffer : List ℕ) → at + length bytes ≤ leng
 unfolding written_at
 stores at bytes buffer h = sym (sets-eq bytes buffer at h)
 
--- nothing
-pub written_none : (at : ℕ) (buffer : List ℕ) → written_at at [] buffer ≡ buffer
-unfolding written_at
-written_none at buffer = sym (paste-zero buffer at [])
-
 pub length-written : (at : ℕ) (a buffer : List ℕ) → at + length a ≤ length buffer → length (written_at at a buffer) ≡ length buffer
 length-written at a buffer h = ap length (stores at a buffer h) ∙ length-sets buffer at a
-
--- the byte at i, then those after it
-pub written-rest : (at i : ℕ) (bytes buffer : List ℕ) → i < length bytes → at + length bytes ≤ length buffer
-    → written_at (at + i) (drop i bytes) buffer ≡ written_at (at + (i + 1)) (drop (i + 1) bytes) (set buffer (at + i) (get_or bytes i 0))
-written-rest at i bytes buffer h room =
-    let on : suc (at + i) ≡ at + (i + 1) = omega arith in
-    let rest = length-drop i bytes in
-    let l = length-set buffer (at + i) (get_or bytes i 0) in
-    let more = length-drop (i + 1) bytes in
-    ap (λ (r : List ℕ). written_at (at + i) r buffer) (drop-step bytes i 0 h)
-    ∙ stores (at + i) (get_or bytes i 0 ∷ drop (i + 1) bytes) buffer (omega arith)
-    ∙ ap (λ (n : ℕ). sets (set buffer (at + i) (get_or bytes i 0)) n (drop (i + 1) bytes)) on
-    ∙ sym (stores (at + (i + 1)) (drop (i + 1) bytes) (set buffer (at + i) (get_or bytes i 0)) (omega arith))
 
 -- one after another
 sets-append : (at : ℕ) (a b buffer : List ℕ) → sets (sets buffer at a) (at + length a) b ≡ sets buffer at (a ++ b)

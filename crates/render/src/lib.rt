@@ -2,12 +2,13 @@
 // answers the place after what it wrote; each `_length` says beforehand how many bytes that is.
 #![tactic(auto)]
 
-ghost use Rattle.std.specs.Prelude.{◌≡◌, [], ◌∷◌, ◌++◌, ◌+◌, ◌-◌, ◌≤◌, ◌<◌, length};
+ghost use Rattle.std.specs.Prelude.{◌≡◌, [], ◌∷◌, ◌++◌, ◌+◌, ◌≤◌, ◌<◌, length, map};
 ghost use Rattle.store.specs.Stores.{max_literals};
 ghost use Rattle.render.specs.Text.{decimal, literal_text, clause_line, two_numbers, header_line, refusal_line, written_at};
 ghost use Rattle.render.specs.Digits.{run_digits, digits_below};
 
 use store::literal;
+use store::literal::Coded;
 
 // The header.
 pub fn header_length(variables: u64, clauses: u64) -> usize
@@ -48,58 +49,26 @@ fn put_numbers(out: &mut [u8], at: usize, a: u64, b: u64) -> usize
     end + 1
 }
 
-// A clause of the store.
-pub fn stored_length(clause: &[u16]) -> usize
+// A clause, of stored or of made codes.
+pub fn clause_length<C: Coded>(clause: &[C]) -> usize
     requires { length clause.now ≤ max_literals }
-    ensures { result ≡ length (clause_line clause.now) }
+    ensures { result ≡ length (clause_line (map C.code clause.now)) }
 {
     let mut length = 2;
-    let mut i = 0;
-    while i < clause.len() {
-        length += literal_length(literal::wide(clause[i])) + 1;
-        i += 1;
+    for code in clause {
+        length += literal_length(code.wide()) + 1;
     }
     length
 }
 
-pub fn put_stored(out: &mut [u8], at: usize, clause: &[u16]) -> usize
-    requires { at + length (clause_line clause.now) ≤ length out.old }
-    ensures next { result ≡ at + length (clause_line clause.now) }
-    ensures bytes { out.new ≡ written_at at (clause_line clause.now) out.old }
+pub fn put_clause<C: Coded>(out: &mut [u8], at: usize, clause: &[C]) -> usize
+    requires { at + length (clause_line (map C.code clause.now)) ≤ length out.old }
+    ensures next { result ≡ at + length (clause_line (map C.code clause.now)) }
+    ensures bytes { out.new ≡ written_at at (clause_line (map C.code clause.now)) out.old }
 {
     let mut next = at;
-    let mut i = 0;
-    while i < clause.len() {
-        next = put_word(out, next, literal::wide(clause[i]));
-        i += 1;
-    }
-    put_end(out, next)
-}
-
-// A clause of any codes, as the made formula adds them.
-pub fn clause_length(clause: &[u32]) -> usize
-    requires { length clause.now ≤ max_literals }
-    ensures { result ≡ length (clause_line clause.now) }
-{
-    let mut length = 2;
-    let mut i = 0;
-    while i < clause.len() {
-        length += literal_length(clause[i]) + 1;
-        i += 1;
-    }
-    length
-}
-
-pub fn put_clause(out: &mut [u8], at: usize, clause: &[u32]) -> usize
-    requires { at + length (clause_line clause.now) ≤ length out.old }
-    ensures next { result ≡ at + length (clause_line clause.now) }
-    ensures bytes { out.new ≡ written_at at (clause_line clause.now) out.old }
-{
-    let mut next = at;
-    let mut i = 0;
-    while i < clause.len() {
-        next = put_word(out, next, clause[i]);
-        i += 1;
+    for code in clause {
+        next = put_word(out, next, code.wide());
     }
     put_end(out, next)
 }
@@ -110,12 +79,9 @@ fn put_bytes(out: &mut [u8], at: usize, bytes: &[u8]) -> usize
     ensures next { result ≡ at + length bytes.now }
     ensures bytes { out.new ≡ written_at at bytes.now out.old }
 {
-    let mut i = 0;
-    while i < bytes.len() {
-        out[at + i] = bytes[i];
-        i += 1;
-    }
-    at + i
+    let end = at + bytes.len();
+    out[at..end].copy_from_slice(bytes);
+    end
 }
 
 // The end of a clause's line, which is the empty clause's line.
@@ -177,7 +143,7 @@ fn long_count(x: u64) -> usize
     let mut n = 1;
     let mut rest = x;
     while 10 <= rest {
-        rest = rest / 10;
+        rest /= 10;
         n += 1;
     }
     n
@@ -203,17 +169,10 @@ fn digits_below(v: usize) -> usize
     requires { v ≤ 100000 }
     ensures { result ≡ digits_below v }
 {
-    v + past(v, 10) + past(v, 100) + past(v, 1000) + past(v, 10000)
-}
-
-// How far v is past a limit, 0 where it does not reach it.
-fn past(v: usize, limit: usize) -> usize
-    ensures { result ≡ v - limit }
-{
-    if v < limit {
-        return 0;
-    }
-    v - limit
+    v + v.saturating_sub(10)
+        + v.saturating_sub(100)
+        + v.saturating_sub(1000)
+        + v.saturating_sub(10000)
 }
 
 fn put_number(out: &mut [u8], at: usize, x: u64) -> usize
@@ -225,10 +184,9 @@ fn put_number(out: &mut [u8], at: usize, x: u64) -> usize
     let mut k = end;
     let mut y = x;
     while 10 <= y {
-        let rest = y / 10;
         k -= 1;
-        out[k] = (y - rest * 10) as u8 + b'0';
-        y = rest;
+        out[k] = (y % 10) as u8 + b'0';
+        y /= 10;
     }
     out[at] = y as u8 + b'0';
     end

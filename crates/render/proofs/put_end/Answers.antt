@@ -1,12 +1,8 @@
 -- `render::put_end` meets its contract: two stores are the empty clause's line. Assumes nothing.
-use mathlib.Core.Path.{sym}
-use mathlib.Core.List.{[]}
-use lib.ListN.{length-set}
-use native.Mathlib.Numerals.{towards_suc}
+use Rattle.std.proofs.Common.{[], arith, rules}
+use Rattle.std.proofs.lemmas.Grind.{common_steps}
 use Rattle.render.specs.Text.{clause_line}
 use Rattle.render.proofs.Writing.{stores}
-use borrow.Author.Rules.{rules}
-use native.Mathlib.Omega.{arith}
 use Rattle.render.proofs.put_end.Goals as goal
 
 pub bounds-out-at : goal.bounds-out-at
@@ -15,11 +11,11 @@ bounds-out-at c = search rules
 
 pub bounds-out-feed : goal.bounds-out-feed
 unfolding clause_line
-bounds-out-feed c = simp length-set (omega arith)
+bounds-out-feed c = search rules
 
 pub returns : goal.returns
 unfolding clause_line
 returns c = record {
-  next = omega arith;
-  bytes = simp towards_suc (sym (stores c.args.at (clause_line []) c.args.out.now c.requires));
+  next = search rules;
+  bytes = grind (arith, common_steps, stores c.args.at (clause_line []) c.args.out.now c.requires);
 }

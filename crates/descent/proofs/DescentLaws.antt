@@ -1,12 +1,14 @@
 -- The rows of a store, one after the other, and a descent by them, turn by turn: what is left of it is the descent from the assignment reached.
 -- Assumes nothing.
-use mathlib.Core.Path.{◌≡◌, refl, ◌∙◌}
+use mathlib.Core.Path.{◌≡◌, refl, sym, ◌∙◌}
 use mathlib.Core.Bool.{Bool, true, false}
 use mathlib.Core.List.{List}
 use Prim.Native.Nat.{ℕ, zero, suc, ◌+◌, ◌-◌, ◌≤◌, ◌<◌}
 use native.Mathlib.Omega.{arith}
-use Rattle.store.specs.Stores.{rows_of, rows_from, row_at}
-use Rattle.store.proofs.RowLaws.{from_first, from-here, from_end}
+use lib.ListN.{length}
+use Rattle.store.specs.Stores.{rows_of, rows_from, row_at, FormedRows}
+use Rattle.store.proofs.RowLaws.{from-here, from_end}
+use Rattle.store.proofs.RowParts.{part-size}
 use Rattle.lexleader.specs.Rows.{moved, lowers}
 use Rattle.lexleader.specs.Descent.{rest, to, step_by, settled, spent, descend_from, descend}
 use Rattle.valuation.specs.Tables.{bits_in, Table}
@@ -15,13 +17,12 @@ use Rattle.descent.specs.Words.{answer_of, reached_by, outcome_of}
 
 -- ---- the search for a row
 
-pub step-all : (n rows : ℕ) (images : List ℕ) (bits : List Bool) → step_by (rows_of n rows images) bits ≡ step_by (rows_from n rows images 0) bits
-step-all n rows images bits = rw (from_first n rows images)
-
 module _ (n rows : ℕ) (images : List ℕ) (bits : List Bool) (r : ℕ) where
-  pub step-here : r < rows → lowers (row_at n r images) bits ≡ true → step_by (rows_from n rows images r) bits ≡ to (moved (row_at n r images) bits)
+  -- row r is the first that lowers
+  pub step-found : r < rows → step_by (rows_of n rows images) bits ≡ step_by (rows_from n rows images r) bits → lowers (row_at n r images) bits ≡ true
+      → (r < rows) × (step_by (rows_of n rows images) bits ≡ to (moved (row_at n r images) bits))
   unfolding step_by
-  step-here h e = rw (from-here n rows images r h, e)
+  step-found h on e = (h, on ∙ rw (from-here n rows images r h, e))
 
   pub step-on : r < rows → lowers (row_at n r images) bits ≡ false → step_by (rows_from n rows images r) bits ≡ step_by (rows_from n rows images (r + 1)) bits
   unfolding step_by
@@ -30,6 +31,11 @@ module _ (n rows : ℕ) (images : List ℕ) (bits : List Bool) (r : ℕ) where
   pub step_end : rows ≤ r → step_by (rows_from n rows images r) bits ≡ rest
   unfolding step_by
   step_end h = rw (from_end n rows images r h)
+
+-- what is said of the part of the slice that is row r is said of the row
+pub row-says : {n rows r : ℕ} {images part : List ℕ} (values : List Bool) {b : Bool} → FormedRows n rows images → r < rows → part ≡ row_at n r images
+    → b ≡ lowers part (bits_in (length part) values) → lowers (row_at n r images) (bits_in n values) ≡ b
+row-says values f h is e = sym (rw (part-size f _ h _ is, is) at e)
 
 -- ---- a turn of the descent
 
@@ -59,11 +65,6 @@ DescentEnds n limit rows start answer values =
     (outcome_of answer ≡ answer_of (descend limit rows start)) × (Table n values × (bits_in n values ≡ reached_by (descend limit rows start)))
 
 module _ (n limit : ℕ) (rows : List (List ℕ)) where
-  pub reached-none : (values : List Bool) → Table n values → Reached n limit rows (bits_in n values) values 0
-  reached-none values table =
-      let all : limit - 0 ≡ limit = omega arith in
-      record { most = omega arith; table = table; same = rw all refl }
-
   module _ (start values : List Bool) (moves : ℕ) (r : Reached n limit rows start values moves) where
     pub ends-settled : step_by rows (bits_in n values) ≡ rest → DescentEnds n limit rows start (Descended.Settled moves) values
     ends-settled e =

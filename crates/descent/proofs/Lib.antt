@@ -1,4 +1,3 @@
 pub mod MoveLaws
-pub mod NotedLaws
 pub mod DescentLaws
 pub mod Examples

@@ -1,12 +1,13 @@
 -- One row and the table of an assignment: the table moved into a second one, variable by variable of a span, and this part copied back. Assumes nothing.
 use mathlib.Core.Path.{◌≡◌, refl, sym, ap, ◌∙◌}
 use mathlib.Core.Bool.{Bool, true, false, not, cond}
-use mathlib.Core.List.{List}
+use mathlib.Core.List.{List, ◌++◌}
 use mathlib.Core.Logic.{⊎_elim}
 use Prim.Native.Nat.{ℕ, ◌+◌, ◌-◌, ◌*◌, ◌/◌, ◌≤◌, ◌<◌}
 use native.Mathlib.Omega.{arith}
-use lib.ListN.{length, get_or, set, length-set}
-use lib.Seq.{ext_get_or, get_or-set_same, get_or-set_other}
+use borrow.Rule.Slice.PartMut.{put_mid}
+use lib.ListN.{length, get_or, set, take, drop, length-set, length-drop, take-append-drop}
+use lib.Seq.{ext_get_or, get_or-set_other, get_or-take, get_or-drop, length-take-le, drop-drop}
 use Rattle.lists.proofs.Cases.{lt-or-le}
 use Rattle.lists.proofs.Members.{map_at}
 use Rattle.packed.specs.Order.{value_of}
@@ -29,6 +30,10 @@ pub record MovedTo (row : List ℕ) (first : ℕ) (values next : List Bool) (i :
   pub begun : TableBegun (moved row (bits_in (length row) values)) next (i + 1)
   pub low : (code : ℕ) → code / 2 ≤ first → get_or next code false ≡ get_or values code false
   pub high : (code : ℕ) → i < code / 2 → get_or next code false ≡ get_or values code false
+
+-- an image is a literal of the row's variables
+pub image_within : (row : List ℕ) (i : ℕ) → is_row (length row) row ≡ true → i < length row → get_or row i 0 < 2 * length row + 2
+image_within row i good h = omega (arith, (row_of (length row) row good).high i h)
 
 -- a row and a table of as many variables
 module _ (row : List ℕ) (values : List Bool) (good : is_row (length row) row ≡ true) (table : Table (length row) values) where
@@ -116,20 +121,20 @@ module _ (row : List ℕ) (values : List Bool) (good : is_row (length row) row �
 
 -- ---- a part of a table written over that of another
 
-module _ {to : ℕ} {next values : List Bool} (k : ℕ) (same : SameBut k to next values) where
-  pub same_more : k < to → SameBut (k + 1) to next (set values k (get_or next k false))
-  same_more h = record {
-    size = length-set values k (get_or next k false) ∙ same.size;
-    within = same.within;
-    order = omega arith;
-    below = λ j l.
-        ⊎_elim (λ (b : j < k). get_or-set_other values k j (get_or next k false) false (λ e. omega arith) ∙ same.below j b)
-        (λ (b : k ≤ j).
-        let here : j ≡ k = omega arith in
-        rw here (get_or-set_same values k (get_or next k false) false (omega (arith, same.size, same.within))))
-        (lt-or-le j k);
-    above = λ j l. get_or-set_other values k j (get_or next k false) false (λ e. omega arith) ∙ same.above j l;
-  }
+module _ {from to : ℕ} {next values : List Bool} (s : SameBut from to next values) where
+  front : take from values ≡ take from next
+  front =
+      let size = length-take-le from values (omega (arith, s.size, s.within, s.order)) in
+      ext_get_or false (take from values) (take from next) (size ∙ sym (length-take-le from next (omega (arith, s.within, s.order))))
+      (λ j l. let h : j < from = omega (arith, size) in rw (get_or-take from values j false h, get_or-take from next j false h) (s.below j h))
 
-  pub same-all : to ≤ k → values ≡ next
-  same-all h = ext_get_or false values next same.size (λ j l. ⊎_elim (λ (b : j < k). same.below j b) (λ (b : k ≤ j). same.above j (omega arith)) (lt-or-le j k))
+  behind : drop to values ≡ drop to next
+  behind =
+      ext_get_or false (drop to values) (drop to next) (length-drop to values ∙ ap (λ (k : ℕ). k - to) s.size ∙ sym (length-drop to next))
+      (λ j l. rw (get_or-drop to values j false, get_or-drop to next j false) (s.above (to + j) (omega arith)))
+
+  pub copied : {part : List Bool} → part ≡ take (to - from) (drop from next) → put_mid from (to - from) values part ≡ next
+  copied e =
+      let end : from + (to - from) ≡ to = omega (arith, s.order) in
+      let rest = drop-drop (to - from) from values ∙ rw end (behind ∙ sym (rw end at (drop-drop (to - from) from next))) in
+      rw (e, front, rest) (ap (λ (l : List Bool). take from next ++ l) (take-append-drop (to - from) (drop from next)) ∙ take-append-drop from next)

@@ -15,16 +15,16 @@
 
 mod spans;
 
-ghost use Rattle.std.specs.Prelude.{◌≡◌, true, ◌<◌, ◌≤◌, length};
+ghost use Rattle.std.specs.Prelude.{◌≡◌, true, ◌<◌, ◌≤◌, length, MatchOption};
 ghost use Rattle.packed.specs.Words.{bits_of, word_count, words_of, is_assignment};
 ghost use Rattle.store.specs.Stores.{max_variables, is_row, rows_of, row_at, FormedRows};
-ghost use Rattle.lexleader.specs.Rows.{moved};
+ghost use Rattle.lexleader.specs.Rows.{moved, lowers};
 ghost use Rattle.lexleader.specs.Descent.{rest, to, step_by, descend};
 ghost use Rattle.valuation.specs.Tables.{bits_in, Table};
 ghost use Rattle.trial.specs.Spans.{Covers};
 ghost use Rattle.descent.specs.Words.{answer_of, reached_by, outcome_of, descended};
 ghost use Rattle.descent.specs.Noted.{Noted};
-ghost use Rattle.descent.specs.Moving.{SameBut, MovedSpan};
+ghost use Rattle.descent.specs.Moving.{MovedSpan};
 
 use store::record::Record;
 use trial::Span;
@@ -46,9 +46,10 @@ pub fn descend(images: &[u16], rows: usize, n: usize, a: &mut [u64], limit: u64)
     let mut values = [false; valuation::TABLE];
     valuation::tabulate(a, n, &mut values);
     let mut next = values;
-    let mut spans = [0u16; 2 * Record::MAX_ROWS];
-    spans::note(images, rows, n, &mut spans);
-    let ended = settle(images, rows, n, &spans, &mut next, &mut values, limit);
+    let mut buffer = [Span { first: 0, end: 0 }; Record::MAX_ROWS];
+    let spans = &mut buffer[..rows];
+    spans::note(images, n, spans);
+    let ended = settle(images, rows, n, spans, &mut next, &mut values, limit);
     write_back(&values, n, a);
     ended
 }
@@ -58,7 +59,7 @@ fn settle(
     images: &[u16],
     rows: usize,
     n: usize,
-    spans: &[u16],
+    spans: &[Span],
     next: &mut [bool],
     values: &mut [bool],
     limit: u64,
@@ -73,46 +74,43 @@ fn settle(
     ensures same { next.new ≡ values.new }
 {
     let mut moves: u64 = 0;
-    loop {
-        let r = first_lowering(images, rows, n, spans, values);
-        if r == rows {
-            return Descended::Settled(moves);
-        }
+    while let Some(r) = first_lowering(images, rows, n, spans, values) {
         if moves == limit {
             return Descended::Spent(moves);
         }
-        move_by(
-            store::rows::row(images, n, r),
-            spans::noted(spans, r),
-            next,
-            values,
-        );
+        move_by(store::rows::row(images, n, r), spans[r], next, values);
         moves += 1;
     }
+    Descended::Settled(moves)
 }
 
-// The first row, from 0, that makes the assignment of a table smaller; the count of rows where none does.
-fn first_lowering(images: &[u16], rows: usize, n: usize, spans: &[u16], values: &[bool]) -> usize
+// The first row, from 0, that makes the assignment of a table smaller.
+fn first_lowering(
+    images: &[u16],
+    rows: usize,
+    n: usize,
+    spans: &[Span],
+    values: &[bool],
+) -> Option<usize>
     requires { FormedRows n rows images.now × Noted n rows images.now spans.now × Table n values.now }
-    ensures within { result ≤ rows }
-    ensures none { let held = rows_of n rows images.now in
-        (result ≡ rows → step_by held (bits_in n values.now) ≡ rest) }
-    ensures some { let held = rows_of n rows images.now in let bits = bits_in n values.now in
-        (result < rows → step_by held bits ≡ to (moved (row_at n result images.now) bits)) }
+    ensures { let held = rows_of n rows images.now in let bits = bits_in n values.now in
+        MatchOption result (step_by held bits ≡ rest) (λ r. (r < rows) × (step_by held bits ≡ to (moved (row_at n r images.now) bits))) }
 {
-    let mut r = 0;
-    while r < rows {
-        let tried = trial::try_row(
-            store::rows::row(images, n, r),
-            spans::noted(spans, r),
-            values,
-        );
-        if tried.lowers {
-            return r;
+    for r in 0..rows {
+        if makes_smaller(store::rows::row(images, n, r), spans[r], values) {
+            return Some(r);
         }
-        r += 1;
     }
-    r
+    None
+}
+
+// Whether a row, of which no variable outside of a span is moved, makes the assignment of a table smaller.
+fn makes_smaller(row: &[u16], span: Span, values: &[bool]) -> bool
+    requires { let n = length row.now in
+        (is_row n row.now ≡ true) × Covers row.now span.first span.end × Table n values.now }
+    ensures { result ≡ lowers row.now (bits_in (length row.now) values.now) }
+{
+    trial::try_row(row, span, values).is_some_and(|found| found.lowers)
 }
 
 // Moves the assignment of two tables that are the same by a row, of which no variable outside of a span is moved.
@@ -124,39 +122,25 @@ fn move_by(row: &[u16], span: Span, next: &mut [bool], values: &mut [bool])
         bits_in n values.new ≡ moved row.now (bits_in n values.old) }
     ensures same { next.new ≡ values.new }
 {
-    let from = 2 * (span.first + 1);
-    let to = 2 * (span.end + 1);
+    let from = 2 * (span.first as usize + 1);
+    let to = 2 * (span.end as usize + 1);
     move_span(row, span, values, next);
-    copy(next, from, to, values);
+    values[from..to].copy_from_slice(&next[from..to]);
 }
 
 // Writes into the second table what the variables of a span have once they are moved: the values of their images.
+#[tactic(auto, using(crate::proofs::MoveLaws::image_within))]
 fn move_span(row: &[u16], span: Span, values: &[bool], next: &mut [bool])
     requires { let n = length row.now in
         (is_row n row.now ≡ true) × Covers row.now span.first span.end × Table n values.now × (next.old ≡ values.now) }
     ensures { MovedSpan row.now span.first span.end values.now next.new }
 {
-    let end = span.end;
-    let mut i = span.first;
-    while i < end {
+    for i in span.first as usize..span.end as usize {
         let own = 2 * (i + 1);
         let image = row[i] as usize;
         let value = values[image];
         next[own] = value;
         next[own + 1] = !value;
-        i += 1;
-    }
-}
-
-// Writes a part of a table over that of another that is the same but for this part.
-fn copy(next: &[bool], from: usize, to: usize, values: &mut [bool])
-    requires { SameBut from to next.now values.old }
-    ensures { values.new ≡ next.now }
-{
-    let mut k = from;
-    while k < to {
-        values[k] = next[k];
-        k += 1;
     }
 }
 

@@ -1,6 +1,6 @@
 -- The settings of a row's auxiliaries as two runs, how far its variables agree with their images, and what the settings of all rows come to.
 -- Assumes nothing.
-use mathlib.Core.Path.{◌≡◌, refl, ◌∙◌}
+use mathlib.Core.Path.{◌≡◌, refl, sym, ◌∙◌}
 use mathlib.Core.Bool.{Bool, true, false, cond, beq}
 use mathlib.Core.List.{List, [], ◌∷◌, ◌++◌}
 use Prim.Native.Nat.{ℕ, suc, ◌+◌, ◌-◌, ◌*◌, ◌/◌, ◌≤◌, ◌<◌}
@@ -11,15 +11,23 @@ use Rattle.packed.specs.Order.{value_of}
 use Rattle.packed.specs.Writing.{WriterHolds, Appends}
 use Rattle.packed.specs.declared.writer.Writer.{Writer}
 use Rattle.packed.proofs.Bits.{length-bits}
-use Rattle.store.specs.Stores.{rows_of, rows_from, row_at, FormedRows}
+use Rattle.packed.proofs.Runs.{WriterRun, run-start, run_more}
+use Rattle.store.specs.Stores.{is_row, rows_of, rows_from, row_at, FormedRows}
+use Rattle.store.proofs.Formed.{row_of}
 use Rattle.store.proofs.RowLaws.{from-here, from_end}
 use Rattle.cycles.specs.Cycles.{left_out}
 use Rattle.lexleader.specs.Models.{literal_value}
-use Rattle.lexleader.specs.Rows.{Pair, pairs_but, pairs_of}
+use Rattle.lexleader.specs.Rows.{Pair, pairs_but, pairs_of, moved_pairs}
 use Rattle.lexleader.specs.Deciding.{decides, deciding}
 use Rattle.lexleader.specs.Made.{agrees, settings_after, row_settings, settings, auxiliaries, all_auxiliaries, filled_in, made_variables}
 use Rattle.lexleader.proofs.Settings.{length-settings}
+use Rattle.lexleader.proofs.Pairs.{deciding-same}
+use Rattle.lexleader.proofs.Moved.{deciding-moved}
+use Rattle.lexleader.proofs.Remaining.{deciding-pairs}
 use Rattle.lexleader.proofs.Bounds.{all-auxiliaries-most}
+use Rattle.valuation.specs.Tables.{by_code, bits_in, Table}
+use Rattle.valuation.proofs.TableLaws.{length-in}
+use Rattle.trial.proofs.OnTable.{table_same, table-answers}
 use Rattle.filling.specs.Written.{agreeing}
 
 -- ---- the auxiliaries of a row: a run of true, then one of false
@@ -66,6 +74,11 @@ module _ (row : List ℕ) (bits : List Bool) (all agreed : ℕ) (count : all ≡
   pub settings-apart : agreed < all → row_settings row bits ≡ replicate agreed true ++ replicate (all - agreed) false
   unfolding row_settings auxiliaries
   settings-apart h = rw count ((after-true (value_of bits) (pairs_of row) agreed is).1 (omega (arith, count)))
+
+  -- after the run of true, the run of false is left
+  pub halfway : {w v : Writer} {out after : List ℕ} → agreed < all → Appends w (replicate agreed true) out v after
+      → WriterRun w out (row_settings row bits) (replicate (all - agreed) false) v after
+  halfway {w} {out = out} h begun = run_more (rw (settings-apart h) (run-start w out _)) begun
 
 -- ---- how far a row's x agree with their images: up to the one that decides
 
@@ -118,6 +131,21 @@ module _ (v : ℕ → Bool) (row : List ℕ) (d : ℕ) (decided : deciding (lite
   unfolding pairs_of
   agreeing-to h = (agreeing-before v (left_out row) 1 row d h decided).1
 
+-- What a trial tells of a table is the variable that decides for its assignment, the first at which it and what the row makes of it differ: so it is the one
+-- that decides among the x.
+module _ (row : List ℕ) (values : List Bool) {d : ℕ} (good : is_row (length row) row ≡ true) (table : Table (length row) values)
+    (told : d ≡ deciding (by_code values) (moved_pairs row)) where
+  pub told-decides : deciding (literal_value (value_of (bits_in (length row) values))) (pairs_of row) ≡ d
+  told-decides =
+      let bits = bits_in (length row) values in
+      let size = length-in (length row) values in
+      deciding-pairs (length row) row (row_of (length row) row good) bits size
+      ∙ sym (deciding-moved row bits size)
+      ∙ sym (told ∙ deciding-same _ _ _ (table_same _ _ _ good table))
+
+  pub told-within : d ≤ length row
+  told-within = omega (arith, told, (table-answers _ _ _ good table).within)
+
 -- ---- the auxiliaries of all rows
 
 module _ (n rows : ℕ) (images : List ℕ) (a : List Bool) (r : ℕ) where
@@ -142,10 +170,11 @@ module _ (n : ℕ) (rows : List (List ℕ)) (words : List ℕ) where
         length-settings rows (bits_of n words),
       )
 
-  pub filled-holds : {w v : Writer} {out between after : List ℕ} → WriterHolds (bits_of n words) w out between
-      → Appends w (settings rows (bits_of n words)) between v after → WriterHolds (filled_in rows (bits_of n words)) v out after
+  pub filled-holds : (values : List Bool) {w v : Writer} {out between after : List ℕ} → bits_in n values ≡ bits_of n words
+      → WriterHolds (bits_in n values) w out between → Appends w (settings rows (bits_in n values)) between v after
+      → WriterHolds (filled_in rows (bits_of n words)) v out after
   unfolding filled_in
-  filled-holds {out = out} h f = f (bits_of n words) out h
+  filled-holds values {out = out} bits h f = (rw bits at f) (bits_of n words) out (rw bits at h)
 
 -- there is room for the assignment itself, and then for the auxiliaries
 module _ {n rows : ℕ} {images : List ℕ} (f : FormedRows n rows images) (k : ℕ) (room : word_count (made_variables n (rows_of n rows images)) ≤ k) where

@@ -62,10 +62,8 @@ fn fill_rows(
         Appends w (settings held (bits_in n values.now)) out.old result out.new }
 {
     let mut taken = w;
-    let mut r = 0;
-    while r < rows {
+    for r in 0..rows {
         taken = fill_row(store::rows::row(images, n, r), values, marks, out, taken);
-        r += 1;
     }
     taken
 }
@@ -97,11 +95,10 @@ fn agreeing(row: &[u16], values: &[bool], marks: &[bool]) -> usize
 {
     let span = Span {
         first: 0,
-        end: row.len(),
+        end: row.len() as u16,
     };
-    let tried = trial::try_row(row, span, values);
-    if tried.variable == 0 {
-        return lexleader::counting::pair_count(marks);
+    match trial::try_row(row, span, values) {
+        Some(tried) => lexleader::counting::pair_count(&marks[..tried.variable - 1]),
+        None => lexleader::counting::pair_count(marks),
     }
-    lexleader::counting::pair_count(&marks[..tried.variable - 1])
 }

@@ -1,4 +1,5 @@
 -- A walk along a row's moved variables: what one step finds, which pairs there are, and where nothing is moved. Assumes nothing.
+use Rattle.std.specs.Prelude.{Option, Some, None, MatchOption, unwrap_or}
 use mathlib.Core.Path.{◌≡◌, refl, sym, ap, ◌∙◌}
 use mathlib.Core.Bool.{Bool, true, false, not, ◌&&◌, ◌||◌, beq, or-true}
 use mathlib.Core.List.{List, [], ◌∷◌, Memᴰ}
@@ -15,7 +16,7 @@ use Rattle.lexleader.proofs.Walk.{walk_end, later-pairs}
 use Rattle.lexleader.proofs.Moved.{moved-start, moved-past, moved_here}
 use Rattle.lexleader.specs.Deciding.{decides, deciding, lowers_along}
 use Rattle.valuation.specs.Tables.{by_code}
-use Rattle.trial.specs.Spans.{moved_at, placed, SameFound, Decides, Covers, IsSpan}
+use Rattle.trial.specs.Spans.{moved_at, FirstMoved, placed, SameFound, Decides, Covers, IsSpan}
 
 -- ---- a step
 
@@ -114,19 +115,14 @@ pub record Trying (row : List ℕ) (values : List Bool) (i : ℕ) : Type 0 where
   pub places : placed values (moved_at i row) ≡ true
 
 module _ {row : List ℕ} {values : List Bool} {i : ℕ} (t : Trying row values i) where
-  -- what a trial answers
-  abbrev Answer : ℕ → Bool → Type 0
-  Answer variable lowers = (variable ≡ deciding (by_code values) (moved_pairs row)) × (lowers ≡ lowers_along (by_code values) (moved_pairs row))
-
   pub trying-on : {b : Bool} → Decides row values i b → b ≡ false → Trying row values (i + 1)
   trying-on d f = record { found = found-on (by_code values) t.found (d.rest f); places = d.rest-placed f }
 
-  pub trying-here : {b : Bool} → Decides row values i b → b ≡ true → (variable : ℕ) (lowers : Bool) → variable ≡ i + 1 → lowers ≡ by_code values (2 * (i + 1)) → Answer variable lowers
-  trying-here d e variable lowers v l = (v ∙ sym (t.found.variable ∙ d.variable e), l ∙ sym (t.found.yes ∙ d.yes e))
-
-  pub trying-none : moved_at i row ≡ [] → Answer 0 false
-  trying-none e =
-      let none = found-on (by_code values) t.found (found-start (by_code values) e) in
+  -- past the last moved variable
+  pub trying-none : {first end : ℕ} → Covers row first end → i ≡ end
+      → (0 ≡ deciding (by_code values) (moved_pairs row)) × (false ≡ lowers_along (by_code values) (moved_pairs row))
+  trying-none c e =
+      let none = found-on (by_code values) t.found (found-start (by_code values) (ap (λ (k : ℕ). moved_at k row) e ∙ c.none_after)) in
       (sym (none.variable ∙ (found_none (by_code values)).0), sym (none.yes ∙ (found_none (by_code values)).1))
 
 -- ---- the pairs of a row
@@ -141,6 +137,17 @@ module _ (row : List ℕ) where
       (eq-or-ne (get_or row i 0) (2 * (i + 1)))
 
 -- ---- spans
+
+-- a walk of the moved variables starts at the first, or at the row's end
+pub starts-at : {row : List ℕ} (r : Option ℕ) {first : ℕ} → MatchOption r (moved_pairs row ≡ []) (λ i. (i < length row) × FirstMoved row i)
+    → first ≡ unwrap_or r (length row) → FirstMoved row first
+starts-at {row} None none e = rw e (record {
+  within = omega arith;
+  onward = omega arith;
+  same = sym (moved-start row) ∙ none ∙ sym (walk_end (stays row) row (length row) (omega arith));
+  here = λ h. absurd (omega arith);
+})
+starts-at (Some i) is e = rw e is.1
 
 pub covers-all : (row : List ℕ) → Covers row 0 (length row)
 covers-all row = record { order = omega arith; within = omega arith; none_before = moved-start row; none_after = walk_end (stays row) row (length row) (omega arith) }

@@ -13,14 +13,15 @@
 // variable to the last, and a trial then walks that alone.
 #![tactic(auto)]
 
-ghost use Rattle.std.specs.Prelude.{◌≡◌, true, ◌+◌, ◌*◌, ◌≤◌, ◌<◌, length};
+ghost use Rattle.std.specs.Prelude.{◌≡◌, true, ◌+◌, ◌*◌, ◌≤◌, ◌<◌, length, [], MatchOption, IfSome};
 ghost use Rattle.store.specs.Stores.{max_variables};
 ghost use Rattle.lexleader.specs.Rows.{moved_pairs};
 ghost use Rattle.lexleader.specs.Deciding.{deciding, lowers_along};
 ghost use Rattle.valuation.specs.Tables.{by_code};
+ghost use Rattle.trial.specs.Found.{variable_of, lowers_of};
 ghost use Rattle.trial.specs.Spans.{moved_at, FirstMoved, placed, Decides, Covers, IsSpan};
 
-// Whether the row makes the assignment smaller, and the variable that decided, 0 where none does.
+// Whether the row makes the assignment smaller, and the variable that decided.
 #[derive(Clone, Copy)]
 pub struct Trial {
     pub lowers: bool,
@@ -30,38 +31,35 @@ pub struct Trial {
 // A part of a row, by indices: from `first` up to `end`, which is past its last.
 #[derive(Clone, Copy)]
 pub struct Span {
-    pub first: usize,
-    pub end: usize,
+    pub first: u16,
+    pub end: u16,
 }
 
-// Tries a row on the values of literals by code, where no variable outside of a span is moved. Two variables to a turn, which is a step
-// and a test of the end less for every other one.
-pub fn try_row(row: &[u16], span: Span, values: &[bool]) -> Trial
+// Tries a row on the values of literals by code, where no variable outside of a span is moved; nothing is found where no variable decides.
+pub fn try_row(row: &[u16], span: Span, values: &[bool]) -> Option<Trial>
     requires { Covers row.now span.first span.end × (placed values.now (moved_pairs row.now) ≡ true) }
-    ensures variable { result.variable ≡ deciding (by_code values.now) (moved_pairs row.now) }
-    ensures lowers { result.lowers ≡ lowers_along (by_code values.now) (moved_pairs row.now) }
+    ensures variable { variable_of result ≡ deciding (by_code values.now) (moved_pairs row.now) }
+    ensures lowers { lowers_of result ≡ lowers_along (by_code values.now) (moved_pairs row.now) }
+    ensures decided { IfSome result (λ t. 1 ≤ t.variable) }
 {
-    let first = span.first;
-    let end = span.end;
-    let mut i = first;
+    let end = span.end as usize;
+    let mut i = span.first as usize;
+    // Counted by hand, for speed: two variables to a turn is a step and a test of the end less for every other one.
     while i + 1 < end {
         if decides(row, i, values) {
-            return decided(i, values);
+            return Some(decided(i, values));
         }
         if decides(row, i + 1, values) {
-            return decided(i + 1, values);
+            return Some(decided(i + 1, values));
         }
         i += 2;
     }
     if i < end {
         if decides(row, i, values) {
-            return decided(i, values);
+            return Some(decided(i, values));
         }
     }
-    Trial {
-        lowers: false,
-        variable: 0,
-    }
+    None
 }
 
 // Whether the variable at an index decides: it is moved, and has another value than its image.
@@ -94,28 +92,30 @@ pub fn span_of(row: &[u16]) -> Span
     requires { length row.now ≤ max_variables }
     ensures { IsSpan row.now result.first result.end }
 {
-    let first = first_moved(row);
-    let mut end = row.len();
-    while first < end {
-        if row[end - 1] as usize != 2 * end {
-            return Span { first, end };
+    let first = first_moved(row).unwrap_or(row.len());
+    for i in (first..row.len()).rev() {
+        if row[i] as usize != 2 * (i + 1) {
+            return Span {
+                first: first as u16,
+                end: (i + 1) as u16,
+            };
         }
-        end -= 1;
     }
-    Span { first, end }
+    Span {
+        first: first as u16,
+        end: first as u16,
+    }
 }
 
-// The index of a row's first moved variable; the row's length where nothing is moved.
-fn first_moved(row: &[u16]) -> usize
+// The index of a row's first moved variable.
+fn first_moved(row: &[u16]) -> Option<usize>
     requires { length row.now ≤ max_variables }
-    ensures { FirstMoved row.now result }
+    ensures { MatchOption result (moved_pairs row.now ≡ []) (λ i. (i < length row.now) × FirstMoved row.now i) }
 {
-    let mut i = 0;
-    while i < row.len() {
-        if row[i] as usize != 2 * (i + 1) {
-            return i;
+    for (i, image) in row.iter().enumerate() {
+        if *image as usize != 2 * (i + 1) {
+            return Some(i);
         }
-        i += 1;
     }
-    i
+    None
 }

@@ -47,8 +47,9 @@ fn show(rt: &HostRuntime, row: &[u16], a: u64) -> io::Result<()>
     line(rt, a, trial::try_row(row, trial::span_of(row), &values))
 }
 
-fn line(rt: &HostRuntime, a: u64, found: Trial) -> io::Result<()> {
-    let lowers = found.lowers as u64;
-    let variable = found.variable;
-    println!(rt; "{a} {lowers} {variable}")
+fn line(rt: &HostRuntime, a: u64, found: Option<Trial>) -> io::Result<()> {
+    match found {
+        Some(Trial { lowers, variable }) => println!(rt; "{a} {} {variable}", lowers as u8),
+        None => println!(rt; "{a} 0 0"),
+    }
 }

@@ -1,7 +1,4 @@
 -- `filling::fill_rows` meets its contract. The invariant: the values left to take are those of row r and of the rows after it. Assumes nothing.
-use mathlib.Core.Path.{◌≡◌}
-use Prim.Native.Nat.{◌-◌, ◌≤◌}
-use lib.ListN.{length}
 use Rattle.packed.proofs.Runs.{WriterRun}
 use Rattle.store.specs.Stores.{rows_of, rows_from}
 use Rattle.lexleader.specs.Made.{settings}
@@ -11,7 +8,4 @@ use Rattle.filling.proofs.fill_rows.Given as goal
 abbrev pub invariant-loop-r : goal.invariant-loop-r
 invariant-loop-r l =
     let bits = bits_in l.n l.values in
-    (l.r ≤ l.rows) × (length l.marks ≡ l.n) × WriterRun l.initial.taken l.initial.out (settings (rows_of l.n l.rows l.images) bits) (settings (rows_from l.n l.rows l.images l.r) bits) l.taken l.out
-
-abbrev pub decreases-loop-r : goal.decreases-loop-r
-decreases-loop-r l = l.rows - l.r
+    WriterRun l.initial.taken l.initial.out (settings (rows_of l.n l.rows l.images) bits) (settings (rows_from l.n l.rows l.images l.r) bits) l.taken l.out

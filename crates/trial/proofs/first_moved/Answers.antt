@@ -1,26 +1,20 @@
 -- `trial::first_moved` meets its contract. The invariant: nothing before i is moved. Assumes nothing.
-use mathlib.Core.Path.{◌≡◌, refl, ◌∙◌}
+use mathlib.Core.Path.{◌≡◌, ◌∙◌}
 use Prim.Native.Nat.{◌+◌, ◌*◌}
 use native.Mathlib.Omega.{arith}
 use lib.ListN.{get_or}
-use Rattle.lexleader.proofs.Moved.{moved-past, moved_here}
+use Rattle.lexleader.proofs.Walk.{walk_end}
+use Rattle.lexleader.proofs.Moved.{moved-start, moved-past, moved_here}
 use Rattle.trial.proofs.first_moved.Goals as goal
 
-pub loop-i-init : goal.loop-i-init
-loop-i-init c = (omega arith, refl)
-
-pub overflow_cast-row : goal.overflow_cast-row
-overflow_cast-row c = omega (arith, c.shared_slice_known-1.given c.loop-i.i)
-
-pub returns-then-row-i : goal.returns-then-row-i
-returns-then-row-i c =
+pub returns-then-image-i : goal.returns-then-image-i
+returns-then-image-i c =
     let row = c.args.row.now in
-    let different : get_or row c.loop-i.i 0 ≡ 2 * (c.loop-i.i + 1) → ⊥ = λ e. omega (arith, c.if-row-i.true) in
-    record { within = omega arith; onward = omega arith; same = c.loop-i.invariant.1; here = λ h. moved_here row c.loop-i.i h different }
+    let different : get_or row c.loop-i.i 0 ≡ 2 * (c.loop-i.i + 1) → ⊥ = λ e. omega (arith, c.if-image-i.true) in
+    (omega arith, record { within = omega arith; onward = omega arith; same = c.loop-i.invariant; here = λ h. moved_here row c.loop-i.i h different })
 
 pub loop-i-preserved : goal.loop-i-preserved
-loop-i-preserved c =
-    (omega arith, c.loop-i.invariant.1 ∙ moved-past c.args.row.now c.loop-i.i (omega arith) (omega (arith, c.if-row-i.false)))
+loop-i-preserved c = c.loop-i.invariant ∙ moved-past c.args.row.now c.loop-i.i (omega arith) (omega (arith, c.if-image-i.false))
 
 pub returns : goal.returns
-returns c = record { within = omega arith; onward = omega arith; same = c.loop-i.invariant.1; here = λ h. absurd (omega arith) }
+returns c = let row = c.args.row.now in moved-start row ∙ c.loop-i.invariant ∙ walk_end _ row _ (omega arith)

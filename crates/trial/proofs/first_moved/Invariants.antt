@@ -1,12 +1,7 @@
 -- `trial::first_moved` meets its contract. The invariant: nothing before i is moved. Assumes nothing.
 use mathlib.Core.Path.{◌≡◌}
-use Prim.Native.Nat.{◌-◌, ◌≤◌}
-use lib.ListN.{length}
 use Rattle.trial.specs.Spans.{moved_at}
 use Rattle.trial.proofs.first_moved.Given as goal
 
 abbrev pub invariant-loop-i : goal.invariant-loop-i
-invariant-loop-i l = (l.i ≤ length l.row) × (moved_at 0 l.row ≡ moved_at l.i l.row)
-
-abbrev pub decreases-loop-i : goal.decreases-loop-i
-decreases-loop-i l = length l.row - l.i
+invariant-loop-i l = moved_at 0 l.row ≡ moved_at l.i l.row

@@ -6,8 +6,8 @@ use mathlib.Core.Logic.{◌⊎◌, inl, inr}
 use Prim.Native.Nat.{ℕ, ◌+◌, ◌-◌, ◌≤◌, ◌<◌}
 use native.Mathlib.Omega.{arith}
 use borrow.Author.Tests.{leb-true, le-leb, not-true}
-use lib.ListN.{length, get_or, set, replicate, length-replicate, get_or-replicate}
-use lib.Seq.{ext_get_or, get_or-set_same, get_or-set_other}
+use lib.ListN.{length, get_or, replicate, length-replicate, get_or-replicate}
+use lib.Seq.{ext_get_or}
 use lib.Dec.{leb}
 use Rattle.lists.specs.Tests.{has}
 use Rattle.lists.specs.Tables.{table}
@@ -54,18 +54,6 @@ pub record Scanned (row : List ℕ) (v : ℕ) (out : List Bool) : Type 0 where
   pub done : (x : ℕ) → v < x → x ≤ length row → get_or out (x - 1) false ≡ left_out row x
   pub fresh : (x : ℕ) → 1 ≤ x → x ≤ v → get_or out (x - 1) false ≡ true → (y : ℕ) → v < y → y ≤ length row → Reaches row y x → ⊥
   pub gone : (x : ℕ) → 1 ≤ x → x ≤ v → get_or out (x - 1) false ≡ false → (y : ℕ) × (v < y) × (y ≤ length row) × Reaches row y x
-
--- marking all of them
-pub marked_more : (out : List Bool) (i : ℕ) → i < length out → ((k : ℕ) → k < i → get_or out k false ≡ true) → (k : ℕ) → k < i + 1 → get_or (set out i true) k false ≡ true
-marked_more out i h f k l = go (eq-or-ne k i)
-  where
-    go : (k ≡ i) ⊎ (k ≡ i → ⊥) → get_or (set out i true) k false ≡ true
-    go (inl q) = rw q (get_or-set_same out i true false h)
-    go (inr q) = get_or-set_other out i k true false q ∙ f k (omega arith)
-
-pub all-marked : (out : List Bool) (n : ℕ) → length out ≡ n → ((k : ℕ) → k < length out → get_or out k false ≡ true) → out ≡ replicate n true
-all-marked out n size f =
-    ext_get_or false out (replicate n true) (size ∙ sym (length-replicate n true)) (λ k h. f k h ∙ sym (get_or-replicate n k true false (omega arith)))
 
 pub scanned-none : (row : List ℕ) (k : ℕ) → k ≡ length row → Scanned row (length row) (replicate k true)
 scanned-none row k size = record {

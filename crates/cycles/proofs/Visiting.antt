@@ -103,15 +103,6 @@ module _ (row : List ℕ) (z : ℕ) (signed : is_row (length row) row ≡ true) 
       parity : turns_odd row z ≡ odd
       parity = p.parity ∙ rw last (cond-id odd)
 
-  -- a variable that is not marked
-  pub visited-none : get_or before (z - 1) false ≡ false → Visited row z before before
-  visited-none h = record {
-    room = refl;
-    idle = λ q. refl;
-    own = λ q. never (sym h ∙ q);
-    others = λ q. never (sym h ∙ q);
-  }
-
   -- a variable that is its own image
   pub visited-unmoved : get_or row (z - 1) 0 ≡ 2 * z → Visited row z before before
   unfolding turns_odd cycle_of oddly turns sent_to any_of

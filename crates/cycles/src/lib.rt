@@ -18,21 +18,9 @@ pub fn leave_out(row: &[u16], marks: &mut [bool])
     requires { let n = length row.now in (n ≤ max_variables) × (is_row n row.now ≡ true) × (length marks.old ≡ n) }
     ensures { marks.new ≡ marks_of row.now }
 {
-    mark_all(marks);
-    let mut v = row.len();
-    while 0 < v {
+    marks.fill(true);
+    for v in (1..=row.len()).rev() {
         visit(row, v, marks);
-        v -= 1;
-    }
-}
-
-fn mark_all(marks: &mut [bool])
-    ensures { marks.new ≡ replicate (length marks.old) true }
-{
-    let mut i = 0;
-    while i < marks.len() {
-        marks[i] = true;
-        i += 1;
     }
 }
 

@@ -14,14 +14,14 @@ use lib.Pow.{pow_mono, shl-shr, shr_mono, shr_lt, shr-shr}
 use lib.Count.{count_leading_zeros, leading_top}
 use Rattle.lists.proofs.Cases.{lt-or-le}
 use Rattle.packed.specs.Words.{bit_in}
-use Rattle.packed.specs.Order.{all_bits, first_difference, less}
+use Rattle.packed.specs.Order.{all_bits, first_difference, less, FirstUnequal}
 use Rattle.packed.proofs.Bits.{same-digit, length-bits, all_bits-in}
 use Rattle.packed.proofs.OrderLaws.{Split, difference-at, less-at}
 
 -- ---- two words
 
 -- words whose exclusive or is 0 are the same
-pub xor-zero : (x y : ℕ) → bit_xor x y ≡ 0 → x ≡ y
+xor-zero : (x y : ℕ) → bit_xor x y ≡ 0 → x ≡ y
 xor-zero x y h = omega (arith, xor_add_and x y, and_le_l x y, and_le_r x y)
 
 -- words whose exclusive or is 1 differ in the lowest bit
@@ -85,39 +85,49 @@ apart-less x y z d =
     same : x / 2 ^ (63 - z) / 2 ≡ y / 2 ^ (63 - z) / 2
     same = half x ∙ d.over (64 - z) (omega arith) ∙ sym (half y)
 
--- ---- two lists of words of one length, the same below i and different there
+-- ---- two lists of words of one length, which first differ at i
 
-module _ (a b : List ℕ) (i : ℕ) (e : length a ≡ length b) (l : i < length a) (same : (k : ℕ) → k < i → get_or a k 0 ≡ get_or b k 0)
-    (ha : get_or a i 0 < 2 ^ 64) (hb : get_or b i 0 < 2 ^ 64) where
+module _ (a b : List ℕ) (i : ℕ) (e : length a ≡ length b) (f : FirstUnequal a b i) (ha : get_or a i 0 < 2 ^ 64) (hb : get_or b i 0 < 2 ^ 64) where
   lengths : length (all_bits a) ≡ length (all_bits b)
   lengths = length-bits (64 * length a) a ∙ ap (λ (n : ℕ). 64 * n) e ∙ sym (length-bits (64 * length b) b)
 
   split : (z : ℕ) → Apart (get_or a i 0) (get_or b i 0) z → Split (all_bits a) (all_bits b) (i * 64 + z)
   split z d = record {
-    within = omega (arith, length-bits (64 * length a) a, d.low);
+    within = omega (arith, f.within, length-bits (64 * length a) a, d.low);
     before = λ p h.
         let k : p / 64 * 64 + p % 64 ≡ p = omega arith in
-        let g : p / 64 < length a = omega (arith, d.low) in
+        let g : p / 64 < length a = omega (arith, f.within, d.low) in
         rw k at (all_bits-in a (p / 64) (p % 64) g (omega arith) ∙ word p h ∙ sym (all_bits-in b (p / 64) (p % 64) (omega arith) (omega arith)));
-    here = λ q. d.here (sym (all_bits-in a i z l d.low) ∙ q ∙ all_bits-in b i z (omega arith) d.low);
+    here = λ q. d.here (sym (all_bits-in a i z f.within d.low) ∙ q ∙ all_bits-in b i z (omega arith) d.low);
   }
     where
       word : (p : ℕ) → p < i * 64 + z → bit_in (get_or a (p / 64) 0) (p % 64) ≡ bit_in (get_or b (p / 64) 0) (p % 64)
       word p h =
-          ⊎_elim (λ (g : p / 64 < i). ap (λ (w : ℕ). bit_in w (p % 64)) (same (p / 64) g))
+          ⊎_elim (λ (g : p / 64 < i). ap (λ (w : ℕ). bit_in w (p % 64)) (f.before (p / 64) g))
           (λ (g : i ≤ p / 64).
           let k : p / 64 ≡ i = omega (arith, d.low) in
           rw k (apart-before (get_or a i 0) (get_or b i 0) z d (p % 64) (omega arith)))
           (lt-or-le (p / 64) i)
 
-  pub words-difference : (bit_xor (get_or a i 0) (get_or b i 0) ≡ 0 → ⊥)
-      → first_difference (all_bits a) (all_bits b) ≡ i * 64 + count_leading_zeros 64 (bit_xor (get_or a i 0) (get_or b i 0)) + 1
-  words-difference n = difference-at (all_bits a) (all_bits b) _ lengths (split _ (apart _ _ ha hb n))
+  unequal : bit_xor (get_or a i 0) (get_or b i 0) ≡ 0 → ⊥
+  unequal q = f.here (xor-zero _ _ q)
 
-  pub words-less : (get_or a i 0 ≡ get_or b i 0 → ⊥) → less (all_bits a) (all_bits b) ≡ ltb (get_or a i 0) (get_or b i 0)
-  words-less n =
+  pub words-difference : first_difference (all_bits a) (all_bits b)
+      ≡ i * 64 + count_leading_zeros 64 (bit_xor (get_or a i 0) (get_or b i 0)) + 1
+  words-difference = difference-at (all_bits a) (all_bits b) _ lengths (split _ (apart _ _ ha hb unequal))
+
+  pub words-less : less (all_bits a) (all_bits b) ≡ ltb (get_or a i 0) (get_or b i 0)
+  words-less =
       let z : ℕ = count_leading_zeros 64 (bit_xor (get_or a i 0) (get_or b i 0)) in
-      let d = apart (get_or a i 0) (get_or b i 0) ha hb (λ q. n (xor-zero _ _ q)) in
+      let d = apart (get_or a i 0) (get_or b i 0) ha hb unequal in
       less-at (all_bits a) (all_bits b) _ lengths (split z d)
-      ∙ ap₂ (λ (x y : Bool). not x && y) (all_bits-in a i z l d.low) (all_bits-in b i z (omega arith) d.low)
+      ∙ ap₂ (λ (x y : Bool). not x && y) (all_bits-in a i z f.within d.low) (all_bits-in b i z (omega arith) d.low)
       ∙ apart-less (get_or a i 0) (get_or b i 0) z d
+
+-- the same the other way round
+pub lesser-word : (a b : List ℕ) (i : ℕ) → length a ≡ length b → FirstUnequal a b i → get_or a i 0 < 2 ^ 64 → get_or b i 0 < 2 ^ 64
+    → less (all_bits b) (all_bits a) ≡ ltb (get_or b i 0) (get_or a i 0)
+lesser-word a b i e f ha hb =
+    words-less b a i (sym e)
+    (record { within = omega (arith, f.within); before = λ k h. sym (f.before k h); here = λ q. f.here (sym q) })
+    hb ha

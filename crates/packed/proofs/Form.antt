@@ -9,7 +9,7 @@ use borrow.Author.Tests.{eqb-true, eq-eqb, ne_eqb, not-true}
 use lib.ListN.{length, get_or, length-drop}
 use lib.Dec.{eqb}
 use lib.Bits.{bit_and, and_mask}
-use lib.Pow.{pow_pos, shl_exact}
+use lib.Pow.{shl_exact}
 use lib.Seq.{get_or-drop}
 use Rattle.lists.specs.Tests.{all_of}
 use Rattle.lists.proofs.Cases.{and_l, and_r, and_both, bool-ext}
@@ -62,11 +62,8 @@ of-form n ws f =
 
 -- ---- the tests of the code
 
-pub one_shl : (s : ℕ) → s < 64 → (1 * 2 ^ s) % 2 ^ 64 ≡ 2 ^ s
+one_shl : (s : ℕ) → s < 64 → (1 * 2 ^ s) % 2 ^ 64 ≡ 2 ^ s
 one_shl s h = shl_exact {a = 1} 1 s 64 (omega arith) (omega arith) ∙ one-mul (2 ^ s)
-
-pub mask_fits : (s : ℕ) → s < 64 → 1 ≤ (1 * 2 ^ s) % 2 ^ 64
-mask_fits s h = omega (arith, one_shl s h, pow_pos s)
 
 -- no word is begun
 pub form-whole : (n : ℕ) (ws : List ℕ) → n % 64 ≡ 0 → eqb (length ws) (n / 64) ≡ is_assignment n ws

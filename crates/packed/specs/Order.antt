@@ -1,6 +1,6 @@
 -- The order of assignments (document 01): "A < B when A has 0 and B has 1 at the variable at which two assignments first differ".
 -- Assumes nothing.
-use Rattle.std.specs.Prelude.{ℕ, ◌+◌, ◌-◌, ◌*◌, Bool, false, not, cond, ◌&&◌, ◌||◌, List, [], ◌∷◌, length, get_or, eqb}
+use Rattle.std.specs.Prelude.{◌≡◌, ◌<◌, ℕ, ◌+◌, ◌-◌, ◌*◌, Bool, false, not, cond, ◌&&◌, ◌||◌, List, [], ◌∷◌, length, get_or, eqb}
 use Rattle.std.specs.Bool.{beq}
 use Rattle.std.specs.Borrow.{Bor}
 use Rattle.packed.specs.Words.{bits_of}
@@ -35,3 +35,9 @@ part x = (x.ref_ptr, x.now)
 -- "the lesser of two lent assignments, a part of the caller's own: the first when equal, the empty beginning of the first when lengths differ"
 unfoldable pub lesser_of : (ℕ × ℕ) × List ℕ → (ℕ × ℕ) × List ℕ → (ℕ × ℕ) × List ℕ
 lesser_of a b = cond (eqb (length a.1) (length b.1)) (cond (less (all_bits b.1) (all_bits a.1)) b a) (a.0, [])
+
+-- the first place at which two lists of words of one length differ
+pub record FirstUnequal (a b : List ℕ) (i : ℕ) : Type 0 where
+  pub within : i < length a
+  pub before : (k : ℕ) → k < i → get_or a k 0 ≡ get_or b k 0
+  pub here : get_or a i 0 ≡ get_or b i 0 → ⊥

@@ -5,9 +5,9 @@
 
 pub mod writer;
 
-ghost use Rattle.std.specs.Prelude.{◌≡◌, false, ◌+◌, ◌-◌, ◌*◌, ◌≤◌, length};
+ghost use Rattle.std.specs.Prelude.{◌≡◌, false, ◌+◌, ◌-◌, ◌*◌, ◌≤◌, length, MatchOption};
 ghost use Rattle.packed.specs.Words.{max_words, bit_at, word_count, is_assignment};
-ghost use Rattle.packed.specs.Order.{all_bits, first_difference, part, lesser_of};
+ghost use Rattle.packed.specs.Order.{all_bits, first_difference, part, lesser_of, FirstUnequal};
 
 // The most words that a comparison takes: as many as hold the variables of the largest made formula.
 pub const MAX_WORDS: usize = 519;
@@ -28,7 +28,7 @@ pub fn word_count(n: usize) -> usize
     requires { n ≤ 64 * max_words }
     ensures { result ≡ word_count n }
 {
-    (n + 63) / 64
+    n.div_ceil(64)
 }
 
 // Whether words are an assignment of 1..n in the right form.
@@ -38,29 +38,21 @@ pub fn is_assignment(words: &[u64], n: usize) -> bool
     let k = n / 64;
     let r = n % 64;
     if r == 0 {
-        return words.len() == k;
+        words.len() == k
+    } else {
+        words.len() == k + 1 && words[k] & ((1u64 << (64 - r)) - 1) == 0
     }
-    if words.len() != k + 1 {
-        return false;
-    }
-    words[k] & ((1u64 << (64 - r)) - 1) == 0
 }
 
-// The variable at which two assignments of one length first differ, 0 where they are equal.
+// The variable at which two assignments of one length first differ; 0, document 01's answer, where they are equal.
 pub fn first_difference(a: &[u64], b: &[u64]) -> usize
     requires { (length a.now ≡ length b.now) × (length a.now ≤ max_words) }
     ensures { result ≡ first_difference (all_bits a.now) (all_bits b.now) }
 {
-    let mut i = 0;
-    while i < a.len() {
-        let x = a[i] ^ b[i];
-        if x != 0 {
-            let z = u64::leading_zeros(x) as usize;
-            return i * 64 + z + 1;
-        }
-        i += 1;
+    match first_unequal(a, b) {
+        Some(i) => i * 64 + (a[i] ^ b[i]).leading_zeros() as usize + 1,
+        None => 0,
     }
-    0
 }
 
 // The lesser of a and b, itself: the first when they are equal, the empty beginning of the first when their lengths differ.
@@ -70,15 +62,16 @@ pub fn lesser<'a>(a: &'a [u64], b: &'a [u64]) -> &'a [u64]
     if a.len() != b.len() {
         return &a[..0];
     }
-    let mut i = 0;
-    while i < a.len() {
-        if a[i] != b[i] {
-            if a[i] < b[i] {
-                return a;
-            }
-            return b;
-        }
-        i += 1;
+    match first_unequal(a, b) {
+        Some(i) if b[i] < a[i] => b,
+        _ => a,
     }
-    a
+}
+
+// The first place at which two lists of words of one length differ.
+fn first_unequal(a: &[u64], b: &[u64]) -> Option<usize>
+    requires { length a.now ≡ length b.now }
+    ensures { MatchOption result (a.now ≡ b.now) (λ i. FirstUnequal a.now b.now i) }
+{
+    a.iter().zip(b).position(|(x, y)| x != y)
 }

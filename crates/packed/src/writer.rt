@@ -47,18 +47,7 @@ fn at_once(taken: usize, left: usize) -> usize
     requires { 1 ≤ left }
     ensures { (1 ≤ result) × (result ≤ left) × (result ≤ 32) × (taken % 64 + result ≤ 64) }
 {
-    let room = 64 - taken % 64;
-    let most = min(left, room);
-    min(most, 32)
-}
-
-fn min(a: usize, b: usize) -> usize
-    ensures { (result ≤ a) × (result ≤ b) × ((k : ℕ) → k ≤ a → k ≤ b → k ≤ result) }
-{
-    if a < b {
-        return a;
-    }
-    b
+    left.min(64 - taken % 64).min(32)
 }
 
 // Takes k equal values that the begun word has room for; a word that is whole goes into the buffer.
@@ -71,15 +60,9 @@ pub fn push(out: &mut [u64], w: Writer, value: bool, k: usize) -> Writer
     if taken % 64 == 0 {
         let i = w.taken / 64;
         out[i] = word;
-        return Writer {
-            taken: taken,
-            word: 0,
-        };
+        return Writer { taken, word: 0 };
     }
-    Writer {
-        taken: taken,
-        word: word,
-    }
+    Writer { taken, word }
 }
 
 // The number of k equal binary digits.
@@ -87,10 +70,7 @@ fn digits(value: bool, k: usize) -> u64
     requires { k ≤ 32 }
     ensures { result ≡ cond value (2 ^ k - 1) 0 }
 {
-    if value {
-        return (1u64 << k) - 1;
-    }
-    0
+    if value { (1 << k) - 1 } else { 0 }
 }
 
 // Puts the begun word into the buffer, its spare bits 0, and answers how many words there are.

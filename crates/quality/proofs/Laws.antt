@@ -1,8 +1,8 @@
--- When three counts have an efficiency: one law for each way out of the test, and what it gives. Assumes nothing.
+-- What three counts are that have an efficiency. Assumes nothing.
 use mathlib.Core.Path.{◌≡◌, sym}
-use mathlib.Core.Bool.{true, false, not, ◌&&◌}
+use mathlib.Core.Bool.{true, not, ◌&&◌}
 use Prim.Native.Nat.{ℕ, ◌≤◌, ◌<◌}
-use borrow.Author.Tests.{lt-leb, le-leb, leb-true, eq-eqb, ne_eqb, eqb-false, not-true}
+use borrow.Author.Tests.{leb-true, eqb-false, not-true}
 use native.Mathlib.Omega.{arith}
 use lib.Arith.{lt_of_le-ne}
 use lib.Dec.{eqb, leb}
@@ -10,22 +10,6 @@ use Rattle.lists.proofs.Cases.{and_l, and_r}
 use Rattle.quality.specs.Efficiency.{max_labelled, has_efficiency}
 
 module _ (labelled unlabelled allowed : ℕ) where
-  pub few-allowed : allowed < unlabelled → has_efficiency labelled unlabelled allowed ≡ false
-  unfolding has_efficiency
-  few-allowed h = rw (lt-leb unlabelled allowed h)
-
-  pub many-allowed : unlabelled ≤ allowed → labelled < allowed → has_efficiency labelled unlabelled allowed ≡ false
-  unfolding has_efficiency
-  many-allowed h k = rw (le-leb unlabelled allowed h, lt-leb allowed labelled k)
-
-  pub nothing-broken : unlabelled ≤ allowed → allowed ≤ labelled → labelled ≡ unlabelled → has_efficiency labelled unlabelled allowed ≡ false
-  unfolding has_efficiency
-  nothing-broken h k e = rw (le-leb unlabelled allowed h, le-leb allowed labelled k, eq-eqb labelled unlabelled e)
-
-  pub limit-decides : unlabelled ≤ allowed → allowed ≤ labelled → (labelled ≡ unlabelled → ⊥) → has_efficiency labelled unlabelled allowed ≡ leb labelled max_labelled
-  unfolding has_efficiency
-  limit-decides h k n = rw (le-leb unlabelled allowed h, le-leb allowed labelled k, ne_eqb labelled unlabelled n)
-
   pub record Counts : Type 0 where
     pub at_least : unlabelled ≤ allowed
     pub at_most : allowed ≤ labelled

@@ -5,6 +5,8 @@ ghost use Rattle.std.specs.Prelude.{◌≡◌, true, ◌<◌, ◌≤◌};
 ghost use Rattle.quality.specs.Rounding.{nearest_of};
 ghost use Rattle.quality.specs.Efficiency.{max_labelled, has_efficiency, efficiency_of};
 
+use std::cmp::Ordering;
+
 // The most labelled solutions that the figure is given for.
 pub const MAX_LABELLED: u64 = 1000000000000;
 
@@ -12,16 +14,10 @@ pub const MAX_LABELLED: u64 = 1000000000000;
 pub fn has_efficiency(labelled: u64, unlabelled: u64, allowed: u64) -> bool
     ensures { result ≡ has_efficiency labelled unlabelled allowed }
 {
-    if allowed < unlabelled {
-        return false;
-    }
-    if labelled < allowed {
-        return false;
-    }
-    if labelled == unlabelled {
-        return false;
-    }
-    labelled <= MAX_LABELLED
+    unlabelled <= allowed
+        && allowed <= labelled
+        && labelled != unlabelled
+        && labelled <= MAX_LABELLED
 }
 
 // The efficiency to the nearest hundredth of a percent.
@@ -40,11 +36,9 @@ fn nearest(x: u64, y: u64) -> u64
 {
     let below = x / y;
     let twice = 2 * (x % y);
-    if twice < y {
-        return below;
+    match twice.cmp(&y) {
+        Ordering::Less => below,
+        Ordering::Equal => below + below % 2,
+        Ordering::Greater => below + 1,
     }
-    if twice == y {
-        return below + below % 2;
-    }
-    below + 1
 }

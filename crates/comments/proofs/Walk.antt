@@ -4,17 +4,18 @@ use mathlib.Core.Bool.{Bool, true, false, cond, ◌&&◌}
 use mathlib.Core.List.Memᴰ
 use mathlib.Core.List.{List, [], ◌∷◌, Memᴰ}
 use mathlib.Core.Logic.{⊎_elim}
-use Prim.Native.Nat.{ℕ, zero, suc, ◌+◌, ◌-◌, ◌≤◌, ◌<◌}
+use Prim.Native.Nat.{ℕ, ◌+◌, ◌-◌, ◌≤◌, ◌<◌}
 use native.Mathlib.Omega.{arith}
 use borrow.Author.Tests.{eq-eqb, ne_eqb, eqb-true, not-false}
 use lib.ListN.{length, get_or, get_or-eq_default}
 use lib.Dec.{eqb}
+use Rattle.std.proofs.lemmas.List.{get_or_default}
 use Rattle.lists.proofs.Cases.{never, and_l, and_r, lt-or-le, eq-or-ne}
 use Rattle.lists.proofs.Steps.{forward}
 use Rattle.dimacs.specs.Words.{is_blank, is_word_byte, run_end, Piece}
 use Rattle.dimacs.specs.Numbers.{word_at}
 use Rattle.dimacs.specs.Lines.{is_line_byte, lines_at}
-use Rattle.dimacs.proofs.Runs.{run_past, run-forward, run-within, there, opposite-true}
+use Rattle.dimacs.proofs.Runs.{run-stop, run_end_lem, run_step, run_past, run-forward, run-within, opposite-true}
 use Rattle.dimacs.proofs.WordLaws.{piece_at}
 use Rattle.comments.specs.Comments.{words_in, starts_comment, words_past, Between, first_place}
 use Rattle.comments.proofs.WordLaws.{past_end, line-comment, line_other, past-blank, past-feed, past_word}
@@ -38,7 +39,7 @@ unfolding is_blank
 between-other text at b c = ⊎_elim within beyond (lt-or-le at (length text))
   where
     within : at < length text → ⊥
-    within h = let is : get_or text at 32 ≡ 99 = there text at 32 0 h ∙ c in never (rw is at b.1)
+    within h = let is : get_or text at 32 ≡ 99 = get_or_default text at 32 0 h ∙ c in never (rw is at b.1)
 
     beyond : length text ≤ at → ⊥
     beyond h = omega (arith, sym (get_or-eq_default text 0 h) ∙ c)
@@ -50,7 +51,7 @@ module _ (test : ℕ → Bool) (stops : (b : ℕ) → test b ≡ false → is_bl
   run-between h = (run-within test text at h, ⊎_elim within beyond (lt-or-le (run_end test text at) (length text)))
     where
       within : run_end test text at < length text → is_blank (get_or text (run_end test text at) 32) ≡ true
-      within k = ap is_blank (there text (run_end test text at) 32 0 k) ∙ stops (get_or text (run_end test text at) 0) (run_past test text at k)
+      within k = ap is_blank (get_or_default text (run_end test text at) 32 0 k) ∙ stops (get_or text (run_end test text at) 0) (run_past test text at k)
 
       beyond : length text ≤ run_end test text at → is_blank (get_or text (run_end test text at) 32) ≡ true
       beyond k = rw (get_or-eq_default text 32 k)
@@ -67,11 +68,6 @@ word-between text at h = run-between is_word_byte word-stops text at h
 
 pub line-between : (text : List ℕ) (at : ℕ) → at ≤ length text → Between text (run_end is_line_byte text at)
 line-between text at h = run-between is_line_byte line-stops text at h
-
--- a word that the walk comes to has a byte before it
-pub inked : (text : List ℕ) (i : ℕ) → i < length text → is_blank (get_or text i 0) ≡ false → (i ≡ 0 → is_blank (get_or text 0 32) ≡ true) → 1 ≤ i
-inked text zero h e begun = never (sym e ∙ ap is_blank (there text 0 0 32 h) ∙ begun refl)
-inked text (suc i) h e begun = omega arith
 
 -- ---- what is left at a place of the walk: the lines from there on, where a line feed stands before it
 
@@ -113,7 +109,7 @@ module _ (text : List ℕ) where
         forward = run-forward is_line_byte text i h (rw c);
       }
 
-  pub left-blank : (i : ℕ) → i < length text → is_blank (get_or text i 0) ≡ true → left text i ≡ left text (i + 1)
+  left-blank : (i : ℕ) → i < length text → is_blank (get_or text i 0) ≡ true → left text i ≡ left text (i + 1)
   unfolding left
   left-blank i h e = left_other i (blank-other (get_or text i 0) e) ∙ ⊎_elim feed other (eq-or-ne (get_or text i 0) 10)
     where
@@ -126,6 +122,22 @@ module _ (text : List ℕ) where
       other : (get_or text i 0 ≡ 10 → ⊥) → words_past text i ≡ left text (i + 1)
       other f = past-blank text i h e f ∙ rw (back, ne_eqb (get_or text i 0) 10 f)
 
+  abbrev Blanks : ℕ → Type 0
+  Blanks i = left text i ≡ left text (run_end is_blank text i)
+
+  pub left-blanks : (i : ℕ) → Blanks i
+  left-blanks = forward (length text) Blanks (λ i h. ap (left text) (sym (run_end_lem is_blank text i h))) here
+    where
+      here : (i : ℕ) → ((next : ℕ) → i < next → Blanks next) → Blanks i
+      here i later = ⊎_elim within (λ h. ap (left text) (sym (run_end_lem is_blank text i h))) (lt-or-le i (length text))
+        where
+          within : i < length text → Blanks i
+          within h = by (is_blank (get_or text i 0)) refl
+            where
+              by : (t : Bool) → is_blank (get_or text i 0) ≡ t → Blanks i
+              by true e = left-blank i h e ∙ later (i + 1) (omega arith) ∙ ap (left text) (sym (run_step is_blank text i h e))
+              by false e = ap (left text) (sym (run-stop is_blank text i h e))
+
   -- a word was found, or the end
   pub first_word : (i : ℕ) → i < length text → is_blank (get_or text i 0) ≡ false → first_place (length text) (words_past text i) ≡ i
   unfolding first_place
@@ -134,6 +146,40 @@ module _ (text : List ℕ) where
   pub first-none : (i : ℕ) → length text ≤ i → first_place (length text) (left text i) ≡ length text
   unfolding first_place
   first-none i h = rw (left_other i (λ c. omega (arith, sym (get_or-eq_default text 0 h) ∙ c)), past_end text i h)
+
+-- where a walk from `at` stands: at the next word of what is left, a comment's perhaps, which has a byte before it; or at the end
+pub record Reached (text : List ℕ) (at i : ℕ) : Type 0 where
+  pub words : words_past text at ≡ left text i
+  pub within : i ≤ length text
+  pub ink : i < length text → is_blank (get_or text i 0) ≡ false
+  pub begun : i < length text → 1 ≤ i
+
+pub reached_first : (text : List ℕ) (at i : ℕ) → Between text at → i ≡ run_end is_blank text at → Reached text at i
+reached_first text at i b e =
+    rw e (record {
+      words = left-start text at b ∙ left-blanks text at;
+      within = run-within is_blank text at b.0;
+      ink = run_past is_blank text at;
+      begun = λ h. ⊎_elim (within h) (λ (k : length text ≤ at). absurd (omega (arith, run_end_lem is_blank text at k))) (lt-or-le at (length text));
+    })
+  where
+    within : run_end is_blank text at < length text → at < length text → 1 ≤ run_end is_blank text at
+    within h k = omega (arith, run-forward is_blank text at k (ap is_blank (get_or_default text at 0 32 k) ∙ b.1))
+
+pub reached_next : (text : List ℕ) (at i end next : ℕ) → Reached text at i → i < length text → starts_comment text i ≡ true
+    → end ≡ run_end is_line_byte text i → next ≡ run_end is_blank text end → (i < next) × Reached text at next
+reached_next text at i end next r h c e n =
+    let passed = comment-passed text i h c in
+    let ends : end ≤ length text = omega (arith, e, run-within is_line_byte text i r.within) in
+    let forward : i < next = omega (arith, e, n, passed.forward) in (
+      forward,
+      record {
+        words = r.words ∙ passed.words ∙ ap (left text) (sym e) ∙ left-blanks text end ∙ ap (left text) (sym n);
+        within = omega (arith, n, run-within is_blank text end ends);
+        ink = λ k. rw n (run_past is_blank text end (rw n at k));
+        begun = λ k. omega arith;
+      },
+    )
 
 -- ---- one step, by the byte at a place
 

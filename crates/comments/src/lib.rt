@@ -8,15 +8,15 @@ ghost use Rattle.std.specs.Prelude.{◌≡◌, ◌≤◌, ◌<◌, length};
 ghost use Rattle.dimacs.specs.Lines.{lines_at};
 ghost use Rattle.comments.specs.Comments.{after_comments, starts_comment, words_past, Between, first_place};
 
+// The first byte of a comment line.
+const COMMENT: u8 = b'c';
+
 // The start of the first line that is no comment, or a place at which no line starts.
 pub fn first_line(text: &[u8]) -> usize
     ensures { lines_at text.now result ≡ after_comments (lines_at text.now 0) }
 {
     let mut at = 0;
-    while at < text.len() {
-        if text[at] != b'c' {
-            return at;
-        }
+    while at < text.len() && text[at] == COMMENT {
         at = dimacs::line_end(text, at) + 1;
     }
     at
@@ -28,27 +28,18 @@ pub fn next_word(text: &[u8], at: usize) -> usize
     requires { Between text.now at }
     ensures { result ≡ first_place (length text.now) (words_past text.now at) }
 {
-    let mut i = at;
-    while i < text.len() {
-        if dimacs::blank(text[i]) {
-            i += 1;
-        } else {
-            if !starts_comment(text, i) {
-                return i;
-            }
-            i = dimacs::line_end(text, i);
-        }
+    let mut i = dimacs::next_word(text, at);
+    while i < text.len() && starts_comment(text, i) {
+        i = dimacs::next_word(text, dimacs::line_end(text, i));
     }
     i
 }
 
 // Whether a comment starts at a place that is not the text's first.
+#[tactic(auto, unfolding(crate::specs::Comments::starts_comment))]
 fn starts_comment(text: &[u8], at: usize) -> bool
     requires { (1 ≤ at) × (at < length text.now) }
     ensures { result ≡ starts_comment text.now at }
 {
-    if text[at] != b'c' {
-        return false;
-    }
-    text[at - 1] == b'\n'
+    text[at] == COMMENT && text[at - 1] == b'\n'
 }

@@ -6,7 +6,7 @@ use Rattle.lists.specs.Tests.{all_of}
 use Rattle.dimacs.specs.Words.{is_blank, run, words_from, words_at}
 use Rattle.dimacs.specs.Lines.{lines_from, lines_at}
 use Rattle.dimacs.specs.Numbers.{Numeral, is_digit, decimal_from, digits_of, size_of, numeral_of, reading_at}
-use Rattle.dimacs.specs.declared.Reading.{Reading}
+use Rattle.std.proofs.Common.{Ok}
 
 -- the empty word, `-`, `-0`, `00`, `01`, `+1` and `1000000`
 no-numbers :
@@ -36,6 +36,6 @@ unfolding run lines_from
 lines = refl
 
 -- ` -3 ` read at 1
-reads : reading_at (32 ∷ 45 ∷ 51 ∷ 32 ∷ []) 1 ≡ Reading.Found (record { negative = true; size = 3 }) (record { at = 3 })
+reads : reading_at (32 ∷ 45 ∷ 51 ∷ 32 ∷ []) 1 ≡ Ok (record { negative = true; size = 3 }, record { at = 3 })
 unfolding is_blank run is_digit decimal_from digits_of size_of numeral_of reading_at all_of
 reads = refl

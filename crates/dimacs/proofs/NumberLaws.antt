@@ -11,6 +11,7 @@ use borrow.Author.Tests.{eqb-true, leb-true, le-leb, lt-leb, eq-eqb, ne_eqb}
 use lib.Dec.{leb, eqb, lit<}
 use lib.ListN.{length, get_or, take, drop, drop_of_length-le}
 use lib.Seq.{drop-cons, take-nil}
+use Rattle.std.specs.Char.{is_ascii_digit}
 use Rattle.lists.specs.Tests.{all_of}
 use Rattle.lists.proofs.Cases.{never, and_l, and_r}
 use Rattle.dimacs.specs.Words.{is_blank, is_word_byte, run}
@@ -18,6 +19,11 @@ use Rattle.dimacs.specs.Numbers.{Size, is_digit, decimal_from, digits_of, padded
 use Rattle.dimacs.proofs.Runs.{run_length}
 
 -- ---- digits
+
+-- the library's test is the paper's
+pub ascii-digit : (b : ℕ) → is_ascii_digit b ≡ is_digit b
+unfolding is_digit
+ascii-digit b = refl
 
 pub record Digit (b : ℕ) : Type 0 where
   pub low : 48 ≤ b

@@ -2,13 +2,15 @@
 use mathlib.Core.Path.{◌≡◌, refl, sym, ap, ◌∙◌}
 use mathlib.Core.Bool.{Bool, true, false, cond, not}
 use mathlib.Core.List.{List, [], ◌∷◌}
-use Prim.Native.Nat.{ℕ, zero, suc, ◌+◌, ◌-◌, ◌≤◌, ◌<◌}
+use mathlib.Core.Logic.{⊎_elim}
+use Prim.Native.Nat.{ℕ, suc, max, ◌+◌, ◌-◌, ◌≤◌, ◌<◌}
 use native.Mathlib.Nat.{add-zero, add-sub_cancel_left}
 use native.Mathlib.Numerals.{add-one}
 use native.Mathlib.Omega.{arith}
 use lib.ListN.{length, take, drop, get_or, length-drop, drop_of_length-le}
 use lib.Seq.{drop-cons, get_or-drop}
 use Rattle.lists.specs.Tests.{all_of}
+use Rattle.lists.proofs.Cases.{lt-or-le}
 use Rattle.dimacs.specs.Words.{run, run_end}
 
 -- a loop at place i: the run ends here, at the end of the text, or goes on
@@ -24,6 +26,15 @@ module _ (test : ℕ → Bool) (text : List ℕ) (i : ℕ) where
   pub run_step : i < length text → test (get_or text i 0) ≡ true → run_end test text i ≡ run_end test text (i + 1)
   unfolding run
   run_step h e = rw (add-one i, drop-cons text i 0 h, e) (omega arith)
+
+-- a loop from `at` that is over at i: it went up to the text's end, or began past it
+pub run_over : (test : ℕ → Bool) (text : List ℕ) (at i : ℕ) → run_end test text at ≡ run_end test text i → (at ≤ length text → i ≤ length text)
+    → length text ≤ i → max at (length text) ≡ run_end test text at
+run_over test text at i e within over =
+    ⊎_elim
+    (λ (h : length text < at). omega (arith, run_end_lem test text at (omega arith)))
+    (λ (h : at ≤ length text). let k : i ≤ length text = within h in omega (arith, e, run_end_lem test text i over))
+    (lt-or-le (length text) at)
 
 module _ (test : ℕ → Bool) where
   pub run_length : (s : List ℕ) → length (run test s) ≤ length s
@@ -98,15 +109,6 @@ module _ (test : ℕ → Bool) where
         let here : get_or (drop at text) 0 0 ≡ get_or text at 0 = get_or-drop at text 0 0 ∙ ap (λ (n : ℕ). get_or text n 0) (add-zero at) in
         omega (arith, run-some (drop at text) (omega (arith, length-drop at text)) (ap test here ∙ e))
 
--- a byte that is there is read alike whatever would stand for one that is not
-pub there : (s : List ℕ) (i d e : ℕ) → i < length s → get_or s i d ≡ get_or s i e
-there [] i d e h = absurd (omega arith)
-there (b ∷ r) zero d e h = refl
-there (b ∷ r) (suc i) d e h = there r i d e (omega arith)
-
--- a test and its opposite
+-- a test's opposite
 pub opposite-true : (b : Bool) → b ≡ false → not b ≡ true
 opposite-true b e = rw e
-
-pub opposite-false : (b : Bool) → b ≡ true → not b ≡ false
-opposite-false b e = rw e

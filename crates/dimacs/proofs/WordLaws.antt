@@ -1,5 +1,5 @@
 -- The words of a text: what `next_word` and `read` say of them. Assumes nothing.
-use mathlib.Core.Path.{◌≡◌, refl, ap, ◌∙◌}
+use mathlib.Core.Path.{◌≡◌, refl, sym, ap, ◌∙◌}
 use mathlib.Core.Bool.{Bool, true, false}
 use mathlib.Core.List.{List, [], ◌∷◌}
 use Prim.Native.Nat.{ℕ, suc, ◌+◌, ◌≤◌, ◌<◌}
@@ -11,7 +11,8 @@ use Rattle.dimacs.specs.Words.{is_blank, is_word_byte, run, run_end, Piece, word
 use Rattle.dimacs.specs.Numbers.{Numeral, numeral_of, word_at, reading_if, reading_at}
 use Rattle.dimacs.specs.declared.Number.{Number}
 use Rattle.dimacs.specs.declared.Cursor.{Cursor}
-use Rattle.dimacs.specs.declared.Reading.{Reading}
+use Rattle.dimacs.specs.declared.NotNumber.{NotNumber}
+use Rattle.std.proofs.Common.{Ok, Err}
 use Rattle.dimacs.proofs.Runs.{run_past, run-forward, opposite-true}
 
 -- ---- blanks before the first word, and the rest of a word, are passed
@@ -84,23 +85,25 @@ pub record IsNumber (text : List ℕ) (at : ℕ) (x : Number) (next : ℕ) : Typ
   pub past : next ≡ run_end is_word_byte text at
 
 module _ (text : List ℕ) (at : ℕ) where
-  pub read_found : (x : Number) (c : Cursor) → reading_at text at ≡ Reading.Found x c → IsNumber text at x c.at
+  pub read_found : (x : Number) (c : Cursor) → reading_at text at ≡ Ok (x, c) → IsNumber text at x c.at
   unfolding reading_at
   read_found x c e = by (numeral_of (word_at text at)) refl e
     where
-      by : (p : Numeral) → numeral_of (word_at text at) ≡ p → reading_if p at (run_end is_word_byte text at) ≡ Reading.Found x c → IsNumber text at x c.at
-      by (Numeral.Is y) q k = record { number = cc; past = cc }
+      by : (p : Numeral) → numeral_of (word_at text at) ≡ p → reading_if p at (run_end is_word_byte text at) ≡ Ok (x, c) → IsNumber text at x c.at
+      by (Numeral.Is y) q k =
+          let both : ◌≡◌ {A = Number × Cursor} (y, record { at = run_end is_word_byte text at }) (x, c) = cc in
+          record { number = q ∙ ap (λ (p : Number × Cursor). Numeral.Is p.0) both; past = sym (ap (λ (p : Number × Cursor). p.1.at) both) }
       by Numeral.Not q k = let z : ◌≡◌ {A = ℕ} 0 1 = cc in absurd (omega arith)
 
-  pub read-refused : (place : ℕ) → reading_at text at ≡ Reading.Refused place → (numeral_of (word_at text at) ≡ Numeral.Not) × (place ≡ at)
+  pub read-refused : (word : NotNumber) → reading_at text at ≡ Err word → (numeral_of (word_at text at) ≡ Numeral.Not) × (word.at ≡ at)
   unfolding reading_at
-  read-refused place e = by (numeral_of (word_at text at)) refl e
+  read-refused word e = by (numeral_of (word_at text at)) refl e
     where
-      by : (p : Numeral) → numeral_of (word_at text at) ≡ p → reading_if p at (run_end is_word_byte text at) ≡ Reading.Refused place → (numeral_of (word_at text at) ≡ Numeral.Not) × (place ≡ at)
+      by : (p : Numeral) → numeral_of (word_at text at) ≡ p → reading_if p at (run_end is_word_byte text at) ≡ Err word → (numeral_of (word_at text at) ≡ Numeral.Not) × (word.at ≡ at)
       by (Numeral.Is y) q k = let z : ◌≡◌ {A = ℕ} 0 1 = cc in absurd (omega arith)
       by Numeral.Not q k = (q, cc)
 
   -- a place at or past the end has no word, so no number
-  pub read_past : length text ≤ at → reading_at text at ≡ Reading.Refused at
+  pub read_past : length text ≤ at → reading_at text at ≡ Err (record { at = at })
   unfolding reading_at numeral_of run
   read_past h = rw (drop_of_length-le text h)

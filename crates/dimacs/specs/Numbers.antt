@@ -1,10 +1,11 @@
 -- The numbers that words are (document 01, "Plain formula"): "A number is a word of an optional `-` and one to six decimal digits, without
 -- leading zeros except `0` itself; `-0` is no number." Assumes nothing.
-use Rattle.std.specs.Prelude.{ℕ, ◌+◌, ◌-◌, ◌*◌, Bool, true, false, cond, not, ◌&&◌, List, [], ◌∷◌, length, get_or, drop, eqb, leb}
+use Rattle.std.specs.Prelude.{ℕ, ◌+◌, ◌-◌, ◌*◌, Bool, true, false, cond, not, ◌&&◌, List, [], ◌∷◌, length, get_or, drop, eqb, leb, Result, Ok, Err}
 use Rattle.lists.specs.Tests.{all_of}
 use Rattle.dimacs.specs.Words.{is_word_byte, run, run_end}
 use Rattle.dimacs.specs.declared.Number.{Number}
-use Rattle.dimacs.specs.declared.Reading.{Reading}
+use Rattle.dimacs.specs.declared.Cursor.{Cursor}
+use Rattle.dimacs.specs.declared.NotNumber.{NotNumber}
 
 -- what digits say
 pub data Size : Type 0 where
@@ -54,10 +55,10 @@ numeral_of (b ∷ rest) = cond (eqb b 45) (negated (size_of rest)) (positive (si
 abbrev pub word_at : List ℕ → ℕ → List ℕ
 word_at text at = run is_word_byte (drop at text)
 
-abbrev pub reading_if : Numeral → ℕ → ℕ → Reading
-reading_if (Numeral.Is x) place end = Reading.Found x (record { at = end })
-reading_if Numeral.Not place end = Reading.Refused place
+abbrev pub reading_if : Numeral → ℕ → ℕ → Result (Number × Cursor) NotNumber
+reading_if (Numeral.Is x) place end = Ok (x, record { at = end })
+reading_if Numeral.Not place end = Err (record { at = place })
 
 -- the number that the word at a place is, with the cursor past the word; or the place where no number is
-unfoldable pub reading_at : List ℕ → ℕ → Reading
+unfoldable pub reading_at : List ℕ → ℕ → Result (Number × Cursor) NotNumber
 reading_at text at = reading_if (numeral_of (word_at text at)) at (run_end is_word_byte text at)

@@ -3,7 +3,7 @@
 // of its words with their places (specs/Words.antt), and each function here finds the head of such a list.
 #![tactic(auto)]
 
-ghost use Rattle.std.specs.Prelude.{◌≡◌, cond, min, ◌≤◌, length, get_or};
+ghost use Rattle.std.specs.Prelude.{◌≡◌, ℕ, Bool, ◌<◌, ◌≤◌, length, get_or};
 ghost use Rattle.dimacs.specs.Words.{is_blank, is_word_byte, run, run_end};
 ghost use Rattle.dimacs.specs.Lines.{is_line_byte};
 ghost use Rattle.dimacs.specs.Numbers.{is_digit, decimal_from, reading_at};
@@ -20,11 +20,10 @@ pub struct Cursor {
     pub at: usize,
 }
 
-// What the word reader answers: a number with the cursor past it, or the place of a word that is no number.
+// The place of a word that is no number.
 #[derive(Clone, Copy)]
-pub enum Reading {
-    Found(Number, Cursor),
-    Refused(usize),
+pub struct NotNumber {
+    pub at: usize,
 }
 
 // How many digits there are, and their value.
@@ -38,94 +37,63 @@ struct Digits {
 pub fn next_word(text: &[u8], at: usize) -> usize
     ensures { result ≡ run_end is_blank text.now at }
 {
-    let mut i = at;
-    while i < text.len() {
-        if blank(text[i]) {
-            i += 1;
-        } else {
-            return i;
-        }
-    }
-    i
+    run_end(text, at, blank)
 }
 
-// The number that the word at `at` is. A word is walked once: if it is a number, it ends where its digits end.
-pub fn read(text: &[u8], at: usize) -> Reading
+// The number that the word at `at` is, with the cursor past it. A word is walked once: if it is a number, it ends where its digits end.
+pub fn read(text: &[u8], at: usize) -> Result<(Number, Cursor), NotNumber>
     ensures { result ≡ reading_at text.now at }
 {
     if text.len() <= at {
-        return Reading::Refused(at);
+        return Err(NotNumber { at });
     }
     let negative = text[at] == b'-';
-    let start = at + minus_length(negative);
-    let most = at_most_six(text.len() - start);
+    let start = at + negative as usize;
+    let most = (text.len() - start).min(6);
     let digits = leading_digits(&text[start..start + most]);
     let end = start + digits.count;
     if !word_ends(text, end) {
-        return Reading::Refused(at);
+        return Err(NotNumber { at });
     }
     if end == start {
-        return Reading::Refused(at);
+        return Err(NotNumber { at });
     }
     // a zero stands alone
-    if text[start] == b'0' {
-        if at + 1 < end {
-            return Reading::Refused(at);
-        }
+    let alone = at + 1 == end;
+    if text[start] == b'0' && !alone {
+        return Err(NotNumber { at });
     }
-    Reading::Found(
-        Number {
-            negative: negative,
-            size: digits.value,
-        },
-        Cursor { at: end },
-    )
+    let size = digits.value;
+    Ok((Number { negative, size }, Cursor { at: end }))
 }
 
 // The end of the word at `at`.
 pub fn word_end(text: &[u8], at: usize) -> usize
     ensures { result ≡ run_end is_word_byte text.now at }
 {
-    let mut i = at;
-    while i < text.len() {
-        if blank(text[i]) {
-            return i;
-        }
-        i += 1;
-    }
-    i
+    run_end(text, at, |b| !blank(b))
 }
 
 // The end of the line that holds the byte at `at`: its line feed, or the text's length.
 pub fn line_end(text: &[u8], at: usize) -> usize
     ensures { result ≡ run_end is_line_byte text.now at }
 {
-    let mut i = at;
-    while i < text.len() {
-        if text[i] == b'\n' {
+    run_end(text, at, |b| b != b'\n')
+}
+
+// Where the run of bytes that pass a test ends, from a place on.
+fn run_end<F: Fn(u8) -> bool>(text: &[u8], at: usize, passes: F) -> usize
+    requires { F.IsAlwaysCallable passes }
+    ensures { (test : ℕ → Bool)
+        → ((b : ℕ) (r : Bool) → b < 256 → F.post passes b r → r ≡ test b)
+        → result ≡ run_end test text.now at }
+{
+    for i in at..text.len() {
+        if !passes(text[i]) {
             return i;
         }
-        i += 1;
     }
-    i
-}
-
-fn minus_length(negative: bool) -> usize
-    ensures { result ≡ cond negative 1 0 }
-{
-    if negative {
-        return 1;
-    }
-    0
-}
-
-fn at_most_six(n: usize) -> usize
-    ensures { result ≡ min n 6 }
-{
-    if n < 6 {
-        return n;
-    }
-    6
+    at.max(text.len())
 }
 
 // The digits at the front of at most six bytes.
@@ -135,52 +103,29 @@ fn leading_digits(bytes: &[u8]) -> Digits
         (result.count ≡ length digits) × (result.value ≡ decimal_from 0 digits) }
 {
     let mut value: u32 = 0;
-    let mut i = 0;
-    while i < bytes.len() {
-        let b = bytes[i];
-        if digit(b) {
-            value = value * 10 + ((b - 48) as u32);
-            i += 1;
-        } else {
-            return Digits {
-                count: i,
-                value: value,
-            };
+    for (count, b) in bytes.iter().enumerate() {
+        if !b.is_ascii_digit() {
+            return Digits { count, value };
         }
+        value = value * 10 + u32::from(*b - b'0');
     }
     Digits {
-        count: i,
-        value: value,
+        count: bytes.len(),
+        value,
     }
 }
 
 // Whether no word goes on at a place: a blank stands there, or the text ends.
+#[tactic(auto, unfolding(crate::specs::Words::is_blank))]
 fn word_ends(text: &[u8], at: usize) -> bool
     ensures { result ≡ is_blank (get_or text.now at 32) }
 {
-    if text.len() <= at {
-        return true;
-    }
-    blank(text[at])
+    text.len() <= at || blank(text[at])
 }
 
+#[tactic(auto, unfolding(crate::specs::Words::is_blank))]
 pub fn blank(b: u8) -> bool
     ensures { result ≡ is_blank b }
 {
-    if b == b' ' {
-        return true;
-    }
-    if b == b'\t' {
-        return true;
-    }
-    b == b'\n'
-}
-
-fn digit(b: u8) -> bool
-    ensures { result ≡ is_digit b }
-{
-    if b < b'0' {
-        return false;
-    }
-    b <= b'9'
+    matches!(b, b' ' | b'\t' | b'\n')
 }

@@ -5,6 +5,8 @@ use mathlib.Core.List.{List, Memᴰ}
 use Prim.Native.Nat.{ℕ}
 use Rattle.dimacs.specs.Words.{Piece}
 use Rattle.comments.proofs.Walk.{Stands, stands}
+use Rattle.std.proofs.Common.{Result, Ok, Err}
+use Rattle.store.specs.declared.refusal.Refusal.{Refusal}
 use Rattle.opening.specs.Problem.{problem_of}
 use Rattle.opening.specs.Opening.{body_of}
 use Rattle.opening.specs.declared.Problem.{Problem}
@@ -14,6 +16,6 @@ pub body-stands : (text : List ℕ) (w : Piece) → Memᴰ w (body_of text) → 
 unfolding body_of
 body-stands text w member = by (problem_of text) refl
   where
-    by : (p : Problem) → problem_of text ≡ p → Stands text w
-    by (Problem.Refused r) e = absurd (Memᴰ.not-nil (rw e at member))
-    by (Problem.Line n m end) e = stands text w end (rw (body-past text n m end e) at member)
+    by : (p : Result Problem Refusal) → problem_of text ≡ p → Stands text w
+    by (Err r) e = absurd (Memᴰ.not-nil (rw e at member))
+    by (Ok p) e = stands text w p.end (rw (body-past text p e) at member)

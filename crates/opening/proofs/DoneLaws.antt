@@ -9,6 +9,7 @@ use lib.ListN.{length}
 use lib.Dec.{eqb, ltb}
 use Rattle.lists.specs.Tests.{all_of}
 use Rattle.lists.proofs.Cases.{never, and_both}
+use Rattle.std.proofs.Common.{Ok, Err}
 use Rattle.dimacs.specs.Words.{Piece}
 use Rattle.dimacs.specs.Numbers.{Numeral, numeral_of}
 use Rattle.dimacs.specs.declared.Number.{Number}
@@ -18,16 +19,15 @@ use Rattle.store.specs.Numerals.{code_in, is_numeral}
 use Rattle.store.specs.declared.refusal.Refusal.{Refusal}
 use Rattle.store.proofs.FormLaws.{literal-high}
 use Rattle.opening.specs.Clauses.{scan_from, literals_in, ends_from}
-use Rattle.opening.specs.declared.Scanned.{Scanned}
 use Rattle.opening.proofs.NextNumber.{Missing, none, bad}
 use Rattle.opening.proofs.CodeLaws.{coded}
 
 -- ---- a word of a scan that is done: a 0 or a literal that fits, and the rest is done
 
 data Passed (end n m total closed count : ℕ) (w : Piece) (ws : List Piece) : Type 0 where
-  closes : code_in w ≡ 0 → scan_from end n m (closed + 1) count ws ≡ Scanned.Done total → Passed end n m total closed count w ws
+  closes : code_in w ≡ 0 → scan_from end n m (closed + 1) count ws ≡ Ok total → Passed end n m total closed count w ws
   reads : (code_in w ≡ 0 → ⊥) → is_literal n (code_in w) ≡ true → (count ≡ max_literals → ⊥)
-      → scan_from end n m closed (count + 1) ws ≡ Scanned.Done total → Passed end n m total closed count w ws
+      → scan_from end n m closed (count + 1) ws ≡ Ok total → Passed end n m total closed count w ws
 
 record WordPassed (end n m total closed count : ℕ) (w : Piece) (ws : List Piece) : Type 0 where
   pub more : closed ≡ m → ⊥
@@ -36,19 +36,19 @@ record WordPassed (end n m total closed count : ℕ) (w : Piece) (ws : List Piec
   pub passed : Passed end n m total closed count w ws
 
 passed-word : (end n m total closed count : ℕ) (w : Piece) (ws : List Piece)
-    → scan_from end n m closed count (w ∷ ws) ≡ Scanned.Done total → WordPassed end n m total closed count w ws
+    → scan_from end n m closed count (w ∷ ws) ≡ Ok total → WordPassed end n m total closed count w ws
 unfolding scan_from is_literal
 passed-word end n m total closed count w ws e =
     by (eqb closed m) refl (numeral_of w.bytes) refl (eqb (code_in w) 0) refl (ltb n (code_in w / 2)) refl (eqb count max_literals) refl e
   where
     by : (a : Bool) → eqb closed m ≡ a → (p : Numeral) → numeral_of w.bytes ≡ p → (z : Bool) → eqb (code_in w) 0 ≡ z
         → (l : Bool) → ltb n (code_in w / 2) ≡ l → (k : Bool) → eqb count max_literals ≡ k
-        → cond a (Scanned.Refused (Refusal.ClauseCount w.place))
-        (cond (not (is_numeral p)) (Scanned.Refused (Refusal.NotNumber w.place))
+        → cond a (Err (Refusal.ClauseCount w.place))
+        (cond (not (is_numeral p)) (Err (Refusal.NotNumber w.place))
         (cond z (scan_from end n m (closed + 1) count ws)
-        (cond l (Scanned.Refused (Refusal.LiteralBeyond w.place))
-        (cond k (Scanned.Refused (Refusal.TooManyLiterals w.place))
-        (scan_from end n m closed (count + 1) ws))))) ≡ Scanned.Done total
+        (cond l (Err (Refusal.LiteralBeyond w.place))
+        (cond k (Err (Refusal.TooManyLiterals w.place))
+        (scan_from end n m closed (count + 1) ws))))) ≡ Ok total
         → WordPassed end n m total closed count w ws
     by true ea p ep z ez l el k ek d = never (cc)
     by false ea Numeral.Not ep z ez l el k ek d = never (cc)
@@ -95,11 +95,11 @@ pub record Counted (n m total closed count : ℕ) (ws : List Piece) : Type 0 whe
   pub rise : (from : ℕ) → from ≤ count → rising from (ends_from count ws) ≡ true
   pub last : (d : ℕ) → (closed ≡ m → d ≡ count) → last_or d (ends_from count ws) ≡ total
 
-pub counted : (end n m total : ℕ) (ws : List Piece) (closed count : ℕ) → scan_from end n m closed count ws ≡ Scanned.Done total → Counted n m total closed count ws
+pub counted : (end n m total : ℕ) (ws : List Piece) (closed count : ℕ) → scan_from end n m closed count ws ≡ Ok total → Counted n m total closed count ws
 unfolding scan_from literals_in ends_from all_of rising last_or
 counted end n m total [] closed count e = by (eqb closed m) refl e
   where
-    by : (t : Bool) → eqb closed m ≡ t → cond t (Scanned.Done count) (Scanned.Refused (Refusal.ClauseCount end)) ≡ Scanned.Done total → Counted n m total closed count []
+    by : (t : Bool) → eqb closed m ≡ t → cond t (Ok count) (Err (Refusal.ClauseCount end)) ≡ Ok total → Counted n m total closed count []
     by true k d =
         let f : count ≡ total = cc in
         let g : closed ≡ m = eqb-true closed m k in
@@ -115,7 +115,7 @@ counted end n m total [] closed count e = by (eqb closed m) refl e
 counted end n m total (w ∷ ws) closed count e = by (passed-word end n m total closed count w ws e) (counted end n m total ws)
   where
     by : WordPassed end n m total closed count w ws
-        → ((closed' count' : ℕ) → scan_from end n m closed' count' ws ≡ Scanned.Done total → Counted n m total closed' count' ws)
+        → ((closed' count' : ℕ) → scan_from end n m closed' count' ws ≡ Ok total → Counted n m total closed' count' ws)
         → Counted n m total closed count (w ∷ ws)
     by p ih = go p.passed
       where
@@ -143,11 +143,11 @@ counted end n m total (w ∷ ws) closed count e = by (passed-word end n m total 
 
 -- ---- a turn of the pass that writes: a 0, or a literal
 
-module _ (end n m total closed count : ℕ) (ws : List Piece) (done : scan_from end n m closed count ws ≡ Scanned.Done total)
+module _ (end n m total closed count : ℕ) (ws : List Piece) (done : scan_from end n m closed count ws ≡ Ok total)
     (w : Piece) (rest : List Piece) (e : ws ≡ w ∷ rest) (x : Number) (is : numeral_of w.bytes ≡ Numeral.Is x) where
   pub record ZeroTurn : Type 0 where
     pub room : closed < m
-    pub scanned : scan_from end n m (closed + 1) count rest ≡ Scanned.Done total
+    pub scanned : scan_from end n m (closed + 1) count rest ≡ Ok total
     pub codes : literals_in ws ≡ literals_in rest
     pub clauses : ends_from count ws ≡ count ∷ ends_from count rest
 
@@ -155,7 +155,7 @@ module _ (end n m total closed count : ℕ) (ws : List Piece) (done : scan_from 
     pub room : count < total
     pub not_full : count ≡ max_literals → ⊥
     pub small : x.size ≤ n
-    pub scanned : scan_from end n m closed (count + 1) rest ≡ Scanned.Done total
+    pub scanned : scan_from end n m closed (count + 1) rest ≡ Ok total
     pub codes : literals_in ws ≡ code_of x.size x.negative ∷ literals_in rest
     pub clauses : ends_from count ws ≡ ends_from (count + 1) rest
 
@@ -200,7 +200,7 @@ module _ (end n m total closed count : ℕ) (ws : List Piece) (done : scan_from 
           }
 
 -- where no number is left, no word is left
-pub none_left : (end n m total closed count : ℕ) (ws : List Piece) → scan_from end n m closed count ws ≡ Scanned.Done total → Missing ws → ws ≡ []
+pub none_left : (end n m total closed count : ℕ) (ws : List Piece) → scan_from end n m closed count ws ≡ Ok total → Missing ws → ws ≡ []
 none_left end n m total closed count [] done none = refl
 none_left end n m total closed count (w ∷ ws) done (bad e) =
     let p = passed-word end n m total closed count w ws done in

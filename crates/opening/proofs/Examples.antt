@@ -2,6 +2,7 @@
 use mathlib.Core.Path.{◌≡◌, refl}
 use mathlib.Core.List.{List, [], ◌∷◌, map}
 use Prim.Native.Nat.{ℕ}
+use Rattle.std.proofs.Common.{Result, Ok, Err}
 use Rattle.lists.specs.Tests.{all_of}
 use Rattle.dimacs.specs.Words.{is_blank, run, words_from}
 use Rattle.dimacs.specs.Lines.{lines_from}
@@ -12,7 +13,7 @@ use Rattle.store.specs.declared.refusal.Refusal.{Refusal}
 use Rattle.opening.specs.Problem.{same_bytes, four_words, sizes_of, problem_in, problem_of}
 use Rattle.opening.specs.Clauses.{scan_from, literals_in, ends_from}
 use Rattle.opening.specs.Opening.{body_of, opened_by}
-use Rattle.opening.specs.declared.Opened.{Opened}
+use Rattle.opening.specs.declared.Sizes.{Sizes}
 
 -- `p cnf ` and what follows
 problem : List ℕ → List ℕ
@@ -22,10 +23,14 @@ problem rest = 112 ∷ 32 ∷ 99 ∷ 110 ∷ 102 ∷ 32 ∷ rest
 listing : List ℕ
 listing = problem (51 ∷ 32 ∷ 50 ∷ 10 ∷ 49 ∷ 32 ∷ 50 ∷ 32 ∷ 48 ∷ 10 ∷ 50 ∷ 32 ∷ 51 ∷ 32 ∷ 48 ∷ 10 ∷ [])
 
+-- opened as n variables and m clauses
+abbrev sized : ℕ → ℕ → Result Sizes Refusal
+sized n m = Ok (record { variables = n; clauses = m })
+
 -- the listing, `p cnf 0 0` and `p cnf 512 0`
 opened :
     map (λ text. opened_by text 4 2 2) (listing ∷ problem (48 ∷ 32 ∷ 48 ∷ []) ∷ problem (53 ∷ 49 ∷ 50 ∷ 32 ∷ 48 ∷ []) ∷ [])
-    ≡ Opened.Open 3 2 ∷ Opened.Open 0 0 ∷ Opened.Open 512 0 ∷ []
+    ≡ sized 3 2 ∷ sized 0 0 ∷ sized 512 0 ∷ []
 unfolding listing problem all_of is_blank run words_from lines_from is_digit decimal_from digits_of size_of numeral_of code_in after_comments words_in same_bytes four_words sizes_of problem_in problem_of scan_from body_of opened_by
 opened = refl
 
@@ -46,7 +51,7 @@ refused :
     ∷ problem (49 ∷ 32 ∷ 49 ∷ 10 ∷ 49 ∷ [])
     ∷ problem (49 ∷ 32 ∷ 48 ∷ 10 ∷ 120 ∷ [])
     ∷ [])
-    ≡ map Opened.Refused
+    ≡ map Err
     (Refusal.NoProblemLine 4
     ∷ Refusal.NoProblemLine 0
     ∷ Refusal.SizeOverLimit 0
@@ -70,13 +75,13 @@ commented :
     ∷ (99 ∷ 10 ∷ [])
     ∷ (49 ∷ 32 ∷ 48 ∷ 10 ∷ 32 ∷ 99 ∷ [])
     ∷ [])
-    ≡ Opened.Open 1 1
-    ∷ Opened.Open 1 1
-    ∷ map Opened.Refused (Refusal.NotNumber 11 ∷ Refusal.NotNumber 12 ∷ Refusal.LiteralBeyond 12 ∷ Refusal.ClauseCount 12 ∷ Refusal.ClauseCount 15 ∷ [])
+    ≡ sized 1 1
+    ∷ sized 1 1
+    ∷ map Err (Refusal.NotNumber 11 ∷ Refusal.NotNumber 12 ∷ Refusal.LiteralBeyond 12 ∷ Refusal.ClauseCount 12 ∷ Refusal.ClauseCount 15 ∷ [])
 unfolding problem all_of is_blank run words_from lines_from is_digit decimal_from digits_of size_of numeral_of code_in after_comments words_in same_bytes four_words sizes_of problem_in problem_of scan_from body_of opened_by
 commented = refl
 
 -- the listing where literals and ends are both too short, and where only the ends are
-short : map (λ literals. opened_by listing literals 1 2) (3 ∷ 4 ∷ []) ≡ map Opened.Refused (Refusal.TooShort 4 ∷ Refusal.TooShort 2 ∷ [])
+short : map (λ literals. opened_by listing literals 1 2) (3 ∷ 4 ∷ []) ≡ map Err (Refusal.TooShort 4 ∷ Refusal.TooShort 2 ∷ [])
 unfolding listing problem all_of is_blank run words_from lines_from is_digit decimal_from digits_of size_of numeral_of code_in after_comments words_in same_bytes four_words sizes_of problem_in problem_of scan_from body_of opened_by
 short = refl

@@ -10,6 +10,7 @@ use native.Mathlib.Omega.{arith}
 use lib.ListN.{length, drop, get_or}
 use lib.Seq.{drop-cons}
 use lib.Dec.{eqb, leb, ltb}
+use Rattle.std.proofs.Common.{Result, Ok, Err}
 use Rattle.lists.specs.Tests.{all_of}
 use Rattle.lists.proofs.Cases.{never, eq-or-ne}
 use Rattle.lists.proofs.Steps.{forward}
@@ -29,9 +30,8 @@ use Rattle.opening.specs.Problem.{problem_of}
 use Rattle.opening.specs.Clauses.{scan_from, literals_in, ends_from}
 use Rattle.opening.specs.Opening.{body_of, opened_if, opened_after, opened_by, written}
 use Rattle.opening.specs.Former.{former_body_of, formerly_opened_by}
+use Rattle.opening.specs.declared.Sizes.{Sizes}
 use Rattle.opening.specs.declared.Problem.{Problem}
-use Rattle.opening.specs.declared.Scanned.{Scanned}
-use Rattle.opening.specs.declared.Opened.{Opened}
 use Rattle.opening.proofs.ScanLaws.{scan-extra, scan-word}
 use Rattle.opening.proofs.OpeningLaws.{body-past, opened-past, SlicesFit, room}
 
@@ -67,17 +67,17 @@ words-blank text at h e = rw (drop-cons text at 0 h, e, add-one at)
 -- ---- two lists of words that a scan tells apart at a comment only
 
 module _ (text : List ℕ) where
-  data Alike (former new : Scanned) (former-words new-words : List Piece) : Type 0 where
-    same : former ≡ new → ((total : ℕ) → former ≡ Scanned.Done total → former-words ≡ new-words) → Alike former new former-words new-words
+  data Alike (former new : Result ℕ Refusal) (former-words new-words : List Piece) : Type 0 where
+    same : former ≡ new → ((total : ℕ) → former ≡ Ok total → former-words ≡ new-words) → Alike former new former-words new-words
     stopped : (place : ℕ) → starts_comment text place ≡ true
-        → (former ≡ Scanned.Refused (Refusal.NotNumber place)) ⊎ (former ≡ Scanned.Refused (Refusal.ClauseCount place))
+        → (former ≡ Err (Refusal.NotNumber place)) ⊎ (former ≡ Err (Refusal.ClauseCount place))
         → Alike former new former-words new-words
 
-  more : (w : Piece) {former new : Scanned} {former-words new-words : List Piece} → Alike former new former-words new-words → Alike former new (w ∷ former-words) (w ∷ new-words)
+  more : (w : Piece) {former new : Result ℕ Refusal} {former-words new-words : List Piece} → Alike former new former-words new-words → Alike former new (w ∷ former-words) (w ∷ new-words)
   more w (same e words) = same e (λ total d. ap (λ (ws : List Piece). w ∷ ws) (words total d))
   more w (stopped place c e) = stopped place c e
 
-  refused : (r : Refusal) (former-words new-words : List Piece) → Alike (Scanned.Refused r) (Scanned.Refused r) former-words new-words
+  refused : (r : Refusal) (former-words new-words : List Piece) → Alike (Err r) (Err r) former-words new-words
   refused r former-words new-words = same refl (λ total d. never (cc))
 
   module _ (n m : ℕ) where
@@ -93,18 +93,18 @@ module _ (text : List ℕ) where
         by (eqb closed m) (not (is_numeral (numeral_of w.bytes))) (eqb (code_in w) 0) (ltb n (variable_of (code_in w))) (eqb count max_literals)
         (more w (rest (closed + 1) count)) (more w (rest closed (count + 1)))
       where
-        by : (a b z l k : Bool) {s t u v : Scanned} → Alike s t (w ∷ former) (w ∷ new) → Alike u v (w ∷ former) (w ∷ new)
+        by : (a b z l k : Bool) {s t u v : Result ℕ Refusal} → Alike s t (w ∷ former) (w ∷ new) → Alike u v (w ∷ former) (w ∷ new)
             → Alike
-            (cond a (Scanned.Refused (Refusal.ClauseCount w.place))
-            (cond b (Scanned.Refused (Refusal.NotNumber w.place))
+            (cond a (Err (Refusal.ClauseCount w.place))
+            (cond b (Err (Refusal.NotNumber w.place))
             (cond z s
-            (cond l (Scanned.Refused (Refusal.LiteralBeyond w.place))
-            (cond k (Scanned.Refused (Refusal.TooManyLiterals w.place)) u)))))
-            (cond a (Scanned.Refused (Refusal.ClauseCount w.place))
-            (cond b (Scanned.Refused (Refusal.NotNumber w.place))
+            (cond l (Err (Refusal.LiteralBeyond w.place))
+            (cond k (Err (Refusal.TooManyLiterals w.place)) u)))))
+            (cond a (Err (Refusal.ClauseCount w.place))
+            (cond b (Err (Refusal.NotNumber w.place))
             (cond z t
-            (cond l (Scanned.Refused (Refusal.LiteralBeyond w.place))
-            (cond k (Scanned.Refused (Refusal.TooManyLiterals w.place)) v)))))
+            (cond l (Err (Refusal.LiteralBeyond w.place))
+            (cond k (Err (Refusal.TooManyLiterals w.place)) v)))))
             (w ∷ former) (w ∷ new)
         by true b z l k closes reads = refused _ _ _
         by false true z l k closes reads = refused _ _ _
@@ -158,23 +158,27 @@ module _ (text : List ℕ) where
 pub data FormerAnswer (text : List ℕ) (literals ends keys : ℕ) : Type 0 where
   same_answer : formerly_opened_by text literals ends keys ≡ opened_by text literals ends keys → FormerAnswer text literals ends keys
   met-comment : (place : ℕ) → starts_comment text place ≡ true
-      → (formerly_opened_by text literals ends keys ≡ Opened.Refused (Refusal.NotNumber place)) ⊎ (formerly_opened_by text literals ends keys ≡ Opened.Refused (Refusal.ClauseCount place))
+      → (formerly_opened_by text literals ends keys ≡ Err (Refusal.NotNumber place)) ⊎ (formerly_opened_by text literals ends keys ≡ Err (Refusal.ClauseCount place))
       → FormerAnswer text literals ends keys
 
 -- "Texts that opened before open to the same store": what `open` answers and what it leaves in the slices, by its contract, is what the former rule gives
-pub record SameStore (text literals ends keys : List ℕ) (former : Opened) : Type 0 where
+pub record SameStore (text literals ends keys : List ℕ) (former : Result Sizes Refusal) : Type 0 where
   pub answer : opened_by text (length literals) (length ends) (length keys) ≡ former
   pub literals-left : written (opened_by text (length literals) (length ends) (length keys)) (literals_in (body_of text)) literals ≡ written former (literals_in (former_body_of text)) literals
   pub ends-left : written (opened_by text (length literals) (length ends) (length keys)) (ends_from 0 (body_of text)) ends ≡ written former (ends_from 0 (former_body_of text)) ends
 
 module _ (text : List ℕ) where
+  -- what the scan says of these words after a problem line
+  abbrev scanned : Problem → List Piece → Result ℕ Refusal
+  scanned p words = scan_from (length text) p.sizes.variables p.sizes.clauses 0 0 words
+
   -- by what the problem line says
-  module _ (n m end : ℕ) (line : problem_of text ≡ Problem.Line n m end) where
-    former-body : former_body_of text ≡ words_at text end
+  module _ (p : Problem) (line : problem_of text ≡ Ok p) where
+    former-body : former_body_of text ≡ words_at text p.end
     unfolding former_body_of
     former-body = rw line
 
-    former-scan : (literals ends keys : ℕ) → formerly_opened_by text literals ends keys ≡ opened_if (scan_from (length text) n m 0 0 (words_at text end)) n m literals ends keys
+    former-scan : (literals ends keys : ℕ) → formerly_opened_by text literals ends keys ≡ opened_if (scanned p (words_at text p.end)) p.sizes literals ends keys
     unfolding formerly_opened_by
     former-scan literals ends keys = rw (line, former-body)
 
@@ -182,50 +186,48 @@ module _ (text : List ℕ) where
   unfolding formerly_opened_by opened_by
   former-answer literals ends keys = by (problem_of text) refl
     where
-      by : (p : Problem) → problem_of text ≡ p → FormerAnswer text literals ends keys
-      by (Problem.Refused r) e = same_answer (rw e)
-      by (Problem.Line n m end) e = go (alike text n m end)
+      by : (p : Result Problem Refusal) → problem_of text ≡ p → FormerAnswer text literals ends keys
+      by (Err r) e = same_answer (rw e)
+      by (Ok p) e = go (alike text p.sizes.variables p.sizes.clauses p.end)
         where
-          go : Alike text (scan_from (length text) n m 0 0 (words_at text end)) (scan_from (length text) n m 0 0 (words_past text end)) (words_at text end) (words_past text end)
-              → FormerAnswer text literals ends keys
-          go (Alike.same q words) = same_answer (former-scan n m end e literals ends keys ∙ rw q (sym (opened-past text n m end e literals ends keys)))
+          go : Alike text (scanned p (words_at text p.end)) (scanned p (words_past text p.end)) (words_at text p.end) (words_past text p.end) → FormerAnswer text literals ends keys
+          go (Alike.same q words) = same_answer (former-scan p e literals ends keys ∙ rw q (sym (opened-past text p e literals ends keys)))
           go (Alike.stopped place c q) =
               met-comment place c
               (⊎_elim
-              (λ k. inl (former-scan n m end e literals ends keys ∙ rw k))
-              (λ k. inr (former-scan n m end e literals ends keys ∙ rw k))
+              (λ k. inl (former-scan p e literals ends keys ∙ rw k))
+              (λ k. inr (former-scan p e literals ends keys ∙ rw k))
               q)
 
-  record SameWords (literals ends keys n m : ℕ) : Type 0 where
-    answer : opened_by text literals ends keys ≡ Opened.Open n m
+  record SameWords (literals ends keys : ℕ) (sizes : Sizes) : Type 0 where
+    answer : opened_by text literals ends keys ≡ Ok sizes
     body : body_of text ≡ former_body_of text
 
-  same-words : (literals ends keys n m : ℕ) → formerly_opened_by text literals ends keys ≡ Opened.Open n m → SameWords literals ends keys n m
+  same-words : (literals ends keys : ℕ) (sizes : Sizes) → formerly_opened_by text literals ends keys ≡ Ok sizes → SameWords literals ends keys sizes
   unfolding formerly_opened_by
-  same-words literals ends keys n m opened = by (problem_of text) refl opened
+  same-words literals ends keys sizes opened = by (problem_of text) refl opened
     where
-      by : (p : Problem) → problem_of text ≡ p → opened_after p (former_body_of text) (length text) literals ends keys ≡ Opened.Open n m → SameWords literals ends keys n m
-      by (Problem.Refused r) e q = never (cc)
-      by (Problem.Line a b end) e q = go (alike text a b end)
+      by : (p : Result Problem Refusal) → problem_of text ≡ p → opened_after p (former_body_of text) (length text) literals ends keys ≡ Ok sizes → SameWords literals ends keys sizes
+      by (Err r) e q = never (cc)
+      by (Ok p) e q = go (alike text p.sizes.variables p.sizes.clauses p.end)
         where
-          was : opened_if (scan_from (length text) a b 0 0 (words_at text end)) a b literals ends keys ≡ Opened.Open n m
-          was = rw (former-body a b end e) at q
+          was : opened_if (scanned p (words_at text p.end)) p.sizes literals ends keys ≡ Ok sizes
+          was = rw (former-body p e) at q
 
-          done : SlicesFit (scan_from (length text) a b 0 0 (words_at text end)) b literals ends keys
-          done = (room (scan_from (length text) a b 0 0 (words_at text end)) a b literals ends keys n m was).0
+          done : SlicesFit (scanned p (words_at text p.end)) p.sizes.clauses literals ends keys
+          done = (room (scanned p (words_at text p.end)) p.sizes literals ends keys sizes was).0
 
-          go : Alike text (scan_from (length text) a b 0 0 (words_at text end)) (scan_from (length text) a b 0 0 (words_past text end)) (words_at text end) (words_past text end)
-              → SameWords literals ends keys n m
+          go : Alike text (scanned p (words_at text p.end)) (scanned p (words_past text p.end)) (words_at text p.end) (words_past text p.end) → SameWords literals ends keys sizes
           go (Alike.same k words) =
               record {
-                answer = opened-past text a b end e literals ends keys ∙ rw (← k) was;
-                body = body-past text a b end e ∙ sym (words done.count done.done) ∙ sym (former-body a b end e);
+                answer = opened-past text p e literals ends keys ∙ rw (← k) was;
+                body = body-past text p e ∙ sym (words done.count done.done) ∙ sym (former-body p e);
               }
           go (Alike.stopped place c k) = ⊎_elim (λ r. never (cc (r, done.done))) (λ r. never (cc (r, done.done))) k
 
-pub same_store : (text literals ends keys : List ℕ) (n m : ℕ) → formerly_opened_by text (length literals) (length ends) (length keys) ≡ Opened.Open n m
+pub same_store : (text literals ends keys : List ℕ) (sizes : Sizes) → formerly_opened_by text (length literals) (length ends) (length keys) ≡ Ok sizes
     → SameStore text literals ends keys (formerly_opened_by text (length literals) (length ends) (length keys))
-same_store text literals ends keys n m opened =
-    let s = same-words text (length literals) (length ends) (length keys) n m opened in
+same_store text literals ends keys sizes opened =
+    let s = same-words text (length literals) (length ends) (length keys) sizes opened in
     let answer = s.answer ∙ sym opened in
     record { answer = answer; literals-left = rw (answer, s.body); ends-left = rw (answer, s.body) }

@@ -8,6 +8,7 @@ use native.Mathlib.Omega.{arith}
 use borrow.Author.Tests.{le-leb, lt-leb, leb-true}
 use lib.ListN.{length, take, drop}
 use lib.Dec.{leb}
+use Rattle.std.proofs.Common.{Option, Some, None, Ok, Err}
 use Rattle.lists.proofs.Cases.{never, and_l, and_r, lt-or-le}
 use Rattle.dimacs.specs.Words.{run, run_end}
 use Rattle.dimacs.specs.Lines.{is_line_byte, lines_at}
@@ -28,7 +29,7 @@ use Rattle.opening.specs.declared.Problem.{Problem}
 -- ---- the problem line
 
 module _ (text : List ℕ) (start : ℕ) (found : lines_at text start ≡ after_comments (lines_at text 0)) where
-  pub problem-none : length text ≤ start → problem_of text ≡ Problem.Refused (Refusal.NoProblemLine (length text))
+  pub problem-none : length text ≤ start → problem_of text ≡ Err (Refusal.NoProblemLine (length text))
   unfolding problem_of problem_in
   problem-none h = rw (← found, no_line text start h)
 
@@ -39,46 +40,44 @@ module _ (text : List ℕ) (start : ℕ) (found : lines_at text start ≡ after_
 
 -- ---- its limits
 
-module _ (n m place end : ℕ) where
-  pub many-variables : max_variables < n → within_limits (Sizes.Are n m) place end ≡ Problem.Refused (Refusal.SizeOverLimit place)
-  many-variables h = rw (lt-leb n max_variables h)
+module _ (sizes : Sizes) (place end : ℕ) where
+  pub many-variables : max_variables < sizes.variables → within_limits (Some sizes) place end ≡ Err (Refusal.SizeOverLimit place)
+  many-variables h = rw (lt-leb sizes.variables max_variables h)
 
-  pub many-clauses : n ≤ max_variables → max_clauses < m → within_limits (Sizes.Are n m) place end ≡ Problem.Refused (Refusal.SizeOverLimit place)
-  many-clauses h k = rw (le-leb n max_variables h, lt-leb m max_clauses k)
+  pub many-clauses : sizes.variables ≤ max_variables → max_clauses < sizes.clauses → within_limits (Some sizes) place end ≡ Err (Refusal.SizeOverLimit place)
+  many-clauses h k = rw (le-leb sizes.variables max_variables h, lt-leb sizes.clauses max_clauses k)
 
-  pub within : n ≤ max_variables → m ≤ max_clauses → within_limits (Sizes.Are n m) place end ≡ Problem.Line n m end
-  within h k = rw (le-leb n max_variables h, le-leb m max_clauses k)
+  pub within : sizes.variables ≤ max_variables → sizes.clauses ≤ max_clauses → within_limits (Some sizes) place end ≡ Ok (record { sizes = sizes; end = end })
+  within h k = rw (le-leb sizes.variables max_variables h, le-leb sizes.clauses max_clauses k)
 
 -- ---- a problem line: it is within its limits, and the words past its end are those of the lines after it
 
-pub record Limits (text : List ℕ) (n m end : ℕ) : Type 0 where
-  pub variables : n ≤ max_variables
-  pub clauses : m ≤ max_clauses
-  pub between : Between text end
-  pub body : words_past text end ≡ words_after (Problem.Line n m end) text
+pub record Limits (text : List ℕ) (p : Problem) : Type 0 where
+  pub variables : p.sizes.variables ≤ max_variables
+  pub clauses : p.sizes.clauses ≤ max_clauses
+  pub between : Between text p.end
+  pub body : words_past text p.end ≡ words_after (Ok p) text
 
-pub line-limits : (text : List ℕ) (n m end : ℕ) → problem_of text ≡ Problem.Line n m end → Limits text n m end
+pub line-limits : (text : List ℕ) (p : Problem) → problem_of text ≡ Ok p → Limits text p
 unfolding problem_of problem_in
-line-limits text n m end e = by (lines_from text).0 (lines_from text).1 (lt-or-le (lines_from text).0 (length text))
+line-limits text p e = by (lines_from text).0 (lines_from text).1 (lt-or-le (lines_from text).0 (length text))
   where
-    limits : (start : ℕ) → start < length text → (s : Sizes) → within_limits s start (run_end is_line_byte text start) ≡ Problem.Line n m end → Limits text n m end
-    limits start h Sizes.Not q = never (cc)
-    limits start h (Sizes.Are a b) q = go (leb a max_variables && leb b max_clauses) refl q
+    limits : (start : ℕ) → start < length text → (s : Option Sizes) → within_limits s start (run_end is_line_byte text start) ≡ Ok p → Limits text p
+    limits start h None q = never (cc)
+    limits start h (Some s) q = go (leb s.variables max_variables && leb s.clauses max_clauses) refl q
       where
-        go : (t : Bool) → (leb a max_variables && leb b max_clauses) ≡ t
-            → cond t (Problem.Line a b (run_end is_line_byte text start)) (Problem.Refused (Refusal.SizeOverLimit start)) ≡ Problem.Line n m end → Limits text n m end
+        go : (t : Bool) → (leb s.variables max_variables && leb s.clauses max_clauses) ≡ t
+            → cond t (Ok (record { sizes = s; end = run_end is_line_byte text start })) (Err (Refusal.SizeOverLimit start)) ≡ Ok p → Limits text p
         go false k q = never (cc)
         go true k q =
-            let same-n : a ≡ n = cc in
-            let same-m : b ≡ m = cc in
-            let same_end : run_end is_line_byte text start ≡ end = cc in
-            record {
-              variables = omega (arith, leb-true a max_variables (and_l (leb a max_variables) (leb b max_clauses) k));
-              clauses = omega (arith, leb-true b max_clauses (and_r (leb a max_variables) (leb b max_clauses) k));
-              between = rw same_end at (line-between text start (omega arith));
-              body = rw (← same_end) (past-line text (run_end is_line_byte text start) (run-ended is_line_byte text start));
-            }
+            let same : ◌≡◌ {A = Problem} (record { sizes = s; end = run_end is_line_byte text start }) p = cc in
+            rw (← same) (record {
+              variables = leb-true s.variables max_variables (and_l (leb s.variables max_variables) (leb s.clauses max_clauses) k);
+              clauses = leb-true s.clauses max_clauses (and_r (leb s.variables max_variables) (leb s.clauses max_clauses) k);
+              between = line-between text start (omega arith);
+              body = past-line text (run_end is_line_byte text start) (run-ended is_line_byte text start);
+            })
 
-    by : (start : ℕ) → after_comments (lines_at text 0) ≡ lines_at text start → (start < length text) ⊎ (length text ≤ start) → Limits text n m end
+    by : (start : ℕ) → after_comments (lines_at text 0) ≡ lines_at text start → (start < length text) ⊎ (length text ≤ start) → Limits text p
     by start from (inl h) = limits start h (sizes_of (run is_line_byte (drop start text))) (rw (from, line-here text start h) at e)
     by start from (inr h) = never (cc (rw (from, no_line text start h) at e))

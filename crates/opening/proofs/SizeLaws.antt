@@ -1,38 +1,33 @@
 -- What a line says: the same bytes, the four words, and the first two of them one after the other. Assumes nothing.
 use mathlib.Core.Path.{◌≡◌, refl, sym, ap, ◌∙◌}
-use mathlib.Core.Bool.{Bool, true, false, cond, not, ◌&&◌, and-false}
+use mathlib.Core.Bool.{Bool, true, false, cond, ◌&&◌, and-false}
 use mathlib.Core.List.{List, [], ◌∷◌}
 use mathlib.Core.Logic.{⊎_elim}
 use Prim.Native.Nat.{ℕ, suc, ◌+◌, ◌≤◌, ◌<◌}
 use native.Mathlib.Omega.{arith}
-use borrow.Author.Tests.{eq-eqb, ne_eqb, eqb-true}
-use lib.ListN.{length, drop, get_or, length-drop, drop_of_length-le}
+use borrow.Author.Tests.{eq-eqb, eqb-true}
+use lib.ListN.{length, drop, get_or, length-drop}
 use lib.Dec.{eqb}
+use Rattle.std.proofs.Common.{None}
+use Rattle.std.specs.Cmp.Lexicographic.{pointwise}
 use Rattle.lists.proofs.Cases.{never, and_l, and_r, lt-or-le}
-use Rattle.lists.proofs.Steps.{drop-step}
 use Rattle.dimacs.specs.Words.{is_blank, is_word_byte, run, run_end, Piece, words_at}
 use Rattle.dimacs.specs.Numbers.{Numeral, numeral_of, word_at}
 use Rattle.dimacs.specs.declared.Number.{Number}
 use Rattle.dimacs.proofs.Runs.{run-stop, run-within}
 use Rattle.dimacs.proofs.WordLaws.{piece_at, no_word, next_word}
-use Rattle.opening.specs.Problem.{same_bytes, four_words, sizes_of}
-use Rattle.opening.specs.declared.Sizes.{Sizes}
+use Rattle.opening.specs.Problem.{same_bytes, sizes_if, four_words, sizes_of}
 use Rattle.opening.proofs.NextNumber.{Missing, none, bad}
 
 -- ---- the same bytes
 
-module _ (a b : List ℕ) (i : ℕ) where
-  pub same-miss : i < length a → i < length b → (get_or a i 0 ≡ get_or b i 0 → ⊥) → same_bytes (drop i a) (drop i b) ≡ false
-  unfolding same_bytes
-  same-miss h k e = rw (drop-step a i 0 h, drop-step b i 0 k, ne_eqb (get_or a i 0) (get_or b i 0) e)
-
-  pub same-hit : i < length a → i < length b → get_or a i 0 ≡ get_or b i 0 → same_bytes (drop i a) (drop i b) ≡ same_bytes (drop (i + 1) a) (drop (i + 1) b)
-  unfolding same_bytes
-  same-hit h k e = rw (drop-step a i 0 h, drop-step b i 0 k, eq-eqb (get_or a i 0) (get_or b i 0) e)
-
-  pub same_end : length a ≤ i → length b ≤ i → same_bytes (drop i a) (drop i b) ≡ true
-  unfolding same_bytes
-  same_end h k = rw (drop_of_length-le a {i = i} h, drop_of_length-le b {i = i} k)
+-- the library's test is the paper's
+pub same-pointwise : (a b : List ℕ) → pointwise eqb a b ≡ same_bytes a b
+unfolding same_bytes
+same-pointwise [] [] = refl
+same-pointwise [] (y ∷ b) = refl
+same-pointwise (x ∷ a) [] = refl
+same-pointwise (x ∷ a) (y ∷ b) = ap (λ (t : Bool). eqb x y && t) (same-pointwise a b)
 
 pub same-lengths : (a b : List ℕ) → (length a ≡ length b → ⊥) → same_bytes a b ≡ false
 unfolding same_bytes
@@ -56,7 +51,7 @@ word_p = 112 ∷ []
 abbrev word_cnf : List ℕ
 word_cnf = 99 ∷ 110 ∷ 102 ∷ []
 
-not-p : (p : Piece) (ws : List Piece) → same_bytes p.bytes word_p ≡ false → four_words (p ∷ ws) ≡ Sizes.Not
+not-p : (p : Piece) (ws : List Piece) → same_bytes p.bytes word_p ≡ false → four_words (p ∷ ws) ≡ None
 unfolding four_words
 not-p p [] e = refl
 not-p p (cnf ∷ []) e = refl
@@ -64,7 +59,7 @@ not-p p (cnf ∷ n ∷ []) e = refl
 not-p p (cnf ∷ n ∷ m ∷ []) e = rw e
 not-p p (cnf ∷ n ∷ m ∷ more ∷ ws) e = refl
 
-not-cnf : (p cnf : Piece) (ws : List Piece) → same_bytes cnf.bytes word_cnf ≡ false → four_words (p ∷ cnf ∷ ws) ≡ Sizes.Not
+not-cnf : (p cnf : Piece) (ws : List Piece) → same_bytes cnf.bytes word_cnf ≡ false → four_words (p ∷ cnf ∷ ws) ≡ None
 unfolding four_words
 not-cnf p cnf [] e = refl
 not-cnf p cnf (n ∷ []) e = refl
@@ -72,7 +67,7 @@ not-cnf p cnf (n ∷ m ∷ []) e = rw (e, and-false (same_bytes p.bytes word_p))
 not-cnf p cnf (n ∷ m ∷ more ∷ ws) e = refl
 
 module _ (p cnf : Piece) (is-p : same_bytes p.bytes word_p ≡ true) (is-cnf : same_bytes cnf.bytes word_cnf ≡ true) where
-  pub first-missing : (ws : List Piece) → Missing ws → four_words (p ∷ cnf ∷ ws) ≡ Sizes.Not
+  pub first-missing : (ws : List Piece) → Missing ws → four_words (p ∷ cnf ∷ ws) ≡ None
   unfolding four_words
   first-missing [] none = refl
   first-missing (n ∷ []) (bad e) = refl
@@ -80,18 +75,17 @@ module _ (p cnf : Piece) (is-p : same_bytes p.bytes word_p ≡ true) (is-cnf : s
   first-missing (n ∷ m ∷ more ∷ ws) (bad e) = refl
 
   module _ (n : Piece) (x : Number) (is-n : numeral_of n.bytes ≡ Numeral.Is x) where
-    pub second-missing : (ws : List Piece) → Missing ws → four_words (p ∷ cnf ∷ n ∷ ws) ≡ Sizes.Not
+    pub second-missing : (ws : List Piece) → Missing ws → four_words (p ∷ cnf ∷ n ∷ ws) ≡ None
     unfolding four_words
     second-missing [] none = refl
     second-missing (m ∷ []) (bad e) = rw (is-p, is-cnf, is-n, e)
     second-missing (m ∷ more ∷ ws) (bad e) = refl
 
-    pub two-numbers : (m : Piece) (y : Number) → numeral_of m.bytes ≡ Numeral.Is y
-        → four_words (p ∷ cnf ∷ n ∷ m ∷ []) ≡ cond (not x.negative && not y.negative) (Sizes.Are x.size y.size) Sizes.Not
+    pub two-numbers : (m : Piece) (y : Number) → numeral_of m.bytes ≡ Numeral.Is y → four_words (p ∷ cnf ∷ n ∷ m ∷ []) ≡ sizes_if (Numeral.Is x) (Numeral.Is y)
     unfolding four_words
     two-numbers m y is_m = rw (is-p, is-cnf, is-n, is_m)
 
-pub five-words : (p cnf n m more : Piece) (ws : List Piece) → four_words (p ∷ cnf ∷ n ∷ m ∷ more ∷ ws) ≡ Sizes.Not
+pub five-words : (p cnf n m more : Piece) (ws : List Piece) → four_words (p ∷ cnf ∷ n ∷ m ∷ more ∷ ws) ≡ None
 unfolding four_words
 five-words p cnf n m more ws = refl
 
@@ -113,11 +107,11 @@ module _ (line : List ℕ) where
   unfolding is_blank
   starts h e = next_word line 0 0 (sym (run-stop is_blank line 0 h (rw e))) h
 
-  pub no-p : same_bytes (word_at line 0) word_p ≡ false → sizes_of line ≡ Sizes.Not
+  pub no-p : same_bytes (word_at line 0) word_p ≡ false → sizes_of line ≡ None
   unfolding sizes_of
   no-p e = by line refl (eqb (get_or line 0 0) 112) refl
     where
-      by : (l : List ℕ) → line ≡ l → (t : Bool) → eqb (get_or line 0 0) 112 ≡ t → cond t (four_words (words_at line 0)) Sizes.Not ≡ Sizes.Not
+      by : (l : List ℕ) → line ≡ l → (t : Bool) → eqb (get_or line 0 0) 112 ≡ t → cond t (four_words (words_at line 0)) None ≡ None
       by l q false k = refl
       by [] q true k = never (rw q at k)
       by (b ∷ r) q true k =
@@ -139,7 +133,7 @@ module _ (line : List ℕ) where
       }
 
   module _ (cnf : ℕ) (found : cnf ≡ run_end is_blank line 1) where
-    pub no-cnf : same_bytes (word_at line cnf) word_cnf ≡ false → four_words (piece_at line 0 ∷ words_at line 1) ≡ Sizes.Not
+    pub no-cnf : same_bytes (word_at line cnf) word_cnf ≡ false → four_words (piece_at line 0 ∷ words_at line 1) ≡ None
     unfolding four_words
     no-cnf e =
         ⊎_elim (λ h. rw (next_word line 1 cnf found h) (not-cnf (piece_at line 0) (piece_at line cnf) (words_at line (run_end is_word_byte line cnf)) e))

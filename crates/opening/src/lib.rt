@@ -6,145 +6,130 @@
 ghost use Rattle.std.specs.Prelude.{◌≡◌, true, [], ◌∷◌, ℕ, ◌≤◌, length};
 ghost use Rattle.lists.specs.Writing.{overwritten};
 ghost use Rattle.dimacs.specs.Words.{Piece, words_at};
-ghost use Rattle.dimacs.specs.Numbers.{word_at};
+ghost use Rattle.dimacs.specs.Numbers.{Numeral, word_at};
 ghost use Rattle.comments.specs.Comments.{words_past, Between};
 ghost use Rattle.store.specs.Stores.{max_variables};
 ghost use Rattle.keys.specs.Keys.{keys_of};
-ghost use Rattle.opening.specs.Problem.{same_bytes, four_words, sizes_of, problem_of};
+ghost use Rattle.opening.specs.Problem.{same_bytes, sizes_if, four_words, sizes_of, problem_of};
 ghost use Rattle.opening.specs.Clauses.{scan_from, literals_in, ends_from};
 ghost use Rattle.opening.specs.Opening.{body_of, formula_of, opened_by, written};
-ghost use Rattle.opening.specs.declared.Scanned.{Scanned};
 
-use dimacs::Reading;
+use dimacs::Number;
 use store::literal;
 use store::record::Record;
 use store::refusal::Refusal;
 
-// What a line says if it is a problem line.
+// What a problem line says, and what opening answers: n and m.
 #[derive(Clone, Copy)]
-pub enum Sizes {
-    Are(u32, u32),
-    Not,
+pub struct Sizes {
+    pub variables: usize,
+    pub clauses: usize,
 }
 
-// The problem line: n, m and its end.
+// The problem line: what it says, and its end.
 #[derive(Clone, Copy)]
-pub enum Problem {
-    Line(usize, usize, usize),
-    Refused(Refusal),
-}
-
-// The clauses: how many literals they have.
-#[derive(Clone, Copy)]
-pub enum Scanned {
-    Done(usize),
-    Refused(Refusal),
-}
-
-// What opening answers: n and m, or a refusal.
-#[derive(Clone, Copy)]
-pub enum Opened {
-    Open(usize, usize),
-    Refused(Refusal),
+pub struct Problem {
+    pub sizes: Sizes,
+    pub end: usize,
 }
 
 // Opens a text: literals, ends and keys are written over from their start, and not at all where the text is refused.
-pub fn open(text: &[u8], literals: &mut [u16], ends: &mut [u16], keys: &mut [u64]) -> Opened
+pub fn open(
+    text: &[u8],
+    literals: &mut [u16],
+    ends: &mut [u16],
+    keys: &mut [u64],
+) -> Result<Sizes, Refusal>
     ensures answer { let room = length keys.old in
         result ≡ opened_by text.now (length literals.old) (length ends.old) room }
     ensures literals { literals.new ≡ written result (literals_in (body_of text.now)) literals.old }
     ensures ends { ends.new ≡ written result (ends_from 0 (body_of text.now)) ends.old }
     ensures keys { keys.new ≡ written result (keys_of (formula_of text.now)) keys.old }
 {
-    match problem_of(text) {
-        Problem::Refused(refusal) => {
-            return Opened::Refused(refusal);
-        }
-        Problem::Line(n, m, end) => match scan(text, end, n, m) {
-            Scanned::Refused(refusal) => {
-                return Opened::Refused(refusal);
-            }
-            Scanned::Done(count) => {
-                if literals.len() < count {
-                    return Opened::Refused(Refusal::TooShort(count));
-                }
-                if ends.len() < m {
-                    return Opened::Refused(Refusal::TooShort(m));
-                }
-                if keys.len() < m {
-                    return Opened::Refused(Refusal::TooShort(m));
-                }
-                fill(text, end, literals, ends);
-                keys::write(literals, ends, m, keys);
-                return Opened::Open(n, m);
-            }
-        },
+    let problem = problem_of(text)?;
+    let n = problem.sizes.variables;
+    let m = problem.sizes.clauses;
+    let count = scan(text, problem.end, n, m)?;
+    if literals.len() < count {
+        return Err(Refusal::TooShort(count));
     }
+    if ends.len() < m {
+        return Err(Refusal::TooShort(m));
+    }
+    if keys.len() < m {
+        return Err(Refusal::TooShort(m));
+    }
+    fill(text, problem.end, literals, ends);
+    keys::write(literals, ends, m, keys);
+    Ok(problem.sizes)
 }
 
 // The problem line is the first line that is no comment; its n and m must be within their limits.
-fn problem_of(text: &[u8]) -> Problem
+fn problem_of(text: &[u8]) -> Result<Problem, Refusal>
     ensures { result ≡ problem_of text.now }
 {
     let start = comments::first_line(text);
     if text.len() <= start {
-        return Problem::Refused(Refusal::NoProblemLine(text.len()));
+        return Err(Refusal::NoProblemLine(text.len()));
     }
     let end = dimacs::line_end(text, start);
-    let Sizes::Are(n, m) = sizes_of(&text[start..end]) else {
-        return Problem::Refused(Refusal::NoProblemLine(start));
+    let Some(sizes) = sizes_of(&text[start..end]) else {
+        return Err(Refusal::NoProblemLine(start));
     };
-    let variables = n as usize;
-    let clauses = m as usize;
-    if Record::MAX_VARIABLES < variables {
-        return Problem::Refused(Refusal::SizeOverLimit(start));
+    if Record::MAX_VARIABLES < sizes.variables {
+        return Err(Refusal::SizeOverLimit(start));
     }
-    if Record::MAX_CLAUSES < clauses {
-        return Problem::Refused(Refusal::SizeOverLimit(start));
+    if Record::MAX_CLAUSES < sizes.clauses {
+        return Err(Refusal::SizeOverLimit(start));
     }
-    Problem::Line(variables, clauses, end)
+    Ok(Problem { sizes, end })
 }
 
 // What a line says: the word `p` at its start, the word `cnf`, and two numbers.
-fn sizes_of(line: &[u8]) -> Sizes
+fn sizes_of(line: &[u8]) -> Option<Sizes>
     ensures { result ≡ sizes_of line.now }
 {
     if !is_word(line, 0, b"p") {
-        return Sizes::Not;
+        return None;
     }
     let cnf = dimacs::next_word(line, 1);
     if !is_word(line, cnf, b"cnf") {
-        return Sizes::Not;
+        return None;
     }
     two_numbers(line, cnf + 3)
 }
 
 // Two numbers that are not negative, and no word after them: what the four words say where the first two are as they should be.
-fn two_numbers(line: &[u8], at: usize) -> Sizes
+fn two_numbers(line: &[u8], at: usize) -> Option<Sizes>
     ensures { (p cnf : Piece) → same_bytes p.bytes (112 ∷ []) ≡ true
         → same_bytes cnf.bytes (99 ∷ 110 ∷ 102 ∷ []) ≡ true
         → result ≡ four_words (p ∷ cnf ∷ words_at line.now at) }
 {
     let first = dimacs::next_word(line, at);
-    let Reading::Found(n, past_n) = dimacs::read(line, first) else {
-        return Sizes::Not;
+    let Ok((n, past_n)) = dimacs::read(line, first) else {
+        return None;
     };
-    let after_n = past_n.at;
-    let second = dimacs::next_word(line, after_n);
-    let Reading::Found(m, past_m) = dimacs::read(line, second) else {
-        return Sizes::Not;
+    let second = dimacs::next_word(line, past_n.at);
+    let Ok((m, past_m)) = dimacs::read(line, second) else {
+        return None;
     };
-    let after_m = past_m.at;
-    if dimacs::next_word(line, after_m) < line.len() {
-        return Sizes::Not;
+    if dimacs::next_word(line, past_m.at) < line.len() {
+        return None;
     }
-    if n.negative {
-        return Sizes::Not;
+    sizes_if(n, m)
+}
+
+// n and m, where neither is negative.
+fn sizes_if(n: Number, m: Number) -> Option<Sizes>
+    ensures { result ≡ sizes_if (Numeral.Is n) (Numeral.Is m) }
+{
+    if n.negative || m.negative {
+        return None;
     }
-    if m.negative {
-        return Sizes::Not;
-    }
-    Sizes::Are(n.size, m.size)
+    Some(Sizes {
+        variables: n.size as usize,
+        clauses: m.size as usize,
+    })
 }
 
 // Whether the word at a place has these bytes.
@@ -153,27 +138,11 @@ fn is_word(line: &[u8], at: usize, bytes: &[u8]) -> bool
     ensures { result ≡ same_bytes (word_at line.now at) bytes.now }
 {
     let end = dimacs::word_end(line, at);
-    same_bytes(&line[at..end], bytes)
-}
-
-fn same_bytes(a: &[u8], b: &[u8]) -> bool
-    ensures { result ≡ same_bytes a.now b.now }
-{
-    if a.len() != b.len() {
-        return false;
-    }
-    let mut i = 0;
-    while i < a.len() {
-        if a[i] != b[i] {
-            return false;
-        }
-        i += 1;
-    }
-    true
+    &line[at..end] == bytes
 }
 
 // Judges the words past the end of the problem line and counts the literals. After m clauses every word is refusal 6, so it is not even read.
-fn scan(text: &[u8], start: usize, n: usize, m: usize) -> Scanned
+fn scan(text: &[u8], start: usize, n: usize, m: usize) -> Result<usize, Refusal>
     requires { Between text.now start }
     ensures { result ≡ scan_from (length text.now) n m 0 0 (words_past text.now start) }
 {
@@ -184,25 +153,25 @@ fn scan(text: &[u8], start: usize, n: usize, m: usize) -> Scanned
         let place = comments::next_word(text, at);
         if closed == m {
             if place < text.len() {
-                return Scanned::Refused(Refusal::ClauseCount(place));
+                return Err(Refusal::ClauseCount(place));
             }
-            return Scanned::Done(count);
+            return Ok(count);
         }
         if text.len() <= place {
-            return Scanned::Refused(Refusal::ClauseCount(text.len()));
+            return Err(Refusal::ClauseCount(text.len()));
         }
-        let Reading::Found(number, next) = dimacs::read(text, place) else {
-            return Scanned::Refused(Refusal::NotNumber(place));
+        let Ok((number, next)) = dimacs::read(text, place) else {
+            return Err(Refusal::NotNumber(place));
         };
         let variable = number.size as usize;
         if variable == 0 {
             closed += 1;
         } else {
             if n < variable {
-                return Scanned::Refused(Refusal::LiteralBeyond(place));
+                return Err(Refusal::LiteralBeyond(place));
             }
             if count == Record::MAX_LITERALS {
-                return Scanned::Refused(Refusal::TooManyLiterals(place));
+                return Err(Refusal::TooManyLiterals(place));
             }
             count += 1;
         }
@@ -215,7 +184,7 @@ fn fill(text: &[u8], start: usize, literals: &mut [u16], ends: &mut [u16])
     requires { let words = words_past text.now start in
         (Between text.now start)
         × ((n : ℕ) × (m : ℕ) × (count : ℕ) × (n ≤ max_variables)
-        × (scan_from (length text.now) n m 0 0 words ≡ Scanned.Done count)
+        × (scan_from (length text.now) n m 0 0 words ≡ Ok count)
         × (count ≤ length literals.old)
         × (m ≤ length ends.old)) }
     ensures literals { let words = words_past text.now start in
@@ -228,7 +197,7 @@ fn fill(text: &[u8], start: usize, literals: &mut [u16], ends: &mut [u16])
     let mut used = 0;
     loop {
         let word = comments::next_word(text, at);
-        let Reading::Found(number, next) = dimacs::read(text, word) else {
+        let Ok((number, next)) = dimacs::read(text, word) else {
             return;
         };
         if number.size == 0 {

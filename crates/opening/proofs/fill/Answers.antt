@@ -1,7 +1,6 @@
 -- `opening::fill` meets its contract. Each turn reads a number and stores it, so that what is still to be stored, stored from where the locals
 -- say, stays the answer; and the scan of what is left is still done, which bounds each store. Assumes nothing.
-use mathlib.Core.Path.{refl, sym, ap, ◌∙◌}
-use mathlib.Core.List.{List}
+use Rattle.std.proofs.Common.{List, refl, sym, ap, ◌∙◌, arith}
 use lib.ListN.{length-set}
 use lib.Seq.{sets}
 use Rattle.dimacs.specs.Words.{Piece}
@@ -10,9 +9,8 @@ use Rattle.opening.specs.Clauses.{literals_in, ends_from}
 use Rattle.opening.proofs.NextNumber.{NextNumber, body-found, body-missing}
 use Rattle.opening.proofs.DoneLaws.{counted, ZeroTurn, zero_turn, LiteralTurn, literal-turn, none_left}
 use Rattle.lists.proofs.Writing.{stored, sets-front}
-use native.Mathlib.Omega.{arith}
 use Rattle.opening.proofs.fill.Goals as goal
-use Rattle.opening.proofs.fill.Goals.{After-code, After-struct_known-else-number-eq0-1, Then-number-eq0}
+use Rattle.opening.proofs.fill.Goals.{Then-number-eq0, Else-number-eq0}
 
 pub loop-number-init : goal.loop-number-init
 loop-number-init c =
@@ -32,31 +30,22 @@ loop-number-init c =
       clauses = sets-front c.args.ends.now (ends_from 0 words) (omega (arith, all.ends, fits.6));
     }
 
-pub shape_of-literals-in_default : goal.shape_of-literals-in_default
-shape_of-literals-in_default c = c.loop-number.invariant.literals-length
-
-pub shape_of-ends-in_default : goal.shape_of-ends-in_default
-shape_of-ends-in_default c = c.loop-number.invariant.ends-length
-
 pub returns-in_default : goal.returns-in_default
 unfolding literals_in ends_from
-returns-in_default c = let l = c.loop-number in
+returns-in_default c =
+    let l = c.loop-number in
     let refused = sym c.read.ensures ∙ c.in_default.is in
-    let no_number = body-missing _ _ _ c.next_word-word.ensures _ refused in
-    let end = none_left _ _ _ _ _ _ _ l.invariant.done no_number in
+    let end = none_left _ _ _ _ _ _ _ l.invariant.done (body-missing _ _ _ c.next_word-word.ensures _ refused) in
     record {
       literals = sym (l.invariant.codes ∙ ap (λ (ws : List Piece). sets l.literals l.used (literals_in ws)) end);
       ends = sym (l.invariant.clauses ∙ ap (λ (ws : List Piece). sets l.ends l.closed (ends_from l.used ws)) end);
     }
 
-pub overflow_cast-ends : goal.overflow_cast-ends
-overflow_cast-ends c = omega (arith, c.loop-number.invariant.used-within)
+-- a 0 was read
+found-zero : (c : Then-number-eq0) → NextNumber c.args.text.now (words_past c.args.text.now) c.loop-number.at c.next_word-word.result c.in-Ok.number c.in-Ok.next.at
+found-zero c = body-found _ _ _ c.next_word-word.ensures _ _ (sym c.read.ensures ∙ c.in-Ok.is)
 
-found : (c : Then-number-eq0) → let text = c.args.text.now in
-    NextNumber text (words_past text) c.loop-number.at c.next_word-word.result c.in-Found.number c.in-Found.next.at
-found c = body-found _ _ _ c.next_word-word.ensures _ _ (sym c.read.ensures ∙ c.in-Found.is)
-
-zero-here : (c : Then-number-eq0) → ZeroTurn _ _ _ _ _ _ _ c.loop-number.invariant.done _ _ (found c).words _ (found c).number
+zero-here : (c : Then-number-eq0) → ZeroTurn _ _ _ _ _ _ _ c.loop-number.invariant.done _ _ (found-zero c).words _ (found-zero c).number
 zero-here c = zero_turn _ _ _ _ _ _ _ _ _ _ _ _ _ c.if-number-eq0.true
 
 pub offset_bounds-ends-closed : goal.offset_bounds-ends-closed
@@ -68,37 +57,8 @@ bounds-ends-closed c = omega (arith, zero-here c)
 pub overflow_add-closed : goal.overflow_add-closed
 overflow_add-closed c = omega (arith, zero-here c)
 
-found-at-After-struct_known-else-number-eq0-1 : (c : After-struct_known-else-number-eq0-1) → let text = c.args.text.now in
-    NextNumber text (words_past text) c.loop-number.at c.next_word-word.result c.in-Found.number c.in-Found.next.at
-found-at-After-struct_known-else-number-eq0-1 c = body-found _ _ _ c.next_word-word.ensures _ _ (sym c.read.ensures ∙ c.in-Found.is)
-
-literal-here : (c : After-struct_known-else-number-eq0-1) → LiteralTurn _ _ _ _ _ _ _ c.loop-number.invariant.done _ _ (found-at-After-struct_known-else-number-eq0-1 c).words _ (found-at-After-struct_known-else-number-eq0-1 c).number
-literal-here c = literal-turn _ _ _ _ _ _ _ _ _ _ _ _ _ c.if-number-eq0.false
-
-pub overflow_cast-number : goal.overflow_cast-number
-overflow_cast-number c = omega (arith, literal-here c)
-
-pub code-requires : goal.code-requires
-code-requires c = omega (arith, literal-here c)
-
-found-at-After-code : (c : After-code) → let text = c.args.text.now in
-    NextNumber text (words_past text) c.loop-number.at c.next_word-word.result c.in-Found.number c.in-Found.next.at
-found-at-After-code c = body-found _ _ _ c.next_word-word.ensures _ _ (sym c.read.ensures ∙ c.in-Found.is)
-
-literal-here-at-After-code : (c : After-code) → LiteralTurn _ _ _ _ _ _ _ c.loop-number.invariant.done _ _ (found-at-After-code c).words _ (found-at-After-code c).number
-literal-here-at-After-code c = literal-turn _ _ _ _ _ _ _ _ _ _ _ _ _ c.if-number-eq0.false
-
-pub offset_bounds-literals-used : goal.offset_bounds-literals-used
-offset_bounds-literals-used c = omega (arith, literal-here-at-After-code c)
-
-pub bounds-literals-used : goal.bounds-literals-used
-bounds-literals-used c = omega (arith, literal-here-at-After-code c)
-
-pub overflow_add-used : goal.overflow_add-used
-overflow_add-used c = omega (arith, literal-here-at-After-code c)
-
 pub loop-number-smaller-then-number-eq0 : goal.loop-number-smaller-then-number-eq0
-loop-number-smaller-then-number-eq0 c = omega (arith, found c)
+loop-number-smaller-then-number-eq0 c = omega (arith, found-zero c)
 
 pub loop-number-preserved-then-number-eq0 : goal.loop-number-preserved-then-number-eq0
 loop-number-preserved-then-number-eq0 c =
@@ -106,7 +66,7 @@ loop-number-preserved-then-number-eq0 c =
     let t = zero-here c in
     record {
       judged = l.invariant.judged;
-      between = (found c).between;
+      between = (found-zero c).between;
       used-within = l.invariant.used-within;
       literals-length = l.invariant.literals-length;
       ends-length = simp length-set l.invariant.ends-length;
@@ -115,16 +75,33 @@ loop-number-preserved-then-number-eq0 c =
       clauses = stored l.ends l.closed l.invariant.clauses t.clauses refl;
     }
 
+-- a literal was read
+found-literal : (c : Else-number-eq0) → NextNumber c.args.text.now (words_past c.args.text.now) c.loop-number.at c.next_word-word.result c.in-Ok.number c.in-Ok.next.at
+found-literal c = body-found _ _ _ c.next_word-word.ensures _ _ (sym c.read.ensures ∙ c.in-Ok.is)
+
+literal-here : (c : Else-number-eq0) → LiteralTurn _ _ _ _ _ _ _ c.loop-number.invariant.done _ _ (found-literal c).words _ (found-literal c).number
+literal-here c = literal-turn _ _ _ _ _ _ _ _ _ _ _ _ _ c.if-number-eq0.false
+
+pub overflow_cast-number : goal.overflow_cast-number
+overflow_cast-number c = omega (arith, literal-here (goal.at.overflow_cast-number c).Else-number-eq0)
+
+pub code-requires : goal.code-requires
+code-requires c = omega (arith, literal-here (goal.at.code-requires c).Else-number-eq0)
+
+pub bounds-literals-used : goal.bounds-literals-used
+bounds-literals-used c = omega (arith, literal-here (goal.at.bounds-literals-used c).Else-number-eq0)
+
 pub loop-number-smaller : goal.loop-number-smaller
-loop-number-smaller c = omega (arith, found-at-After-code c)
+loop-number-smaller c = omega (arith, found-literal (goal.at.loop-number-smaller c).Else-number-eq0)
 
 pub loop-number-preserved : goal.loop-number-preserved
 loop-number-preserved c =
     let l = c.loop-number in
-    let t = literal-here-at-After-code c in
+    let here = (goal.at.loop-number-preserved c).Else-number-eq0 in
+    let t = literal-here here in
     record {
       judged = l.invariant.judged;
-      between = (found-at-After-code c).between;
+      between = (found-literal here).between;
       used-within = omega (arith, t);
       literals-length = simp length-set l.invariant.literals-length;
       ends-length = l.invariant.ends-length;

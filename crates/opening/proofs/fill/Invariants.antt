@@ -9,7 +9,7 @@ use Rattle.comments.specs.Comments.{words_past, Between}
 use Rattle.store.specs.Stores.{max_literals}
 use Rattle.opening.specs.Clauses.{scan_from, literals_in, ends_from}
 use Rattle.lists.specs.Writing.{overwritten}
-use Rattle.opening.specs.declared.Scanned.{Scanned}
+use Rattle.std.proofs.Common.{Ok}
 use Prim.Native.Nat.{◌-◌}
 use lib.ListN.{length}
 use Rattle.opening.proofs.fill.Given as goal
@@ -29,7 +29,7 @@ pub record Inv (text : List ℕ) (start : ℕ) (literals₀ ends₀ literals end
   pub used-within : used ≤ max_literals
   pub literals-length : length literals ≡ length literals₀
   pub ends-length : length ends ≡ length ends₀
-  pub done : scan_from (length text) judged.n judged.m closed used (words_past text at) ≡ Scanned.Done judged.total
+  pub done : scan_from (length text) judged.n judged.m closed used (words_past text at) ≡ Ok judged.total
   pub codes : overwritten (literals_in (words_past text start)) literals₀ ≡ sets literals used (literals_in (words_past text at))
   pub clauses : overwritten (ends_from 0 (words_past text start)) ends₀ ≡ sets ends closed (ends_from used (words_past text at))
 

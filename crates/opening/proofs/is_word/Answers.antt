@@ -1,17 +1,13 @@
 -- `opening::is_word` meets its contract: the word is the part from `at` to where its run ends. Assumes nothing.
-use mathlib.Core.Path.{◌∙◌}
+use Rattle.std.proofs.Common.{◌∙◌, arith}
 use Rattle.dimacs.specs.Words.{is_word_byte}
 use Rattle.dimacs.proofs.Runs.{run-within, run-part}
-use borrow.Author.Rules.{rules}
-use native.Mathlib.Omega.{arith}
+use Rattle.opening.proofs.SizeLaws.{same-pointwise}
 use Rattle.opening.proofs.is_word.Goals as goal
 
-pub slice_bounds-same_bytes-end : goal.slice_bounds-same_bytes-end
-slice_bounds-same_bytes-end c =
-    let a = c.args in
-    omega (arith, run-within is_word_byte a.line.now a.at (search rules))
+pub slice_bounds-eq-end : goal.slice_bounds-eq-end
+slice_bounds-eq-end c = omega (arith, run-within is_word_byte c.args.line.now c.args.at c.requires)
 
 pub returns : goal.returns
 returns c =
-    let a = c.args in
-    c.same_bytes.ensures ∙ rw (c.word_end-end.ensures, run-part is_word_byte a.line.now a.at)
+    rw (← run-part is_word_byte c.args.line.now c.args.at, ← c.word_end-end.ensures) (c.eq.ensures ∙ same-pointwise _ _)

@@ -1,6 +1,7 @@
 // An index of the numbers 0, 1, .. by bucket. `heads` has for each bucket the last number put in it, `nexts` for each number the one put in
 // before it in the same bucket; both count from 1, and 0 stands for none. What is in which bucket is the caller's to say. The idea of the
 // proof: the head of a bucket is the last in it of the numbers below k, and what stands at c in `nexts` is what that head was when k was c.
+// `head` and `next` answer 0 for none and no Option: the search for an image chooses between two such numbers without a branch, and has more instructions with an Option.
 #![tactic(auto)]
 
 ghost use Rattle.std.specs.Prelude.{◌≡◌, ℕ, ◌+◌, ◌<◌, length, get_or};

@@ -1,7 +1,6 @@
 -- Refusals by their numbers and places (document 01, "Turned back by what was lent", "Turned back by the store"; 30 and 31 by document 02, CR 3 and CR 8). Assumes nothing.
 use Rattle.std.specs.Prelude.{ℕ, List, Result, Ok, Err}
 use Rattle.lists.specs.Writing.{overwritten}
-use Rattle.store.specs.declared.answer.Answer.{Answer}
 use Rattle.store.specs.declared.refusal.Refusal.{Refusal}
 
 -- What a call says in document 01's terms: its values, or the number and the place of a refusal.
@@ -60,15 +59,10 @@ place_of Refusal.MovesNothing = 0
 abbrev pub said_refused : {Values : Type 0} → Refusal → Said Values
 said_refused r = refused (number_of r) (place_of r)
 
--- what an answer with one value says
-abbrev pub said : Answer → Said ℕ
-said (Answer.Value value) = done value
-said (Answer.Refused r) = said_refused r
-
 -- what a result says: the values that the call gives, or its refusal
-abbrev pub said_result : {Values : Type 0} → Result Values Refusal → Said Values
-said_result (Ok values) = done values
-said_result (Err r) = said_refused r
+abbrev pub said : {Values : Type 0} → Result Values Refusal → Said Values
+said (Ok values) = done values
+said (Err r) = said_refused r
 
 -- what is left by a call: changed where it answers, the same where it refuses
 abbrev pub unless_refused : {Values Left : Type 0} → Said Values → Left → Left → Left

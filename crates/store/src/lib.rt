@@ -2,7 +2,6 @@
 // (document 01, "Plain formula" and "Turned back by the store").
 #![tactic(auto)]
 
-pub mod answer;
 pub mod clauses;
 pub mod form;
 pub mod literal;

@@ -1,27 +1,30 @@
 -- Keys: clauses with the same literals have one, and of clauses that have one neither is a part of the other. And what a table of the images' places sends a clause to is its
 -- image. Assumes nothing.
-use mathlib.Core.Path.{◌≡◌, refl, sym, ap₂, ◌∙◌}
+use mathlib.Core.Path.{◌≡◌, refl, sym, ap, ap₂, ◌∙◌}
 use mathlib.Core.Bool.{true, false}
 use mathlib.Core.List.{List, [], ◌∷◌}
 use mathlib.Core.Logic.{⊎_elim}
-use Prim.Native.Nat.{ℕ, ◌<◌}
+use Prim.Native.Nat.{ℕ, ◌-◌, ◌≤◌, ◌<◌}
+use borrow.Author.Tests.{eq-eqb, ne_eqb}
 use native.Mathlib.Omega.{arith}
-use lib.ListN.{length}
+use lib.ListN.{length, get_or}
 use Rattle.lists.specs.Tests.{all_of, has}
 use Rattle.lists.proofs.Cases.{bool-ext, not_so, and_l, and_r, lt-or-le}
 use Rattle.lists.proofs.Members.{all-has}
 use Rattle.store.specs.Literals.{is_literal}
-use Rattle.store.specs.Stores.{max_variables}
+use Rattle.store.specs.Stores.{clause_at, max_variables}
+use Rattle.store.proofs.Cuts.{clauses-count, clause-is}
 use Rattle.store.proofs.FormLaws.{literal-low}
 use Rattle.numbers.specs.Numbers.{numbers}
 use Rattle.keys.specs.Keys.{key_of}
-use Rattle.keys.specs.Marks.{sent_clause}
+use Rattle.keys.specs.Marks.{Marked, sent_clause}
 use Rattle.keys.proofs.KeyLaws.{same_key}
 use Rattle.keys.proofs.Counts.{whole}
+use Rattle.keys.proofs.RightLaws.{right-at}
 use Rattle.symmetry.specs.Sets.{within, same_set}
 use Rattle.symmetry.specs.Sought.{Sought}
 use Rattle.symmetry.specs.Symmetry.{clause_image}
-use Rattle.symmetry.specs.Fitting.{ImagePlaces}
+use Rattle.symmetry.specs.Fitting.{RightClauses, ImagePlaces}
 use Rattle.symmetry.specs.Index.{bucket_count, bucket_of}
 use Rattle.symmetry.proofs.SetLaws.{has-iff, same_set-iff}
 
@@ -53,6 +56,17 @@ same-by-part a b ga gb e = bool-ext (same_set a b) (within b a) to from
         let rest = whole b a gb ga (sym e) part in
         (same_set-iff a b).1 (λ x. (λ m. (has-iff b x).0 (rest x ((has-iff a x).1 m)), λ m. (has-iff a x).0 (part x ((has-iff b x).1 m))))
 
+-- by the mark at a code's place: whether the code is one of those that have it
+module _ (mark : ℕ) (codes marks : List ℕ) (marked : Marked mark codes marks) (code place : ℕ) (good : is_literal max_variables code ≡ true) (at : place ≡ code - 2) where
+  low : 2 ≤ code
+  low = omega (arith, literal-low max_variables code good)
+
+  pub has-marked : get_or marks place 0 ≡ mark → has codes code ≡ true
+  has-marked e = sym (marked code low) ∙ rw (← at) (eq-eqb _ mark e)
+
+  pub has-not_marked : (get_or marks place 0 ≡ mark → ⊥) → has codes code ≡ false
+  has-not_marked n = sym (marked code low) ∙ rw (← at) (ne_eqb _ mark n)
+
 -- what has a mark has one key
 pub one_key : (mark : ℕ) (marks a b : List ℕ) → Sought mark marks a → Sought mark marks b → key_of a ≡ key_of b
 one_key mark marks a b s t = same_key numbers a b (λ x. ⊎_elim (λ h. none a s x h ∙ sym (none b t x h)) (λ h. sym (s.marked x h) ∙ t.marked x h) (lt-or-le x 2))
@@ -70,3 +84,9 @@ sent-image row table t (code ∷ clause) e =
 
 pub bucket-low : (key : ℕ) → bucket_of key < bucket_count
 bucket-low key = omega arith
+
+-- the key stored for a clause is its own
+pub stored-key : (m : ℕ) (literals ends keys : List ℕ) → RightClauses m literals ends keys → (c : ℕ) → c < m → get_or keys c 0 ≡ key_of (clause_at literals ends c)
+stored-key m literals ends keys f c h =
+    right-at _ _ f.keys-right c (omega (arith, clauses-count literals ends m f.formula.clauses.known))
+    ∙ ap key_of (clause-is literals ends m c f.formula.clauses.known h)

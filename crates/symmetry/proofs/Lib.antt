@@ -3,6 +3,7 @@ pub mod ImageLaws
 pub mod JudgedLaws
 pub mod Missing
 pub mod KeyLaws
+pub mod Turn
 pub mod Looking
 pub mod Onto
 pub mod Theorem

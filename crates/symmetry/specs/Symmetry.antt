@@ -1,6 +1,6 @@
 -- Images and symmetries (document 01, "Permutations"): "A clause's image replaces each variable i by p(i) and keeps signs. .. p is a symmetry when
 -- the set of images equals the set of clauses." Where p(i) has a sign too, "the image of a literal takes its sign from both" (document 02, CR 6). Assumes nothing.
-use Rattle.std.specs.Prelude.{ℕ, ◌+◌, ◌-◌, Bool, cond, ◌||◌, List, [], ◌∷◌, map, get_or}
+use Rattle.std.specs.Prelude.{ℕ, zero, suc, Option, Some, None, ◌+◌, ◌-◌, Bool, cond, ◌||◌, List, [], ◌∷◌, map, get_or}
 use Rattle.lists.specs.Tests.{any_of}
 use Rattle.store.specs.Literals.{variable_of, is_negative, opposite_of}
 use Rattle.symmetry.specs.Sets.{same_set, SameFormula}
@@ -33,3 +33,8 @@ missing_from row all k (clause ∷ clauses) = cond (has_opposites clause || has_
 -- "11 gives the first of these whose image is missing, by its number in the whole formula"
 abbrev pub first_missing : List ℕ → List (List ℕ) → ℕ
 first_missing row formula = missing_from row (judged formula) 1 formula
+
+-- that number as an answer: none for 0
+unfoldable pub number_or_none : ℕ → Option ℕ
+number_or_none zero = None
+number_or_none (suc k) = Some (suc k)

@@ -22,13 +22,11 @@ pub fn has_opposites(
         × (length marks.now ≡ number_count) }
     ensures { result ≡ has_opposites (sent_clause places.now clause.now) }
 {
-    let mut i = 0;
-    while i < clause.len() {
-        let image = keys::sent(places, literal::wide(clause[i])) as u32 + 2;
+    for code in clause {
+        let image = keys::sent(places, u32::from(*code)) as u32 + 2;
         if marks[keys::place(literal::opposite(image))] == mark {
             return true;
         }
-        i += 1;
     }
     false
 }

@@ -28,7 +28,7 @@ ghost use Rattle.numbers.specs.Numbers.{numbers, number_count};
 ghost use Rattle.keys.specs.Keys.{key_of};
 ghost use Rattle.keys.specs.Marks.{Places};
 ghost use Rattle.symmetry.specs.Sets.{same_set};
-ghost use Rattle.symmetry.specs.Symmetry.{image_of, missing_from, first_missing};
+ghost use Rattle.symmetry.specs.Symmetry.{image_of, missing_from, first_missing, number_or_none};
 ghost use Rattle.symmetry.specs.Fitting.{RightClauses, RowFits, ImagePlaces};
 ghost use Rattle.symmetry.specs.Sought.{Sought, SoughtKey};
 ghost use Rattle.symmetry.specs.Index.{Indexed};
@@ -36,8 +36,8 @@ ghost use Rattle.symmetry.specs.Index.{Indexed};
 use store::record::Record;
 use store::{clauses, literal};
 
-// The number, from 1, of the first of m clauses that has no contradictory pair and whose image under a row is missing among them; 0 where none is. The table is that of
-// the numbers.
+// The number, from 1, of the first of m clauses that has no contradictory pair and whose image under a row is missing among them, if one is. The table is that of the
+// numbers.
 pub fn first_missing(
     literals: &[u16],
     ends: &[u16],
@@ -45,9 +45,9 @@ pub fn first_missing(
     m: usize,
     row: &[u16],
     table: &[u64; numbers::COUNT],
-) -> usize
+) -> Option<usize>
     requires { RowFits m literals.now ends.now keys.now row.now × (table.now ≡ numbers) }
-    ensures { result ≡ first_missing row.now (clauses_in m literals.now ends.now) }
+    ensures { result ≡ number_or_none (first_missing row.now (clauses_in m literals.now ends.now)) }
 {
     let mut places = [0u16; numbers::COUNT];
     image_places(row, &mut places);
@@ -65,10 +65,8 @@ fn image_places(row: &[u16], places: &mut [u16])
         × (length places.old ≡ number_count) }
     ensures { ImagePlaces row.now places.new }
 {
-    let mut code = 2;
-    while literal::variable(code) <= row.len() {
+    for code in 2..2 * (row.len() as u32 + 1) {
         places[keys::place(code)] = keys::place(image(row, code)) as u16;
-        code += 1;
     }
 }
 
@@ -82,28 +80,26 @@ fn first_missing_by(
     table: &[u64; numbers::COUNT],
     heads: &[u16],
     nexts: &[u16],
-) -> usize
+) -> Option<usize>
     requires { RightClauses m literals.now ends.now keys.now
         × Places places.now
         × (table.now ≡ numbers)
         × Indexed m keys.now heads.now nexts.now }
     ensures { let formula = clauses_in m literals.now ends.now in
         ((row : List ℕ) → ImagePlaces row places.now → all_of (all_of (is_literal (length row))) formula ≡ true
-        → result ≡ missing_from row formula 1 formula) }
+        → result ≡ number_or_none (missing_from row formula 1 formula)) }
 {
     let mut marks = [0u16; numbers::COUNT];
-    let mut c = 0;
-    while c < m {
+    for c in 0..m {
         let key = keys::key_at(literals, ends, m, c, places, table, &mut marks);
         let mark = (c + 1) as u16;
-        if !has_image(key, mark, &marks, literals, ends, keys, m, heads, nexts) {
-            if !judged::has_opposites(clauses::clause(literals, ends, m, c), places, mark, &marks) {
-                return c + 1;
-            }
+        if !has_image(key, mark, &marks, literals, ends, keys, m, heads, nexts)
+            && !judged::has_opposites(clauses::clause(literals, ends, m, c), places, mark, &marks)
+        {
+            return Some(c + 1);
         }
-        c += 1;
     }
-    0
+    None
 }
 
 // Whether the literals that have this key and this mark are, as a set, one of the m clauses: one of those in the key's bucket, then.
@@ -145,10 +141,7 @@ fn has_image(
 fn nearer(stored: u64, key: u64, first: usize, next: usize) -> usize
     ensures { result ≡ cond (eqb stored key) first next }
 {
-    if stored == key {
-        return first;
-    }
-    next
+    if stored == key { first } else { next }
 }
 
 // Whether the literals that have this key and this mark are another of the m clauses as a set: they are compared in full only where the keys agree.
@@ -183,12 +176,10 @@ fn is_image(clause: &[u16], mark: u16, marks: &[u16]) -> bool
         × (length marks.now ≡ number_count) }
     ensures { (image : List ℕ) → Sought mark marks.now image → result ≡ same_set image clause.now }
 {
-    let mut i = 0;
-    while i < clause.len() {
-        if marks[keys::place(literal::wide(clause[i]))] != mark {
+    for code in clause {
+        if marks[keys::place(u32::from(*code))] != mark {
             return false;
         }
-        i += 1;
     }
     true
 }
@@ -198,9 +189,10 @@ fn image(row: &[u16], code: u32) -> u32
     requires { is_literal (length row.now) code ≡ true }
     ensures { result ≡ image_of row.now code }
 {
-    let image = literal::wide(row[literal::variable(code) - 1]);
+    let image = u32::from(row[literal::variable(code) - 1]);
     if literal::is_negative(code) {
-        return literal::opposite(image);
+        literal::opposite(image)
+    } else {
+        image
     }
-    image
 }

@@ -1,6 +1,6 @@
 -- `symmetry::first_missing` meets its contract: the places of the images and an index of the keys are made in scratch memory, and the clauses are gone through by them.
 -- Assumes nothing.
-use mathlib.Core.Path.{refl, sym, ◌∙◌}
+use mathlib.Core.Path.{refl, sym, ap, ◌∙◌}
 use lib.ListN.{length}
 use Rattle.store.proofs.Cuts.{clauses-count}
 use Rattle.store.specs.Stores.{max_variables}
@@ -8,6 +8,7 @@ use Rattle.store.proofs.Within.{formula-within}
 use Rattle.store.proofs.Formed.{row_of}
 use Rattle.keys.proofs.MarkLaws.{unmarked}
 use Rattle.keys.proofs.RightLaws.{right-long}
+use Rattle.symmetry.specs.Symmetry.{number_or_none}
 use Rattle.symmetry.proofs.Theorem.{missing-among-all}
 use native.Mathlib.Omega.{arith}
 use Rattle.symmetry.proofs.first_missing.Goals as goal
@@ -39,4 +40,4 @@ pub returns : goal.returns
 returns c = let fits = c.requires.0 in
     let row = c.args.row.now in
     c.first_missing_by.ensures row c.image_places.ensures fits.formula.literals-good
-    ∙ missing-among-all (length row) row _ (row_of (length row) row fits.is-row) 1 _ fits.formula.literals-good
+    ∙ ap number_or_none (missing-among-all (length row) row _ (row_of (length row) row fits.is-row) 1 _ fits.formula.literals-good)

@@ -2,7 +2,7 @@
 use mathlib.Core.Path.{◌≡◌}
 use mathlib.Core.Bool.{true}
 use mathlib.Core.List.{List}
-use Prim.Native.Nat.{ℕ, ◌+◌, ◌-◌}
+use Prim.Native.Nat.{ℕ, ◌+◌}
 use lib.ListN.{length, drop}
 use Rattle.lists.specs.Tests.{all_of}
 use Rattle.store.specs.Literals.{is_literal}
@@ -15,8 +15,8 @@ use Rattle.symmetry.proofs.first_missing_by.Given as goal
 abbrev pub invariant-loop-c : goal.invariant-loop-c
 invariant-loop-c l =
     let formula = clauses_in l.m l.literals l.ends in
-    ((row : List ℕ) → ImagePlaces row l.places → all_of (all_of (is_literal (length row))) formula ≡ true → missing_from row formula 1 formula ≡ missing_from row formula (l.c + 1) (drop l.c formula))
-    × Below (l.c + 1) l.marks
-
-abbrev pub decreases-loop-c : goal.decreases-loop-c
-decreases-loop-c l = l.m - l.c
+    record {
+      rest : (row : List ℕ) → ImagePlaces row l.places → all_of (all_of (is_literal (length row))) formula ≡ true
+          → missing_from row formula 1 formula ≡ missing_from row formula (l.c + 1) (drop l.c formula);
+      below : Below (l.c + 1) l.marks;
+    }

@@ -1,13 +1,7 @@
 -- `symmetry::index::of_keys` meets its contract. The invariant: the index holds the clauses before c. Assumes nothing.
-use mathlib.Core.Path.{◌≡◌}
-use Prim.Native.Nat.{◌-◌, ◌≤◌}
-use lib.ListN.{length}
 use Rattle.buckets.specs.Buckets.{IndexHolds}
 use Rattle.symmetry.specs.Index.{clause_bucket}
 use Rattle.symmetry.proofs.index.of_keys.Given as goal
 
 abbrev pub invariant-loop-c : goal.invariant-loop-c
-invariant-loop-c l = IndexHolds (clause_bucket l.keys) l.c l.heads l.nexts × (l.c ≤ l.m) × (length l.heads ≡ length l.initial.heads) × (length l.nexts ≡ length l.initial.nexts)
-
-abbrev pub decreases-loop-c : goal.decreases-loop-c
-decreases-loop-c l = l.m - l.c
+invariant-loop-c l = IndexHolds (clause_bucket l.keys) l.c l.heads l.nexts

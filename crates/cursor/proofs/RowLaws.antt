@@ -1,5 +1,5 @@
 -- What rows add from a place on: a row that adds nothing is passed, and clauses taken leave those after them. Assumes nothing.
-use mathlib.Core.Path.{◌≡◌, sym, ap, ap₂, ◌∙◌}
+use mathlib.Core.Path.{◌≡◌, sym, ap, ap₂, subst, ◌∙◌}
 use mathlib.Core.List.{List, [], ◌++◌, append_assoc}
 use Prim.Native.Nat.{ℕ, ◌+◌, ◌-◌, ◌≤◌, ◌<◌}
 use native.Mathlib.Omega.{arith}
@@ -10,7 +10,7 @@ use Rattle.store.proofs.RowLaws.{from-here, from_end, row-size}
 use Rattle.lexleader.specs.Made.{row_clauses, auxiliaries, rows_clauses}
 use Rattle.lexleader.specs.Bounds.{max_before}
 use Rattle.lexleader.specs.Clause.{pairs_at}
-use Rattle.lexleader.specs.Places.{clauses_on, clauses_at, six_at, auxiliary_after, ClauseStands, PlaceLeaves, PlaceAfter}
+use Rattle.lexleader.specs.Places.{clauses_on, clauses_at, six_at, auxiliary_after, PlaceStands, ClauseStands, PlaceLeaves, PlaceAfter}
 use Rattle.lexleader.specs.declared.places.Place.{Place}
 use Rattle.lexleader.proofs.Bounds.{auxiliaries-most}
 use Rattle.lexleader.proofs.PlaceLaws.{past, then_next, some-clause}
@@ -87,7 +87,13 @@ module _ (counts : Record) (images : List ℕ) (r : ℕ) where
         place-few low = omega (arith, nothing.1)
 
       -- the row's first place
-      module _ (e : ℕ) (z : PlaceLeaves row p (row_clauses e row) (e + auxiliaries row)) where
+      module _ (e : ℕ) {held : List ℕ} (is : held ≡ row) (leaves : PlaceLeaves held p (row_clauses e held) (e + auxiliaries held)) where
+        z : PlaceLeaves row p (row_clauses e row) (e + auxiliaries row)
+        z = subst (λ (l : List ℕ). PlaceLeaves l p (row_clauses e l) (e + auxiliaries l)) is leaves
+
+        pub first-stands : PlaceStands row p
+        first-stands = z.stands
+
         pub first-here : added_from counts images r p ≡ rows_clauses e rows
         unfolding rows_clauses
         first-here =

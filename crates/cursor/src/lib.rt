@@ -66,11 +66,9 @@ pub fn next(counts: Record, images: &[u16], cursor: Cursor, marks: &mut [bool]) 
     ensures marks { RowMarked counts images.now result marks.new }
 {
     if cursor.plain < counts.clauses {
-        let place = cursor.place;
         return Cursor {
             plain: cursor.plain + 1,
-            row: cursor.row,
-            place: place,
+            ..cursor
         };
     }
     next_added(counts, images, cursor, marks)
@@ -85,8 +83,7 @@ pub fn next_added(counts: Record, images: &[u16], cursor: Cursor, marks: &mut [b
     ensures marks { RowMarked counts images.now result marks.new }
 {
     let row = store::rows::row(images, counts.variables, cursor.row);
-    let here = cursor.place;
-    let place = lexleader::places::next_place(row, marks, here);
+    let place = lexleader::places::next_place(row, marks, cursor.place);
     at_place(counts, images, cursor, place, marks)
 }
 
@@ -94,17 +91,10 @@ pub fn next_added(counts: Record, images: &[u16], cursor: Cursor, marks: &mut [b
 pub fn at_auxiliary(counts: Record, cursor: Cursor) -> bool
     ensures { result ≡ true → AtAuxiliary counts cursor }
 {
-    if cursor.plain < counts.clauses {
-        return false;
-    }
-    if cursor.row >= counts.rows {
-        return false;
-    }
-    let place = cursor.place;
-    if place.r != 1 {
-        return false;
-    }
-    place.next < counts.variables
+    counts.clauses <= cursor.plain
+        && cursor.row < counts.rows
+        && cursor.place.r == 1
+        && cursor.place.next < counts.variables
 }
 
 // The cursor after the six clauses of an auxiliary, from one at the first of them.
@@ -115,8 +105,7 @@ pub fn next_auxiliary(counts: Record, images: &[u16], cursor: Cursor, marks: &mu
     ensures marks { RowMarked counts images.now result marks.new }
 {
     let row = store::rows::row(images, counts.variables, cursor.row);
-    let here = cursor.place;
-    let place = lexleader::places::next_auxiliary(row, marks, here);
+    let place = lexleader::places::next_auxiliary(row, marks, cursor.place);
     at_place(counts, images, cursor, place, marks)
 }
 
@@ -137,11 +126,7 @@ fn at_place(
     ensures marks { RowMarked counts images.now result marks.new }
 {
     if place.index < counts.variables {
-        return Cursor {
-            plain: cursor.plain,
-            row: cursor.row,
-            place: place,
-        };
+        return Cursor { place, ..cursor };
     }
     row_from(
         counts,
@@ -172,29 +157,27 @@ fn row_from(
 {
     let n = counts.variables;
     let mut first = e;
-    let mut r = row;
-    while r < counts.rows {
+    for r in row..counts.rows {
         let held = store::rows::row(images, n, r);
         cycles::leave_out(held, marks);
         let place = lexleader::places::first_place(held, marks, first);
         if place.index < n {
             return Cursor {
-                plain: plain,
+                plain,
                 row: r,
-                place: place,
+                place,
             };
         }
         first = place.auxiliary;
-        r += 1;
     }
     Cursor {
-        plain: plain,
-        row: r,
+        plain,
+        row: counts.rows,
         place: nowhere(),
     }
 }
 
-// The place of a cursor past all rows.
+// The place of a cursor past all rows, of which `CursorStands` says nothing and which nothing reads.
 fn nowhere() -> Place {
     Place {
         index: 0,

@@ -11,7 +11,7 @@ use lib.ListN.{length, get_or, drop}
 use lib.Seq.{length-slice}
 use Rattle.lists.proofs.Cases.{lt-or-le}
 use Rattle.std.proofs.Common.{Result, Ok, Err}
-use Rattle.store.specs.Refusals.{said_result, buffer_left, refused}
+use Rattle.store.specs.Refusals.{said, buffer_left, refused}
 use Rattle.store.specs.Stores.{Store, literal_count, clause_at, FormedClauses, max_literals, is_formed}
 use Rattle.store.specs.declared.refusal.Refusal.{Refusal}
 use Rattle.lexleader.specs.Store.{clauses_of}
@@ -29,7 +29,7 @@ at-start line out = ap (λ (k : ℕ). line ++ drop k out) (zero-add (length line
 -- what a function that measures, tests and writes a line says and leaves
 module _ (line out : List ℕ) where
   abbrev pub Writes : Result ℕ Refusal → List ℕ → Type 0
-  Writes answer after = (said_result answer ≡ written_if line (length out)) × (after ≡ buffer_left (said_result answer) line out)
+  Writes answer after = (said answer ≡ written_if line (length out)) × (after ≡ buffer_left (said answer) line out)
 
   pub left_alone : (needed : ℕ) → needed ≡ length line → length out < needed → Writes (Err (Refusal.TooShort needed)) out
   unfolding written_if

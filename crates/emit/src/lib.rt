@@ -3,7 +3,7 @@
 #![tactic(auto)]
 
 ghost use Rattle.std.specs.Prelude.{◌≡◌, true, ◌+◌, ◌≤◌, [], length, get_or, map};
-ghost use Rattle.store.specs.Refusals.{said_result, buffer_left};
+ghost use Rattle.store.specs.Refusals.{said, buffer_left};
 ghost use Rattle.store.specs.Stores.{stored, rows_of, is_formed, FormedRows, max_literals};
 ghost use Rattle.lexleader.specs.Made.{rows_clauses};
 ghost use Rattle.render.specs.Text.{clause_line, header_line};
@@ -16,8 +16,8 @@ use store::refusal::Refusal;
 
 // Writes the header line of N variables and M clauses.
 pub fn header(total: Totals, out: &mut [u8]) -> Result<u64, Refusal>
-    ensures answer { said_result result ≡ written_if (header_line total.variables total.clauses) (length out.old) }
-    ensures buffer { out.new ≡ buffer_left (said_result result) (header_line total.variables total.clauses) out.old }
+    ensures answer { said result ≡ written_if (header_line total.variables total.clauses) (length out.old) }
+    ensures buffer { out.new ≡ buffer_left (said result) (header_line total.variables total.clauses) out.old }
 {
     let variables = total.variables as u64;
     let clauses = total.clauses as u64;
@@ -40,9 +40,9 @@ pub fn clause(
 ) -> Result<u64, Refusal>
     requires { is_formed (stored counts literals ends images) ≡ true }
     ensures answer { let s = stored counts literals.entry ends.entry images.entry in
-        said_result result ≡ clause_by s q (length out.old) }
+        said result ≡ clause_by s q (length out.old) }
     ensures buffer { let s = stored counts literals.entry ends.entry images.entry in
-        out.new ≡ buffer_left (said_result result) (line_of s q) out.old }
+        out.new ≡ buffer_left (said result) (line_of s q) out.old }
 {
     if q == 0 {
         return Err(Refusal::NoSuchClause);
@@ -69,27 +69,26 @@ fn added(
 ) -> Result<u64, Refusal>
     requires { FormedRows counts.variables counts.rows images.now × (length marks.old ≡ counts.variables) }
     ensures answer { let rows = rows_of counts.variables counts.rows images.now in
-        said_result result ≡ added_by (rows_clauses (counts.variables + 1) rows) c (length out.old) }
+        said result ≡ added_by (rows_clauses (counts.variables + 1) rows) c (length out.old) }
     ensures buffer { let rows = rows_of counts.variables counts.rows images.now in
-        out.new ≡ buffer_left (said_result result) (clause_line (get_or (rows_clauses (counts.variables + 1) rows) c [])) out.old }
+        out.new ≡ buffer_left (said result) (clause_line (get_or (rows_clauses (counts.variables + 1) rows) c [])) out.old }
 {
     let n = counts.variables;
-    let spot = lexleader::numbered::find(images, counts.rows, n, c, marks);
-    if spot.row == counts.rows {
-        return Err(Refusal::NoSuchClause);
+    match lexleader::numbered::find(images, counts.rows, n, c, marks) {
+        Some(spot) => {
+            let row = store::rows::row(images, n, spot.row);
+            let clause = lexleader::numbered::row_clause(row, marks, spot.auxiliary, spot.number);
+            write_clause(&clause.literals[..clause.count], out)
+        }
+        None => Err(Refusal::NoSuchClause),
     }
-    let row = store::rows::row(images, n, spot.row);
-    let clause = lexleader::numbered::row_clause(row, marks, spot.auxiliary, spot.number);
-    let codes = clause.literals;
-    let count = clause.count;
-    write_clause(&codes[..count], out)
 }
 
 // A clause, of stored or of made codes.
 fn write_clause<C: Coded>(clause: &[C], out: &mut [u8]) -> Result<u64, Refusal>
     requires { length clause.now ≤ max_literals }
-    ensures answer { said_result result ≡ written_if (clause_line (map C.code clause.now)) (length out.old) }
-    ensures buffer { out.new ≡ buffer_left (said_result result) (clause_line (map C.code clause.now)) out.old }
+    ensures answer { said result ≡ written_if (clause_line (map C.code clause.now)) (length out.old) }
+    ensures buffer { out.new ≡ buffer_left (said result) (clause_line (map C.code clause.now)) out.old }
 {
     let needed = render::clause_length(clause);
     if out.len() < needed {

@@ -1,5 +1,5 @@
 -- A loop over the rows: what is left is row r and those after it, and what that means for the counts and for the clause looked for. Assumes nothing.
-use mathlib.Core.Path.{◌≡◌, ap, ◌∙◌}
+use mathlib.Core.Path.{◌≡◌, ap, subst, ◌∙◌}
 use mathlib.Core.List.{List, [], ◌++◌}
 use Prim.Native.Nat.{ℕ, ◌+◌, ◌-◌, ◌*◌, ◌≤◌, ◌<◌}
 use native.Mathlib.Omega.{arith}
@@ -38,10 +38,13 @@ module _ (n rows : ℕ) (images : List ℕ) where
     all-clauses = omega (arith, ap (λ (l : List (List ℕ)). length (rows_clauses 0 l)) (from_first n rows images));
   }
 
-  pub summed-more : FormedRows n rows images → {a k r x y : ℕ} → Summed a k r → r < rows → Adds x y (row_at n r images) → Summed (a + x) (k + y) (r + 1)
+  pub summed-more : FormedRows n rows images → {a k r x y : ℕ} {held : List ℕ} → Summed a k r → r < rows → held ≡ row_at n r images → Adds x y held
+      → Summed (a + x) (k + y) (r + 1)
   unfolding all_auxiliaries rows_clauses
-  summed-more f {a} {k} {r} {x} {y} s h (ax, ky) =
+  summed-more f {a} {k} {r} {x} {y} s h is adds =
       let row : List ℕ = row_at n r images in
+      let ax : x ≡ auxiliaries row = (subst (Adds x y) is adds).0 in
+      let ky : (e : ℕ) → y ≡ length (row_clauses e row) = (subst (Adds x y) is adds).1 in
       let rest : List (List ℕ) = left (r + 1) in
       let size = row-size n rows images f.fits r h in
       record {
@@ -107,10 +110,12 @@ module _ (n rows : ℕ) (images : List ℕ) where
               s.same ∙ ap (λ (l : List (List ℕ)). get_or l k []) apart ∙ get_or-append (row_clauses e row) rest [] k h,
             )
 
-        pub sought-later : FormedRows n rows images → {x y : ℕ} → Adds x y (row_at n r images) → y ≤ k → Sought q (e + x) (k - y) (r + 1)
-        sought-later f {x} {y} (ax, count) h =
-            let ky : y ≡ length (row_clauses e (row_at n r images)) = count e in
+        pub sought-later : FormedRows n rows images → {x y : ℕ} {held : List ℕ} → held ≡ row_at n r images → Adds x y held → y ≤ k
+            → Sought q (e + x) (k - y) (r + 1)
+        sought-later f {x} {y} is adds h =
             let row : List ℕ = row_at n r images in
+            let ax : x ≡ auxiliaries row = (subst (Adds x y) is adds).0 in
+            let ky : y ≡ length (row_clauses e row) = (subst (Adds x y) is adds).1 e in
             let rest : List (List ℕ) = rows_clauses (e + x) (left (r + 1)) in
             let cut : rows_clauses e (left r) ≡ row_clauses e row ++ rest = rw ax apart in
             let number : k ≡ length (row_clauses e row) + (k - y) = omega arith in

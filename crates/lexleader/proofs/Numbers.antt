@@ -2,14 +2,16 @@
 use mathlib.Core.Path.{◌≡◌, refl, sym, ◌∙◌}
 use mathlib.Core.List.{List, [], ◌∷◌}
 use mathlib.Core.Logic.{⊎_elim}
-use Prim.Native.Nat.{ℕ, ◌+◌, ◌-◌, ◌*◌, ◌≤◌, ◌<◌}
+use Prim.Native.Nat.{ℕ, ◌+◌, ◌-◌, ◌*◌, ◌/◌, ◌≤◌, ◌<◌}
 use native.Mathlib.Decide.{ℕ_discrete}
 use native.Mathlib.Omega.{arith}
 use borrow.Author.Tests.{eq-eqb, ne_eqb}
 use lib.ListN.{length, length-append}
 use Rattle.lists.proofs.Cases.{lt-or-le}
+use Rattle.store.specs.Stores.{max_variables}
 use Rattle.lexleader.specs.Rows.{Pair, pairs_of}
 use Rattle.lexleader.specs.Made.{later_clauses, pair_clauses, row_clauses, auxiliaries, rows_clauses, all_auxiliaries}
+use Rattle.lexleader.proofs.Walk.{pairs-length}
 use Rattle.lexleader.specs.Sizes.{sum_over, auxiliaries_for, clauses_for}
 
 later-length : (d : ℕ) (q : Pair) (pairs : List Pair) → length (later_clauses d q pairs) ≡ 6 * length pairs
@@ -47,6 +49,11 @@ module _ (e : ℕ) (row : List ℕ) where
 
   pub row-most : length (row_clauses e row) ≤ 6 * length (pairs_of row)
   row-most = ⊎_elim (λ l. omega (arith, row-few l)) (λ l. omega (arith, row-many l)) (lt-or-le (length (pairs_of row)) 2)
+
+  -- clause q's auxiliary is one of the row's
+  pub clause-auxiliary : {q : ℕ} → length row ≤ max_variables → q < length (row_clauses e row)
+      → (q / 6 + 1 ≤ length (pairs_of row)) × (q / 6 + 1 ≤ max_variables)
+  clause-auxiliary small h = (omega (arith, row-most), omega (arith, row-most, pairs-length row))
 
 pub rows-auxiliaries : (rows : List (List ℕ)) → all_auxiliaries rows ≡ sum_over auxiliaries_for rows
 unfolding all_auxiliaries auxiliaries sum_over

@@ -51,13 +51,11 @@ pub record NextBut (out : ℕ → Bool) (row : List ℕ) (from r : ℕ) : Type 0
 abbrev pub NextPair : List ℕ → ℕ → ℕ → Type 0
 NextPair row from r = NextBut (left_out row) row from r
 
--- Clause number q, from 0, of those that a store's rows add is the one of that number in its row, whose marks these are; or there is none, and no row has it.
+-- Clause number q, from 0, of those that a store's rows add is the one of that number in its row, whose marks these are.
 pub record SpotOf (n rows : ℕ) (images : List ℕ) (q : ℕ) (spot : Spot) (marks : List Bool) : Type 0 where
-  pub upto : spot.row ≤ rows
-  pub none : rows ≤ spot.row → length (rows_clauses (n + 1) (rows_of n rows images)) ≤ q
-  pub some : spot.row < rows → q < length (rows_clauses (n + 1) (rows_of n rows images))
-  pub few : spot.row < rows → spot.auxiliary + auxiliaries (row_at n spot.row images) ≤ max_made_variables + 1
-  pub inside : spot.row < rows → spot.number < length (row_clauses spot.auxiliary (row_at n spot.row images))
-  pub is : spot.row < rows
-      → get_or (rows_clauses (n + 1) (rows_of n rows images)) q [] ≡ get_or (row_clauses spot.auxiliary (row_at n spot.row images)) spot.number []
-  pub marked : spot.row < rows → marks ≡ marks_of (row_at n spot.row images)
+  pub within : spot.row < rows
+  pub some : q < length (rows_clauses (n + 1) (rows_of n rows images))
+  pub few : spot.auxiliary + auxiliaries (row_at n spot.row images) ≤ max_made_variables + 1
+  pub inside : spot.number < length (row_clauses spot.auxiliary (row_at n spot.row images))
+  pub is : get_or (rows_clauses (n + 1) (rows_of n rows images)) q [] ≡ get_or (row_clauses spot.auxiliary (row_at n spot.row images)) spot.number []
+  pub marked : marks ≡ marks_of (row_at n spot.row images)

@@ -36,10 +36,8 @@ pub fn pair_count(marks: &[bool]) -> usize
     ensures { result ≡ unmarked marks.now }
 {
     let mut count: u16 = 0;
-    let mut i = 0;
-    while i < marks.len() {
-        count += (!marks[i]) as u16;
-        i += 1;
+    for mark in marks {
+        count += !*mark as u16;
     }
     count as usize
 }
@@ -78,12 +76,10 @@ fn added_by_rows(images: &[u16], rows: usize, n: usize, marks: &mut [bool]) -> A
 {
     let mut auxiliaries = 0;
     let mut clauses = 0;
-    let mut r = 0;
-    while r < rows {
+    for r in 0..rows {
         let more = added_by(store::rows::row(images, n, r), marks);
         auxiliaries += more.auxiliaries;
         clauses += more.clauses;
-        r += 1;
     }
     Added {
         auxiliaries,

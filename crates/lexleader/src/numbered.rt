@@ -1,10 +1,10 @@
 // One clause of those that rows add, by its number, for the clause call: rows are passed by how many clauses each adds, and in the row that
 // has the clause the six of an auxiliary by division. What writes or tests clause after clause keeps a place and never asks for a number.
-ghost use Rattle.std.specs.Prelude.{◌≡◌, ◌∷◌, [], ◌+◌, ◌-◌, ◌≤◌, ◌<◌, length, get_or, drop};
-ghost use Rattle.store.specs.Stores.{max_variables, FormedRows};
+ghost use Rattle.std.specs.Prelude.{◌≡◌, ◌∷◌, [], ◌+◌, ◌-◌, ◌≤◌, ◌<◌, length, get_or, drop, MatchOption};
+ghost use Rattle.store.specs.Stores.{max_variables, rows_of, FormedRows};
 ghost use Rattle.cycles.specs.Marks.{marks_of};
 ghost use Rattle.lexleader.specs.Rows.{pairs_of};
-ghost use Rattle.lexleader.specs.Made.{row_clauses, auxiliaries};
+ghost use Rattle.lexleader.specs.Made.{row_clauses, auxiliaries, rows_clauses};
 ghost use Rattle.lexleader.specs.Bounds.{max_made_variables};
 ghost use Rattle.lexleader.specs.Clause.{ClauseIs, SpotOf, pair_at, pairs_at};
 
@@ -20,33 +20,27 @@ pub struct Spot {
     pub number: usize,
 }
 
-// Looks for clause number q, from 0, of those that all rows add, and leaves the marks of its row. Where there is no such clause, no row has
-// it, and the row's number is how many there are.
-pub fn find(images: &[u16], rows: usize, n: usize, q: usize, marks: &mut [bool]) -> Spot
+// Looks for clause number q, from 0, of those that all rows add, and leaves the marks of its row.
+pub fn find(images: &[u16], rows: usize, n: usize, q: usize, marks: &mut [bool]) -> Option<Spot>
     requires { FormedRows n rows images.now × (length marks.old ≡ n) }
-    ensures { SpotOf n rows images.now q result marks.new }
+    ensures { let images = images.entry.now in
+        MatchOption result (length (rows_clauses (n + 1) (rows_of n rows images)) ≤ q) (λ spot. SpotOf n rows images q spot marks.new) }
 {
     let mut e = n + 1;
     let mut left = q;
-    let mut r = 0;
-    while r < rows {
+    for r in 0..rows {
         let more = counting::added_by(store::rows::row(images, n, r), marks);
         if left < more.clauses {
-            return Spot {
+            return Some(Spot {
                 row: r,
                 auxiliary: e as u32,
                 number: left,
-            };
+            });
         }
         left -= more.clauses;
         e += more.auxiliaries;
-        r += 1;
     }
-    Spot {
-        row: rows,
-        auxiliary: e as u32,
-        number: left,
-    }
+    None
 }
 
 // Clause number q, from 0, of those that a row adds, its first auxiliary being e. Each auxiliary, j from 1, has six, r from 1 to 6.
@@ -62,7 +56,7 @@ pub fn row_clause(row: &[u16], marks: &[bool], e: u32, q: usize) -> Clause
     let next = places::next_pair(marks, i + 1);
     let place = Place {
         index: i,
-        next: next,
+        next,
         auxiliary: e + before as u32,
         j: before + 1,
         r: q % 6 + 1,
@@ -77,10 +71,8 @@ fn pair_at(row: &[u16], marks: &[bool], j: usize) -> usize
         (result < length row) × (drop (j - 1) (pairs_of row) ≡ pairs_at result row) × (pairs_at result row ≡ pair_at row result ∷ pairs_at (result + 1) row) }
 {
     let mut i = places::next_pair(marks, 0);
-    let mut k = 1;
-    while k < j {
+    for _ in 1..j {
         i = places::next_pair(marks, i + 1);
-        k += 1;
     }
     i
 }

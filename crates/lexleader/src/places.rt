@@ -40,8 +40,8 @@ pub fn first_place(row: &[u16], marks: &[bool], e: u32) -> Place
     }
     let next = next_pair(marks, index + 1);
     Place {
-        index: index,
-        next: next,
+        index,
+        next,
         auxiliary: e,
         j: 1,
         r: 1,
@@ -75,11 +75,8 @@ pub fn next_place(row: &[u16], marks: &[bool], place: Place) -> Place
     }
     if place.r < 6 {
         return Place {
-            index: place.index,
-            next: place.next,
-            auxiliary: place.auxiliary,
-            j: place.j,
             r: place.r + 1,
+            ..place
         };
     }
     next_auxiliary(row, marks, place)
@@ -97,7 +94,7 @@ pub fn next_auxiliary(row: &[u16], marks: &[bool], place: Place) -> Place
     }
     Place {
         index: place.next,
-        next: next,
+        next,
         auxiliary: e,
         j: place.j + 1,
         r: 1,
@@ -122,14 +119,12 @@ pub fn next_pair(marks: &[bool], from: usize) -> usize
     requires { from ≤ length marks.now }
     ensures { (row : List ℕ) → marks.now ≡ marks_of row → NextPair row from result }
 {
-    let mut i = from;
-    while i < marks.len() {
+    for i in from..marks.len() {
         if !marks[i] {
             return i;
         }
-        i += 1;
     }
-    i
+    marks.len()
 }
 
 // The code of the variable at an index of a row.

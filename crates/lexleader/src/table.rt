@@ -19,6 +19,18 @@ pub struct Clause {
     pub literals: [u32; 4],
 }
 
+impl Clause {
+    // The clause of N literals.
+    fn of<const N: usize>(codes: [u32; N]) -> Clause
+        requires { N ≤ 4 }
+        ensures { ClauseIs result codes.entry }
+    {
+        let mut literals = [0; 4];
+        literals[..N].copy_from_slice(&codes);
+        Clause { count: N, literals }
+    }
+}
+
 // Clause r of the auxiliary ej, whose number is e, for the pair x, y and the next pair x2, y2. Where j is not 1, e(j-1) has the number e -
 // 1.
 pub fn table_clause(r: usize, j: usize, e: u32, x: u32, y: u32, x2: u32, y2: u32) -> Clause
@@ -27,62 +39,25 @@ pub fn table_clause(r: usize, j: usize, e: u32, x: u32, y: u32, x2: u32, y2: u32
         ClauseIs result (get_or six (r - 1) []) }
 {
     let ej = 2 * e;
-    let before = 2 * one_less(e);
+    let before = 2 * e.saturating_sub(1);
     let not_ej = opposite(ej);
     let not_x = opposite(x);
     let not_y = opposite(y);
     match r {
         1 => match j {
-            1 => two(not_x, y),
-            _ => two(not_ej, before),
+            1 => Clause::of([not_x, y]),
+            _ => Clause::of([not_ej, before]),
         },
-        2 => three(not_ej, not_x, y),
-        3 => three(not_ej, x, not_y),
+        2 => Clause::of([not_ej, not_x, y]),
+        3 => Clause::of([not_ej, x, not_y]),
         4 => match j {
-            1 => three(ej, x, y),
-            _ => four(ej, opposite(before), x, y),
+            1 => Clause::of([ej, x, y]),
+            _ => Clause::of([ej, opposite(before), x, y]),
         },
         5 => match j {
-            1 => three(ej, not_x, not_y),
-            _ => four(ej, opposite(before), not_x, not_y),
+            1 => Clause::of([ej, not_x, not_y]),
+            _ => Clause::of([ej, opposite(before), not_x, not_y]),
         },
-        _ => three(not_ej, opposite(x2), y2),
-    }
-}
-
-// e - 1, and 0 for 0.
-fn one_less(e: u32) -> u32
-    ensures { result ≡ e - 1 }
-{
-    if e == 0 {
-        return 0;
-    }
-    e - 1
-}
-
-fn two(a: u32, b: u32) -> Clause
-    ensures { ClauseIs result (a ∷ b ∷ []) }
-{
-    Clause {
-        count: 2,
-        literals: [a, b, 0, 0],
-    }
-}
-
-fn three(a: u32, b: u32, c: u32) -> Clause
-    ensures { ClauseIs result (a ∷ b ∷ c ∷ []) }
-{
-    Clause {
-        count: 3,
-        literals: [a, b, c, 0],
-    }
-}
-
-fn four(a: u32, b: u32, c: u32, d: u32) -> Clause
-    ensures { ClauseIs result (a ∷ b ∷ c ∷ d ∷ []) }
-{
-    Clause {
-        count: 4,
-        literals: [a, b, c, d],
+        _ => Clause::of([not_ej, opposite(x2), y2]),
     }
 }

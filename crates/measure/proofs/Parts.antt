@@ -1,29 +1,36 @@
 -- The figures of a well-formed store's made formula, by its plain clauses and what its rows add. Assumes nothing.
 use mathlib.Core.Path.{◌≡◌, refl, sym, ap, ap₂, ◌∙◌}
 use mathlib.Core.Bool.{true}
-use Prim.Native.Nat.{ℕ, ◌+◌, ◌*◌}
+use Prim.Native.Nat.{ℕ, ◌+◌, ◌*◌, ◌^◌, ◌≤◌, ◌<◌}
 use native.Mathlib.Omega.{arith}
 use lib.ListN.{length, take, length-append}
 use Rattle.lists.specs.Sums.{sum_of}
 use Rattle.lists.proofs.Sums.{sum-append}
-use Rattle.store.specs.Stores.{Store, rows_of, plain_of, held_rows, is_formed}
-use Rattle.store.proofs.Demands.{used}
+use Rattle.store.specs.Stores.{Store, max_clauses, max_literals, rows_of, plain_of, held_rows, is_formed}
+use Rattle.store.proofs.Demands.{used, rest_of}
+use Rattle.store.proofs.Formed.{formed-rows}
 use Rattle.lexleader.specs.Made.{made}
 use Rattle.lexleader.specs.Store.{made_of, variables_of, clauses_of}
 use Rattle.lexleader.proofs.MadeLaws.{plain-length, added_of, clauses-are}
 use Rattle.render.specs.Text.{header_line}
+use Rattle.render.proofs.DigitLaws.{digits-most}
+use Rattle.render.proofs.LineLaws.{length-header}
 use Rattle.emit.specs.Emit.{header_of, lines_of, text_of}
 use Rattle.measure.specs.declared.Figures.{Figures}
 use Rattle.measure.specs.Figures.{figures_of}
 use Rattle.measure.specs.Shares.{word_bytes, added_figures}
 use Rattle.measure.proofs.Words.{lines-words}
 use Rattle.measure.proofs.Plain.{plain-literals, plain-words}
-use Rattle.measure.proofs.Rows.{lines-append}
+use Rattle.measure.proofs.Rows.{lines-append, added-fit}
 
 -- figures by their parts
 figures-ext : {v v' c c' l l' b b' : ℕ} → v ≡ v' → c ≡ c' → l ≡ l' → b ≡ b'
     → ◌≡◌ {A = Figures} (record { variables = v; clauses = c; literals = l; bytes = b }) (record { variables = v'; clauses = c'; literals = l'; bytes = b' })
 figures-ext v c l b = rw (v, c, l, b)
+
+-- a header has two numbers of 64 bits
+pub header-short : (variables clauses : ℕ) → length (header_line variables clauses) ≤ 48
+header-short variables clauses = omega (arith, length-header variables clauses, digits-most variables, digits-most clauses)
 
 module _ (s : Store) (well : is_formed s ≡ true) where
   abbrev m : ℕ
@@ -35,6 +42,14 @@ module _ (s : Store) (well : is_formed s ≡ true) where
 
   abbrev words : ℕ
   words = sum_of word_bytes (take (used s) s.literals)
+
+  -- none of the parts is large
+  pub parts-small : {added : Figures} {u : ℕ} → added ≡ rows_add → u ≡ used s
+      → (m ≤ max_clauses) × (u ≤ max_literals) × (added.clauses < 2 ^ 32) × (added.literals < 2 ^ 32) × (added.bytes < 2 ^ 32)
+  parts-small e is =
+      let r = rest_of s well in
+      let fit = added-fit s.counts.variables s.counts.rows s.images (formed-rows s well) in
+      (r.clauses-fit, omega (arith, is, r.literals-fit), rw e fit.0, rw e fit.1, rw e fit.2)
 
   total-variables : rows_add.variables ≡ variables_of s
   unfolding variables_of held_rows

@@ -16,10 +16,14 @@ use Rattle.lexleader.specs.Bounds.{max_before}
 use Rattle.lexleader.proofs.Bounds.{auxiliaries-most, all-clauses-most, is_short, rows_short}
 use Rattle.render.proofs.LineLaws.{line-short}
 use Rattle.emit.specs.Emit.{lines_of}
+use Rattle.lexleader.proofs.Numbers.{row-most}
+use Rattle.lexleader.proofs.Walk.{pairs-length}
 use Rattle.measure.specs.declared.Figures.{Figures}
-use Rattle.measure.specs.Shares.{word_bytes, words_of, literals_for, row_figures, added_figures}
+use Rattle.measure.specs.declared.Pairs.{Pairs}
+use Rattle.measure.specs.Shares.{word_bytes, words_of, literals_for, row_figures, added_figures, agree_bytes, auxiliary_bytes, of_place, PairsSummed}
+use Rattle.measure.proofs.Digits.{auxiliary-most}
 use Rattle.measure.proofs.Words.{line-words, lines-words}
-use Rattle.measure.proofs.Shares.{row-literals}
+use Rattle.measure.proofs.Shares.{row-literals, row_words}
 
 pub lines-append : (a b : List (List ℕ)) → length (lines_of (a ++ b)) ≡ length (lines_of a) + length (lines_of b)
 lines-append a b = omega (arith, lines-words (a ++ b), lines-words a, lines-words b, sum-append (sum_of word_bytes) a b, length-append a b)
@@ -31,6 +35,22 @@ row-figures last row {a} {k} {l} {w} is-a is-k is-l is-w =
     let literals : l ≡ sum_of length (row_clauses (last + 1) row) = is-l ∙ rw (is-a, is-k) (row-literals (last + 1) row) in
     let bytes : w + 2 * k ≡ length (lines_of (row_clauses (last + 1) row)) = omega (arith, lines-words (row_clauses (last + 1) row)) in
     rw (bytes, literals, is-k, is-a)
+
+-- What is counted of a row: its auxiliaries and its clauses, the bytes of its pairs and of its auxiliaries, and what the last pair spares.
+module _ (row : List ℕ) {a k : ℕ} (small : length row ≤ max_variables) (added : (a ≡ auxiliaries row) × ((e : ℕ) → k ≡ length (row_clauses e row))) where
+  pub counts-small : (a ≤ max_variables) × (k ≤ 6 * max_variables)
+  counts-small = (
+    omega (arith, added.0, auxiliaries-most row),
+    omega (arith, added.1 0, row-most 0 row, pairs-length row),
+  )
+
+  module _ (last : ℕ) {pairs : Pairs} (p : PairsSummed row pairs) {b : ℕ} (is : b ≡ auxiliary_bytes (last + 1) a) where
+    pub words-small : pairs.bytes + b ≤ 241 * max_variables
+    words-small = omega (arith, p.few, is, auxiliary-most (last + 1) a, counts-small)
+
+    pub words-told : {spare : ℕ} → spare ≡ of_place agree_bytes row pairs.last → words_of (row_clauses (last + 1) row) + spare ≡ pairs.bytes + b
+    words-told e =
+        omega (arith, row_words (last + 1) row, e, p.last agree_bytes, p.bytes, is, ap (auxiliary_bytes (last + 1)) added.0)
 
 module _ (n rows : ℕ) (images : List ℕ) where
   -- what all rows add, and what those from row r on do, where `last` is the last number in use
@@ -80,9 +100,12 @@ module _ (n rows : ℕ) (images : List ℕ) where
 
   module _ {variables clauses literals bytes r : ℕ} (s : FiguresSummed variables clauses literals bytes r) where
     -- with what row r adds
-    module _ (f : FormedRows n rows images) (h : r < rows) {more : Figures} (is : more ≡ row_figures variables (row_at n r images)) where
+    module _ (f : FormedRows n rows images) (h : r < rows) {part : List ℕ} (there : part ≡ row_at n r images) {more : Figures} (told : more ≡ row_figures variables part) where
       abbrev row : List ℕ
       row = row_at n r images
+
+      is : more ≡ row_figures variables row
+      is = told ∙ ap (row_figures variables) there
 
       apart : left variables r ≡ row_clauses (variables + 1) row ++ left more.variables (r + 1)
       unfolding rows_clauses
@@ -106,6 +129,12 @@ module _ (n rows : ℕ) (images : List ℕ) where
                 omega (arith, s.all-bytes, ap (λ (l : List (List ℕ)). length (lines_of l)) apart, lines-append added rest, ap (λ (k : Figures). k.bytes) is);
           }
 
+      -- and none of the sums is larger than that of all
+      pub more-fit : (clauses + more.clauses < 2 ^ 32) × (literals + more.literals < 2 ^ 32) × (bytes + more.bytes < 2 ^ 32)
+      more-fit =
+          let all-fit = added-fit f in
+          (omega (arith, figures-more.all-clauses, all-fit.0), omega (arith, figures-more.all-literals, all-fit.1), omega (arith, figures-more.all-bytes, all-fit.2))
+
     pub figures-all : rows ≤ r → record { variables = variables; clauses = clauses; literals = literals; bytes = bytes } ≡ added_figures n (rows_of n rows images)
     unfolding all_auxiliaries rows_clauses sum_of lines_of
     figures-all h =
@@ -115,7 +144,3 @@ module _ (n rows : ℕ) (images : List ℕ) where
         let l : literals ≡ sum_of length all = omega (arith, s.all-literals, ap (λ (l : List (List ℕ)). sum_of length (rows_clauses (variables + 1) l)) none) in
         let b : bytes ≡ length (lines_of all) = omega (arith, s.all-bytes, ap (λ (l : List (List ℕ)). length (lines_of (rows_clauses (variables + 1) l))) none) in
         rw (e, c, l, b)
-
-    -- and none of the sums is larger than that of all
-    pub figures-fit : FormedRows n rows images → (clauses < 2 ^ 32) × (literals < 2 ^ 32) × (bytes < 2 ^ 32)
-    figures-fit f = let fit = added-fit f in (omega (arith, s.all-clauses, fit.0), omega (arith, s.all-literals, fit.1), omega (arith, s.all-bytes, fit.2))

@@ -1,15 +1,14 @@
 -- A walk along the marks of a row: what its pairs have together, and what the last one has. Assumes nothing.
 use mathlib.Core.Path.{◌≡◌, refl, sym, ap, ◌∙◌}
-use mathlib.Core.Bool.{Bool, true, false, not, cond}
+use mathlib.Core.Bool.{Bool, true, false, not}
 use mathlib.Core.List.{List, [], ◌∷◌}
 use mathlib.Core.Logic.{◌⊎◌, inl, inr}
 use Prim.Native.Nat.{ℕ, zero, suc, ◌+◌, ◌-◌, ◌*◌, ◌≤◌, ◌<◌}
 use native.Mathlib.Numerals.{add-one}
 use native.Mathlib.Omega.{arith}
 use mir.Val.{bool_byte}
-use borrow.Author.Tests.{ne_eqb, lt-ltb, le-ltb}
 use lib.ListN.{length, get_or}
-use lib.Dec.{ltb}
+use Rattle.std.proofs.Common.{max, Option, Some, None, IfSome, SomeIff}
 use Rattle.lists.specs.Sums.{sum_of}
 use Rattle.lists.proofs.Cases.{lt-or-le}
 use Rattle.store.specs.Literals.{variable_of}
@@ -21,8 +20,13 @@ use Rattle.lexleader.specs.Rows.{Pair, pairs_of}
 use Rattle.lexleader.specs.Clause.{pair_at, pairs_at}
 use Rattle.lexleader.proofs.Walk.{pairs_start, walk_end, later-pairs}
 use Rattle.lexleader.proofs.Marked.{marks-length, marked-past, marked-here}
-use Rattle.measure.specs.Shares.{pair_bytes, of_last, of_variable, PairsSummed}
+use Rattle.measure.specs.Shares.{pair_bytes, of_last, of_place, PairsSummed}
 use Rattle.measure.proofs.Shares.{last_none, last_one, last_more}
+
+-- what counts once or not at all
+pub counts-most : (b : Bool) (k : ℕ) → bool_byte b * k ≤ k
+counts-most true k = omega arith
+counts-most false k = omega arith
 
 -- a variable at an index of the marks, and its image
 module _ (row : List ℕ) (small : length row ≤ max_variables) (good : is_row (length row) row ≡ true) {marks : List Bool} (are : marks ≡ marks_of row) (i : ℕ) (h : i < length marks) where
@@ -76,14 +80,30 @@ module _ (f : Pair → ℕ) (row : List ℕ) {marks : List Bool} (are : marks �
   last-past : pairs_at 0 row ≡ [] → of_last f (pairs_of row) ≡ 0
   last-past none = ap (of_last f) (pairs_start row ∙ none) ∙ last_none f
 
--- The loop at index i: bytes of the pairs before it, the variable of the last of these, and the variable at i.
+-- the place of a variable, from 0, if there is one
+abbrev pub place_of : ℕ → Option ℕ
+place_of zero = None
+place_of (suc i) = Some i
+
+place-inside : (v n : ℕ) → v ≤ n → IfSome (place_of v) (λ i. i < n)
+place-inside zero n h = tt
+place-inside (suc i) n h = omega arith
+
+-- it is what the variable has with 1 taken away, where that is possible
+pub checked-place : (v : ℕ) (place : Option ℕ) → SomeIff place (1 ≤ v) (v - 1) → place ≡ place_of v
+checked-place zero None e = refl
+checked-place zero (Some p) e = absurd (omega (arith, e.0))
+checked-place (suc i) None e = absurd (e (omega arith))
+checked-place (suc i) (Some p) e = ap Some (omega (arith, e.1))
+
+-- The loop at index i: bytes of the pairs before it, the variable of the last of these, 0 while there is none, and the variable at i.
 pub record PairsPassed (row : List ℕ) (marks : List Bool) (bytes last x i : ℕ) : Type 0 where
   pub upto : i ≤ length marks
   pub own : x ≡ i + 1
   pub low : last ≤ i
   pub few : bytes ≤ 46 * i
   pub sum : sum_of pair_bytes (pairs_of row) ≡ bytes + sum_of pair_bytes (pairs_at i row)
-  pub none : (f : Pair → ℕ) → pairs_at i row ≡ [] → of_last f (pairs_of row) ≡ of_variable f row last
+  pub none : (f : Pair → ℕ) → pairs_at i row ≡ [] → of_last f (pairs_of row) ≡ of_place f row (place_of last)
 
 module _ (row : List ℕ) {marks : List Bool} (are : marks ≡ marks_of row) where
   pub passed_none : PairsPassed row marks 0 0 1 0
@@ -99,39 +119,34 @@ module _ (row : List ℕ) {marks : List Bool} (are : marks ≡ marks_of row) whe
   module _ {bytes last x i : ℕ} (p : PairsPassed row marks bytes last x i) where
     -- with the variable at i, of t bytes where it has no mark
     pub passed-more : i < length marks → {t l : ℕ} → t ≡ pair_bytes (pair_at row i) → t ≤ 46 → (b : Bool) → get_or marks i false ≡ b
-        → l ≡ cond (ltb last (bool_byte (not b) * x)) (bool_byte (not b) * x) last → PairsPassed row marks (bytes + bool_byte (not b) * t) l (x + 1) (i + 1)
+        → l ≡ max last (bool_byte (not b) * x) → PairsPassed row marks (bytes + bool_byte (not b) * t) l (x + 1) (i + 1)
     passed-more h {t} {l} is most true e larger = record {
       upto = omega arith;
       own = omega (arith, p.own);
       low = omega (arith, p.low, same);
       few = omega (arith, p.few);
       sum = omega (arith, p.sum, sum-here pair_bytes row are i true e h);
-      none = λ f none. p.none f (marked-past row are i h e ∙ none) ∙ ap (of_variable f row) (sym same);
+      none = λ f none. p.none f (marked-past row are i h e ∙ none) ∙ ap (λ (v : ℕ). of_place f row (place_of v)) (sym same);
     }
       where
         same : l ≡ last
-        same = larger ∙ rw (le-ltb last (0 * x) (omega arith))
+        same = omega (arith, larger)
     passed-more h {t} {l} is most false e larger = record {
       upto = omega arith;
       own = omega (arith, p.own);
       low = omega (arith, here);
       few = omega (arith, p.few, most);
       sum = omega (arith, p.sum, sum-here pair_bytes row are i false e h, is);
-      none = λ f none. last-here f row are i h e none ∙ variable f;
+      none = λ f none. last-here f row are i h e none ∙ ap (λ (v : ℕ). of_place f row (place_of v)) (sym here);
     }
       where
-        here : l ≡ i + 1
-        here = larger ∙ rw (lt-ltb last (1 * x) (omega (arith, p.low, p.own))) (omega (arith, p.own))
+        here : l ≡ suc i
+        here = omega (arith, larger, p.low, p.own)
 
-        variable : (f : Pair → ℕ) → f (pair_at row i) ≡ of_variable f row l
-        variable f =
-            let index : i + 1 - 1 ≡ i = omega arith in
-            rw (here, ne_eqb (i + 1) 0 (λ z. omega arith), index)
-
-    pub passed-all : length row ≤ max_variables → length marks ≤ i → PairsSummed row (record { bytes = bytes; last = last })
-    passed-all small h = record {
+    pub passed-all : length row ≤ max_variables → length marks ≤ i → {place : Option ℕ} → place ≡ place_of last → PairsSummed row (record { bytes = bytes; last = place })
+    passed-all small h {place} is = record {
       bytes = omega (arith, p.sum, sum_past pair_bytes row are i h);
       few = omega (arith, p.few, p.upto, marks-length row are);
-      inside = omega (arith, p.low, p.upto, marks-length row are);
-      last = λ f. p.none f (walk_end (left_out row) row i (omega (arith, marks-length row are)));
+      inside = rw is (place-inside last (length row) (omega (arith, p.low, p.upto, marks-length row are)));
+      last = λ f. rw is (p.none f (walk_end (left_out row) row i (omega (arith, marks-length row are))));
     }

@@ -1,5 +1,5 @@
 -- What the code adds up: the figures of what rows add, and the bytes of a row's clauses by its pairs and by its auxiliaries. Assumes nothing.
-use Rattle.std.specs.Prelude.{◌≡◌, ℕ, zero, suc, ◌+◌, ◌-◌, ◌*◌, ◌≤◌, cond, List, [], ◌∷◌, length, eqb}
+use Rattle.std.specs.Prelude.{◌≡◌, ℕ, zero, suc, ◌+◌, ◌-◌, ◌*◌, ◌≤◌, ◌<◌, cond, List, [], ◌∷◌, length, eqb, Option, Some, None, IfSome}
 use Rattle.lists.specs.Sums.{sum_of}
 use Rattle.store.specs.Literals.{opposite_of}
 use Rattle.store.specs.Stores.{max_variables}
@@ -56,16 +56,17 @@ of_last f [] = 0
 of_last f (q ∷ []) = f q
 of_last f (q ∷ p ∷ pairs) = of_last f (p ∷ pairs)
 
--- the same by its variable: what the function gives for variable v of a row and its image
-abbrev pub of_variable : (Pair → ℕ) → List ℕ → ℕ → ℕ
-of_variable f row v = cond (eqb v 0) 0 (f (pair_at row (v - 1)))
+-- the same by its place: what the function gives for the variable at a place of a row and its image
+abbrev pub of_place : (Pair → ℕ) → List ℕ → Option ℕ → ℕ
+of_place f row None = 0
+of_place f row (Some i) = f (pair_at row i)
 
 -- what the pairs of a row have together
 pub record PairsSummed (row : List ℕ) (pairs : Pairs) : Type 0 where
   pub bytes : pairs.bytes ≡ sum_of pair_bytes (pairs_of row)
   pub few : pairs.bytes ≤ 46 * max_variables
-  pub inside : pairs.last ≤ length row
-  pub last : (f : Pair → ℕ) → of_last f (pairs_of row) ≡ of_variable f row pairs.last
+  pub inside : IfSome pairs.last (λ i. i < length row)
+  pub last : (f : Pair → ℕ) → of_last f (pairs_of row) ≡ of_place f row pairs.last
 
 -- ---- by the auxiliaries
 

@@ -7,7 +7,7 @@
 // digits, made in one pass along its marks, and the sum of its auxiliaries' digits, which are numbers that follow one another.
 #![tactic(auto)]
 
-ghost use Rattle.std.specs.Prelude.{◌≡◌, true, cond, ◌+◌, ◌*◌, ◌≤◌, length, ltb};
+ghost use Rattle.std.specs.Prelude.{◌≡◌, true, ◌+◌, ◌*◌, ◌≤◌, ◌<◌, length, IfSome};
 ghost use Rattle.lists.specs.Sums.{sum_of};
 ghost use Rattle.lists.specs.Tests.{all_of};
 ghost use Rattle.store.specs.Literals.{variable_of, is_literal};
@@ -17,7 +17,7 @@ ghost use Rattle.lexleader.specs.Made.{auxiliaries};
 ghost use Rattle.lexleader.specs.Bounds.{max_made_variables};
 ghost use Rattle.measure.specs.Figures.{figures_of};
 ghost use Rattle.measure.specs.Shares.{row_figures, added_figures, literals_for};
-ghost use Rattle.measure.specs.Shares.{word_bytes, plain_bytes, agree_bytes, pair_bytes, of_variable, auxiliary_bytes, PairsSummed};
+ghost use Rattle.measure.specs.Shares.{word_bytes, plain_bytes, agree_bytes, pair_bytes, of_place, auxiliary_bytes, PairsSummed};
 
 use lexleader::counting;
 use store::record::Record;
@@ -31,11 +31,11 @@ pub struct Figures {
     pub bytes: usize,
 }
 
-// What the pairs of a row have together: bytes, and the variable of the last one, 0 where there is none.
+// What the pairs of a row have together: bytes, and where in the row the last one is, if there is one.
 #[derive(Clone, Copy)]
 struct Pairs {
     bytes: usize,
-    last: usize,
+    last: Option<usize>,
 }
 
 // The figures of a well-formed store's made formula.
@@ -53,8 +53,8 @@ pub fn figures_of(counts: Record, literals: &[u16], ends: &[u16], images: &[u16]
     let clauses = m + added.clauses;
     let header = render::header_length(variables as u64, clauses as u64);
     Figures {
-        variables: variables,
-        clauses: clauses,
+        variables,
+        clauses,
         literals: used + added.literals,
         bytes: header + words + 2 * m + added.bytes,
     }
@@ -66,12 +66,10 @@ fn literal_bytes(literals: &[u16]) -> usize
     ensures { (result ≡ sum_of word_bytes literals.now) × (result ≤ 5 * max_literals) }
 {
     let mut sum: u16 = 0;
-    let mut i = 0;
-    while i < literals.len() {
-        sum += word_bytes(literals[i]);
-        i += 1;
+    for code in literals {
+        sum += word_bytes(*code);
     }
-    sum as usize
+    usize::from(sum)
 }
 
 fn word_bytes(code: u16) -> u16
@@ -90,20 +88,18 @@ fn added_figures(images: &[u16], rows: usize, n: usize, marks: &mut [bool]) -> F
     let mut clauses = 0;
     let mut literals = 0;
     let mut bytes = 0;
-    let mut r = 0;
-    while r < rows {
+    for r in 0..rows {
         let more = row_figures(store::rows::row(images, n, r), variables, marks);
         variables = more.variables;
         clauses += more.clauses;
         literals += more.literals;
         bytes += more.bytes;
-        r += 1;
     }
     Figures {
-        variables: variables,
-        clauses: clauses,
-        literals: literals,
-        bytes: bytes,
+        variables,
+        clauses,
+        literals,
+        bytes,
     }
 }
 
@@ -136,8 +132,8 @@ fn literals_for(count: usize, clauses: usize) -> usize
     19 * count - 2
 }
 
-// The bytes of a row's pairs, were the last one like the others, and its variable. x is the variable at i. The loop has no branch and
-// counts in 16 bits, so that compilers take eight variables at once.
+// The bytes of a row's pairs, were the last one like the others, and its place. In the loop `x` is the variable at i, and `last` that of the
+// last pair, 0 while there is none: with no branch, and 16 bits to each, compilers take eight variables at once.
 fn pairs_of(row: &[u16], marks: &[bool]) -> Pairs
     requires { let n = length row.now in (n ≤ max_variables) × (is_row n row.now ≡ true) × (marks.now ≡ marks_of row.now) }
     ensures { PairsSummed row.now result }
@@ -145,35 +141,27 @@ fn pairs_of(row: &[u16], marks: &[bool]) -> Pairs
     let mut bytes: u16 = 0;
     let mut last: u16 = 0;
     let mut x: u16 = 1;
-    let mut i = 0;
-    while i < marks.len() {
-        let own = (!marks[i]) as u16;
+    for (i, mark) in marks.iter().enumerate() {
+        let own = !*mark as u16;
         bytes += own * pair_bytes(x, row[i]);
-        last = larger(last, own * x);
+        last = last.max(own * x);
         x += 1;
-        i += 1;
     }
     Pairs {
-        bytes: bytes as usize,
-        last: last as usize,
+        bytes: usize::from(bytes),
+        last: usize::from(last).checked_sub(1),
     }
-}
-
-fn larger(a: u16, b: u16) -> u16
-    ensures { result ≡ cond (ltb a b) b a }
-{
-    if a < b { b } else { a }
 }
 
 // What the last pair has not of these bytes: no auxiliary is its own, so it stands in no clause r2 to r5.
-fn spared(row: &[u16], last: usize) -> usize
-    requires { let n = length row.now in (n ≤ max_variables) × (is_row n row.now ≡ true) × (last ≤ n) }
-    ensures { result ≡ of_variable agree_bytes row.now last }
+fn spared(row: &[u16], last: Option<usize>) -> usize
+    requires { let n = length row.now in (n ≤ max_variables) × (is_row n row.now ≡ true) × IfSome last (λ i. i < n) }
+    ensures { result ≡ of_place agree_bytes row.now last }
 {
-    if last == 0 {
-        return 0;
+    match last {
+        Some(i) => 4 * usize::from(plain_bytes(i as u16 + 1, row[i])),
+        None => 0,
     }
-    4 * plain_bytes(last as u16, row[last - 1]) as usize
 }
 
 // The bytes of a variable and its image as a pair.

@@ -116,7 +116,7 @@ module _ (a b : List ℕ) (i : ℕ) (e : length a ≡ length b) (f : FirstUnequa
       ≡ i * 64 + count_leading_zeros 64 (bit_xor (get_or a i 0) (get_or b i 0)) + 1
   words-difference = difference-at (all_bits a) (all_bits b) _ lengths (split _ (apart _ _ ha hb unequal))
 
-  pub words-less : less (all_bits a) (all_bits b) ≡ ltb (get_or a i 0) (get_or b i 0)
+  words-less : less (all_bits a) (all_bits b) ≡ ltb (get_or a i 0) (get_or b i 0)
   words-less =
       let z : ℕ = count_leading_zeros 64 (bit_xor (get_or a i 0) (get_or b i 0)) in
       let d = apart (get_or a i 0) (get_or b i 0) ha hb unequal in

@@ -1,11 +1,12 @@
 -- Filling a buffer: one law for a line that fits, one for a line that does not, and one for nothing left. Assumes nothing.
-use mathlib.Core.Path.{◌≡◌, refl, sym, ap, ◌∙◌}
+use mathlib.Core.Path.{◌≡◌, sym, ap, ◌∙◌}
 use mathlib.Core.Bool.{true}
 use mathlib.Core.List.{List, [], ◌∷◌}
 use Prim.Native.Nat.{ℕ, ◌+◌, ◌≤◌, ◌<◌}
 use native.Mathlib.Omega.{arith}
 use borrow.Author.Tests.{le-leb, lt-leb}
 use lib.ListN.{length, get_or}
+use Rattle.std.proofs.Common.{Some, None}
 use Rattle.store.specs.Stores.{Store, clause_at, is_formed}
 use Rattle.store.specs.declared.record.Record.{Record}
 use Rattle.symmetry.proofs.SetLaws.{at_mem}
@@ -16,8 +17,8 @@ use Rattle.render.proofs.LineLaws.{line-short, line-some}
 use Rattle.render.proofs.Writing.{length-written}
 use Rattle.emit.proofs.Bounds.{line-longest}
 use Rattle.cursor.specs.Cursors.{remaining, CursorStands}
-use Rattle.cursor.specs.declared.Cursor.{Cursor}
-use Rattle.pages.specs.Pages.{fill_from, longest, PageStep}
+use Rattle.pages.specs.Pages.{fill_from, longest, LineAdded, PageFull, LinePut}
+use Rattle.pages.specs.declared.Page.{Page}
 
 module _ (clause : List ℕ) (clauses : List (List ℕ)) (at : ℕ) (out : List ℕ) where
   pub fill_more : at + length (clause_line clause) ≤ length out → fill_from at (clause ∷ clauses) out ≡ fill_from (at + length (clause_line clause)) clauses (written_at at (clause_line clause) out)
@@ -42,32 +43,33 @@ added-short clause few = omega (arith, line-short clause)
 
 -- ---- one step
 
-module _ (plain : List (List ℕ)) (counts : Record) (images : List ℕ) (c : Cursor) (p : CursorStands counts images c) (at : ℕ) (out : List ℕ) (inside : at ≤ length out) where
+module _ (plain : List (List ℕ)) (counts : Record) (images : List ℕ) (page : Page) (out : List ℕ) where
   abbrev left : List (List ℕ)
-  left = remaining plain counts images c
+  left = remaining plain counts images page.cursor
 
-  -- nothing is added
-  stays : fill_from at left out ≡ record { buffer = out; end = at; rest = left } → (at + longest ≤ length out → left ≡ []) → PageStep plain counts images c at out c at out
-  stays e m = record { same = refl; stands = p; onward = omega arith; within = inside; size = refl; stopped = λ _. e; moves = λ room _. m room }
-
-  pub over : left ≡ [] → PageStep plain counts images c at out c at out
+  -- nothing is left
+  pub over : left ≡ [] → PageFull plain counts images page out out
   unfolding fill_from
-  over none = stays (rw none) (λ _. none)
+  over none = record { stopped = rw none; moves = λ _. none }
 
-  module _ (clause : List ℕ) (rest : List (List ℕ)) (is : left ≡ clause ∷ rest) where
-    pub full : length (clause_line clause) ≤ longest → length out < at + length (clause_line clause) → PageStep plain counts images c at out c at out
-    full short h = stays (rw is (fill-full clause rest at out h)) (λ room. absurd (omega arith))
+  module _ {clause : List ℕ} {rest : List (List ℕ)} (is : left ≡ clause ∷ rest) where
+    -- whose line does not fit
+    pub full : length (clause_line clause) ≤ longest → {line after : List ℕ} → line ≡ clause_line clause → LinePut line page.bytes out None after
+        → PageFull plain counts images page out after
+    full short {line} {after} e put =
+        let past : length out < page.bytes + length (clause_line clause) = rw e at put.0 in
+        rw put.1 (record { stopped = rw is (fill-full clause rest page.bytes out past); moves = λ room. absurd (omega arith) })
 
-    pub adds : at + length (clause_line clause) ≤ length out → (d : Cursor) → CursorStands counts images d → remaining plain counts images d ≡ rest
-        → (to : ℕ) (after : List ℕ) → to ≡ at + length (clause_line clause) → after ≡ written_at at (clause_line clause) out → PageStep plain counts images c at out d to after
-    adds room d q next to after t a =
-        let size : length after ≡ length out = ap length a ∙ length-written at (clause_line clause) out room in
+    -- whose line fits
+    pub adds : {line after : List ℕ} {longer : Page} → line ≡ clause_line clause → LinePut line page.bytes out (Some longer.bytes) after
+        → CursorStands counts images longer.cursor → remaining plain counts images longer.cursor ≡ rest → LineAdded plain counts images page out longer after
+    adds {line} {after} {longer} e put stands next =
+        let there : LinePut (clause_line clause) page.bytes out (Some longer.bytes) after = rw e at put in
+        let size : length after ≡ length out = ap length there.2 ∙ length-written page.bytes (clause_line clause) out there.0 in
         record {
-          same = rw (t, a, next) (sym (rw is (fill_more clause rest at out room)));
-          stands = q;
-          onward = omega arith;
-          within = omega arith;
+          same = rw (there.1, there.2, next) (sym (rw is (fill_more clause rest page.bytes out there.0)));
+          stands = stands;
+          onward = omega (arith, there.1, line-some clause);
+          within = omega (arith, there.1, there.0);
           size = size;
-          stopped = λ e. absurd (omega (arith, line-some clause));
-          moves = λ _ e. absurd (omega (arith, line-some clause));
         }

@@ -3,26 +3,20 @@
 // that are left decide what a page holds (specs/Pages.antt), and each line that is added leaves that as it was.
 #![tactic(auto)]
 
-ghost use Rattle.std.specs.Prelude.{◌≡◌, true, List, [], ℕ, ◌≤◌, ◌<◌, length, get_or};
-ghost use Rattle.store.specs.Stores.{stored, clause_at, plain_of, is_formed, FormedClauses};
+ghost use Rattle.std.specs.Prelude.{◌≡◌, true, List, [], ℕ, ◌≤◌, ◌<◌, length, get_or, map, IfSome};
+ghost use Rattle.store.specs.Stores.{max_literals, stored, clause_at, plain_of, is_formed, FormedClauses};
 ghost use Rattle.render.specs.Text.{clause_line};
 ghost use Rattle.cursor.specs.Cursors.{remaining_of, CursorStands, RowMarked, AtAdded};
-ghost use Rattle.pages.specs.Pages.{FilledPage, fill_from, longest, PageStep};
+ghost use Rattle.pages.specs.Pages.{FilledPage, fill_from, longest, PageStep, LinePut};
 
 use cursor::Cursor;
+use store::literal::Coded;
 use store::record::Record;
 
 // How many bytes of the buffer a page has, and where the next one begins.
 #[derive(Clone, Copy)]
 pub struct Page {
     pub bytes: usize,
-    pub cursor: Cursor,
-}
-
-// The place after a line, and the cursor after its clause.
-#[derive(Clone, Copy)]
-pub struct Line {
-    pub at: usize,
     pub cursor: Cursor,
 }
 
@@ -45,119 +39,97 @@ pub fn fill(
         (longest ≤ length out.old → result.bytes ≡ 0 → remaining_of s cursor ≡ []) }
 {
     cursor::mark(counts, images, cursor, marks);
-    let mut at = 0;
-    let mut next = cursor;
-    loop {
-        let line = add_line(counts, literals, ends, images, next, marks, out, at);
-        if line.at == at {
-            return Page {
-                bytes: at,
-                cursor: next,
-            };
-        }
-        at = line.at;
-        next = line.cursor;
+    let mut page = Page { bytes: 0, cursor };
+    while let Some(longer) = add_line(counts, literals, ends, images, page, marks, out) {
+        page = longer;
     }
+    page
 }
 
-// Adds the line of the clause at a cursor, where there is one and it fits.
+// The page with the line of the clause at its cursor, if there is one and it fits.
 fn add_line(
     counts: Record,
     literals: &[u16],
     ends: &[u16],
     images: &[u16],
-    cursor: Cursor,
+    page: Page,
     marks: &mut [bool],
     out: &mut [u8],
-    at: usize,
-) -> Line
-    requires { (is_formed (stored counts literals ends images) ≡ true) × CursorStands counts images.now cursor
-        × RowMarked counts images.now cursor marks.old × (at ≤ length out.old) }
+) -> Option<Page>
+    requires { (is_formed (stored counts literals ends images) ≡ true) × CursorStands counts images.now page.cursor
+        × RowMarked counts images.now page.cursor marks.old × (page.bytes ≤ length out.old) }
     ensures step { let plain = plain_of (stored counts literals.entry ends.entry images.entry) in
-        PageStep plain counts images.now cursor at out.old result.cursor result.at out.new }
-    ensures marks { RowMarked counts images.now result.cursor marks.new }
+        PageStep plain counts images.now page out.old result out.new }
+    ensures marks { IfSome result (λ longer. RowMarked counts images.now longer.cursor marks.new) }
 {
-    if cursor.plain < counts.clauses {
-        return add_plain(counts, literals, ends, cursor, out, at);
+    if page.cursor.plain < counts.clauses {
+        return add_plain(counts, literals, ends, page, out);
     }
-    if cursor.row < counts.rows {
-        return add_added(counts, images, cursor, marks, out, at);
+    if page.cursor.row < counts.rows {
+        return add_added(counts, images, page, marks, out);
     }
-    Line {
-        at: at,
-        cursor: cursor,
-    }
+    None
 }
 
-// Adds the line of a plain clause.
+// The page with the line of a plain clause.
 fn add_plain(
     counts: Record,
     literals: &[u16],
     ends: &[u16],
-    cursor: Cursor,
+    page: Page,
     out: &mut [u8],
-    at: usize,
-) -> Line
-    requires { FormedClauses counts.clauses literals.now ends.now × (cursor.plain < counts.clauses) × (at ≤ length out.old)
-        × (length (clause_line (clause_at literals.now ends.now cursor.plain)) ≤ longest) }
-    ensures step { let clause = clause_at literals.now ends.now cursor.plain in
-        ((plain : List (List ℕ)) → length plain ≡ counts.clauses → get_or plain cursor.plain [] ≡ clause
-        → (images : List ℕ) → CursorStands counts images cursor
-        → PageStep plain counts images cursor at out.old result.cursor result.at out.new) }
-    ensures row { result.cursor.row ≡ cursor.row }
+) -> Option<Page>
+    requires { FormedClauses counts.clauses literals.now ends.now × (page.cursor.plain < counts.clauses) × (page.bytes ≤ length out.old)
+        × (length (clause_line (clause_at literals.now ends.now page.cursor.plain)) ≤ longest) }
+    ensures step { let clause = clause_at literals.now ends.now page.cursor.plain in
+        ((plain : List (List ℕ)) → length plain ≡ counts.clauses → get_or plain page.cursor.plain [] ≡ clause
+        → (images : List ℕ) → CursorStands counts images page.cursor
+        → PageStep plain counts images page out.old result out.new) }
+    ensures row { IfSome result (λ longer. longer.cursor.row ≡ page.cursor.row) }
 {
-    let written = cursor.plain;
-    let clause = store::clauses::clause(literals, ends, counts.clauses, written);
-    let needed = render::stored_length(clause);
-    if out.len() - at < needed {
-        return Line {
-            at: at,
-            cursor: cursor,
-        };
-    }
-    let past = render::put_stored(out, at, clause);
-    let place = cursor.place;
-    Line {
-        at: past,
+    let cursor = page.cursor;
+    let clause = store::clauses::clause(literals, ends, counts.clauses, cursor.plain);
+    let bytes = put_line(clause, page.bytes, out)?;
+    Some(Page {
+        bytes,
         cursor: Cursor {
-            plain: written + 1,
-            row: cursor.row,
-            place: place,
+            plain: cursor.plain + 1,
+            ..cursor
         },
-    }
+    })
 }
 
-// Adds the line of a clause that the cursor's row adds.
+// The page with the line of a clause that the cursor's row adds.
 fn add_added(
     counts: Record,
     images: &[u16],
-    cursor: Cursor,
+    page: Page,
     marks: &mut [bool],
     out: &mut [u8],
-    at: usize,
-) -> Line
-    requires { CursorStands counts images.now cursor × AtAdded counts cursor
-        × RowMarked counts images.now cursor marks.old × (at ≤ length out.old) }
+) -> Option<Page>
+    requires { CursorStands counts images.now page.cursor × AtAdded counts page.cursor
+        × RowMarked counts images.now page.cursor marks.old × (page.bytes ≤ length out.old) }
     ensures step { let images = images.entry.now in
         ((plain : List (List ℕ)) → length plain ≡ counts.clauses
-        → PageStep plain counts images cursor at out.old result.cursor result.at out.new) }
-    ensures marks { RowMarked counts images.now result.cursor marks.new }
+        → PageStep plain counts images page out.old result out.new) }
+    ensures marks { IfSome result (λ longer. RowMarked counts images.now longer.cursor marks.new) }
 {
+    let cursor = page.cursor;
     let row = store::rows::row(images, counts.variables, cursor.row);
-    let place = cursor.place;
-    let clause = lexleader::places::clause_at(row, place);
-    let codes = clause.literals;
-    let count = clause.count;
-    let size = render::clause_length(&codes[..count]);
+    let clause = lexleader::places::clause_at(row, cursor.place);
+    let bytes = put_line(&clause.literals[..clause.count], page.bytes, out)?;
+    let cursor = cursor::next_added(counts, images, cursor, marks);
+    Some(Page { bytes, cursor })
+}
+
+// Writes a clause's line from a place of the buffer on, if it fits, and answers the place after it.
+fn put_line<C: Coded>(clause: &[C], at: usize, out: &mut [u8]) -> Option<usize>
+    requires { (length clause.now ≤ max_literals) × (at ≤ length out.old) }
+    ensures { LinePut (clause_line (map C.code clause.now)) at out.old result out.new }
+{
+    let size = render::clause_length(clause);
     if out.len() - at < size {
-        return Line {
-            at: at,
-            cursor: cursor,
-        };
+        return None;
     }
-    let past = render::put_clause(out, at, &codes[..count]);
-    Line {
-        at: past,
-        cursor: cursor::next_added(counts, images, cursor, marks),
-    }
+    Some(render::put_clause(out, at, clause))
 }

@@ -127,9 +127,6 @@ pub record Measured (clause : List ℕ) (i n : ℕ) : Type 0 where
   pub fits : length clause ≤ max_literals
   pub sum : n + length (clause_line (drop i clause)) ≡ length (clause_line clause) + 2
 
-pub measured-start : (clause : List ℕ) → length clause ≤ max_literals → Measured clause 0 2
-measured-start clause h = record { fits = h; sum = omega arith }
-
 module _ {clause : List ℕ} {i n : ℕ} (g : Measured clause i n) where
   -- w bytes for the literal i
   module _ {code w : ℕ} (a : CodeAt clause i code) (d : w ≡ length (literal_text code)) where
@@ -151,9 +148,6 @@ pub record Line (clause : List ℕ) (at : ℕ) (buffer : List ℕ) (i next : ℕ
   pub size : length out ≡ length buffer
   pub bytes : written_at at (clause_line clause) buffer ≡ written_at next (clause_line (drop i clause)) out
 
-pub line-start : (clause : List ℕ) (at : ℕ) (buffer : List ℕ) → at + length (clause_line clause) ≤ length buffer → Line clause at buffer 0 at buffer
-line-start clause at buffer h = record { place = refl; room = h; size = refl; bytes = refl }
-
 module _ {clause : List ℕ} {at : ℕ} {buffer : List ℕ} {i next : ℕ} {out : List ℕ} (g : Line clause at buffer i next out) where
   -- the word of the literal i
   module _ {code : ℕ} (a : CodeAt clause i code) where
@@ -172,14 +166,3 @@ module _ {clause : List ℕ} {at : ℕ} {buffer : List ℕ} {i next : ℕ} {out 
               ∙ ap (λ (bytes : List ℕ). written_at next bytes out) (line_at clause i a)
               ∙ sym (rw (p.0, p.1) (written-written next (word_text code) (clause_line (drop (i + 1) clause)) out (omega (arith, g.room))));
         }
-
-  -- the line's end
-  module _ (h : length clause ≤ i) where
-    pub end-room : next + length (clause_line []) ≤ length out
-    end-room = omega (arith, g.room, ap length (line-end clause i h))
-
-    pub line-last : {end : ℕ} {made : List ℕ} → Wrote next (clause_line []) out end made → Wrote at (clause_line clause) buffer end made
-    line-last {end} {made} p = (
-      omega (arith, g.place, p.0, ap length (line-end clause i h)),
-      p.1 ∙ sym (g.bytes ∙ ap (λ (bytes : List ℕ). written_at next bytes out) (line-end clause i h)),
-    )

@@ -41,9 +41,6 @@ bits_none values = refl
 pub record TableBegun (bits values : List Bool) (i : ℕ) : Type 0 where
   pub value : (code : ℕ) → 1 ≤ code / 2 → code / 2 < i → get_or values code false ≡ literal_value (value_of bits) code
 
-pub begun-none : (bits values : List Bool) → TableBegun bits values 1
-begun-none bits values = record { value = λ code low high. absurd (omega arith) }
-
 module _ (n : ℕ) (bits values : List Bool) (i : ℕ) (size : length bits ≡ n) (past : n < i) (begun : TableBegun bits values i) where
   pub begun-bits : bits_in n values ≡ bits
   begun-bits =

@@ -33,9 +33,10 @@ pub fn literal_value(a: &[u64], code: u32) -> bool
 {
     let value = packed::value(a, store::literal::variable(code));
     if store::literal::is_negative(code) {
-        return !value;
+        !value
+    } else {
+        value
     }
-    value
 }
 
 // Makes the table of the assignment of 1..n that the words hold.
@@ -44,12 +45,10 @@ pub fn tabulate(a: &[u64], n: usize, values: &mut [bool])
     ensures table { Table n values.new }
     ensures bits { bits_in n values.new ≡ bits_of n a.now }
 {
-    let mut i = 1;
-    while i <= n {
+    for i in 1..=n {
         let value = packed::value(a, i);
         values[2 * i] = value;
         values[2 * i + 1] = !value;
-        i += 1;
     }
 }
 
@@ -59,10 +58,8 @@ pub fn write(values: &[bool], n: usize, out: &mut [u64]) -> Writer
     ensures { WriterHolds (bits_in n values.now) result out.old out.new }
 {
     let mut w = writer::begin();
-    let mut i = 0;
-    while i < n {
+    for i in 0..n {
         w = writer::push(out, w, values[2 * i + 2], 1);
-        i += 1;
     }
     w
 }

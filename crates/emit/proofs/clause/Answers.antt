@@ -2,7 +2,7 @@
 use Rattle.std.proofs.Common.{ℕ, List, ◌-◌, length, sym, ap, refl, ◌∙◌, arith}
 use Rattle.std.proofs.lemmas.List.{map-id}
 use Rattle.std.proofs.Math.Seq.{length-take-le}
-use Rattle.store.specs.Refusals.{said_result, buffer_left}
+use Rattle.store.specs.Refusals.{said, buffer_left}
 use Rattle.store.specs.Stores.{held_rows}
 use Rattle.store.proofs.Formed.{formed, formed-rows, formed-clauses}
 use Rattle.lexleader.proofs.MadeLaws.{clauses-are, made_plain, made-added}
@@ -48,5 +48,5 @@ returns c =
     let line = ap clause_line (made-added _ c.requires (a.q - 1) c.if-c-counts.false) in
     record {
       answer = c.added.ensures.answer ∙ clause-added _ c.requires a.q (length a.out.now) c.if-q-eq0.false c.if-c-counts.false;
-      buffer = c.added.ensures.buffer ∙ ap (λ (l : List ℕ). buffer_left (said_result c.added.result) l a.out.now) (sym line);
+      buffer = c.added.ensures.buffer ∙ ap (λ (l : List ℕ). buffer_left (said c.added.result) l a.out.now) (sym line);
     }

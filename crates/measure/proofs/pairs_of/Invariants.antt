@@ -1,11 +1,6 @@
 -- `measure::pairs_of` meets its contract. The invariant: what the variables before index i have together (`PairsPassed`). Assumes nothing.
-use Prim.Native.Nat.{◌-◌}
-use lib.ListN.{length}
 use Rattle.measure.proofs.Walk.{PairsPassed}
 use Rattle.measure.proofs.pairs_of.Given as goal
 
 abbrev pub invariant-loop-i : goal.invariant-loop-i
 invariant-loop-i l = PairsPassed l.row l.marks l.bytes l.last l.x l.i
-
-abbrev pub decreases-loop-i : goal.decreases-loop-i
-decreases-loop-i l = length l.marks - l.i

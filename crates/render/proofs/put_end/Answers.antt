@@ -1,6 +1,6 @@
 -- `render::put_end` meets its contract: two stores are the empty clause's line. Assumes nothing.
-use Rattle.std.proofs.Common.{[], arith, rules}
-use Rattle.std.proofs.lemmas.Grind.{common_steps}
+use Rattle.std.proofs.Common.{[], sym, rules}
+use native.Mathlib.Numerals.{towards_suc}
 use Rattle.render.specs.Text.{clause_line}
 use Rattle.render.proofs.Writing.{stores}
 use Rattle.render.proofs.put_end.Goals as goal
@@ -17,5 +17,5 @@ pub returns : goal.returns
 unfolding clause_line
 returns c = record {
   next = search rules;
-  bytes = grind (arith, common_steps, stores c.args.at (clause_line []) c.args.out.now c.requires);
+  bytes = simp towards_suc (sym (stores c.args.at (clause_line []) c.args.out.now c.requires));
 }

@@ -21,5 +21,5 @@ found c n h =
 pub returns-then-is_negative : goal.returns-then-is_negative
 returns-then-is_negative c n h = negative-value _ _ _ (found (goal.at.returns-then-is_negative c).After-value-value n h) (eqb-true _ 1 (sym c.is_negative.ensures ∙ c.if-is_negative.true))
 
-pub returns : goal.returns
-returns c n h = positive-value _ _ _ (found (goal.at.returns c).After-value-value n h) (eqb-false _ 1 (sym c.is_negative.ensures ∙ c.if-is_negative.false))
+pub returns-else-is_negative : goal.returns-else-is_negative
+returns-else-is_negative c n h = positive-value _ _ _ (found (goal.at.returns-else-is_negative c).After-value-value n h) (eqb-false _ 1 (sym c.is_negative.ensures ∙ c.if-is_negative.false))

@@ -1,45 +1,30 @@
 -- `lexleader::numbered::row_clause` meets its contract: the place of the clause's number has the clause. Assumes nothing.
 use mathlib.Core.Path.{◌≡◌, refl, ap, ◌∙◌}
-use Prim.Native.Nat.{ℕ, ◌+◌, ◌-◌, ◌/◌, ◌≤◌}
+use Prim.Native.Nat.{ℕ, ◌+◌, ◌-◌, ◌/◌}
 use native.Mathlib.Omega.{arith}
-use lib.ListN.{length, drop}
-use Rattle.store.specs.Stores.{max_variables}
+use lib.ListN.{drop}
 use Rattle.lexleader.specs.Rows.{pairs_of}
 use Rattle.lexleader.specs.Clause.{pairs_at}
-use Rattle.lexleader.proofs.Walk.{pairs-length}
 use Rattle.lexleader.proofs.Marked.{marks-length}
-use Rattle.lexleader.proofs.Numbers.{row-most}
+use Rattle.lexleader.proofs.Numbers.{clause-auxiliary}
 use Rattle.lexleader.proofs.TableLaws.{clause-same}
 use Rattle.lexleader.proofs.PlaceLaws.{numbered, number-stands}
 use Rattle.lexleader.proofs.numbered.row_clause.Goals as goal
-use Rattle.lexleader.proofs.numbered.row_clause.Goals.{After-clause_at, After-next_pair-next, After-shared_slice_known-2-1}
-
--- the clause's auxiliary is one of the row's
-number : (c : After-shared_slice_known-2-1) → (c.args.q / 6 + 1 ≤ length (pairs_of c.args.row.now)) × (c.args.q / 6 + 1 ≤ max_variables)
-number c =
-    let row = c.args.row.now in
-    (omega (arith, row-most c.args.e row), omega (arith, row-most c.args.e row, pairs-length row))
 
 pub pair_at-i-requires : goal.pair_at-i-requires
-pair_at-i-requires c = (c.requires.0, c.requires.1, omega arith, (number c).0)
+pair_at-i-requires c = (c.requires.0, c.requires.1, omega arith, (clause-auxiliary c.args.e c.args.row.now c.requires.0 c.requires.3).0)
 
 pub next_pair-next-requires : goal.next_pair-next-requires
 next_pair-next-requires c = omega (arith, c.pair_at-i.ensures.0, marks-length _ c.requires.1)
 
--- the clause's auxiliary is one of the row's
-number-at-After-next_pair-next : (c : After-next_pair-next) → (c.args.q / 6 + 1 ≤ length (pairs_of c.args.row.now)) × (c.args.q / 6 + 1 ≤ max_variables)
-number-at-After-next_pair-next c =
-    let row = c.args.row.now in
-    (omega (arith, row-most c.args.e row), omega (arith, row-most c.args.e row, pairs-length row))
-
 pub overflow_cast-place : goal.overflow_cast-place
-overflow_cast-place c = omega (arith, (number-at-After-next_pair-next c).1)
+overflow_cast-place c = omega (arith, (clause-auxiliary c.args.e c.args.row.now c.requires.0 c.requires.3).1)
 
 pub overflow_add-place : goal.overflow_add-place
-overflow_add-place c = omega (arith, (number-at-After-next_pair-next c).1)
+overflow_add-place c = omega (arith, (clause-auxiliary c.args.e c.args.row.now c.requires.0 c.requires.3).1)
 
 pub overflow_add-place-2 : goal.overflow_add-place-2
-overflow_add-place-2 c = omega (arith, (number-at-After-next_pair-next c).1)
+overflow_add-place-2 c = omega (arith, (clause-auxiliary c.args.e c.args.row.now c.requires.0 c.requires.3).1)
 
 pub clause_at-requires : goal.clause_at-requires
 clause_at-requires c =
@@ -47,18 +32,12 @@ clause_at-requires c =
     let same : drop (c.args.q / 6) (pairs_of row) ≡ pairs_at c.pair_at-i.result row = ap (λ (k : ℕ). drop k (pairs_of row)) {x = c.args.q / 6} {y = c.args.q / 6 + 1 - 1} (omega arith) ∙ c.pair_at-i.ensures.1 in
     record {
       small = c.requires.0;
-      stands = number-stands row c.args.e c.args.q c.pair_at-i.result _ refl (omega (arith, (number-at-After-next_pair-next c).0)) same c.requires.3 c.pair_at-i.ensures.0 c.pair_at-i.ensures.2 (c.next_pair-next.ensures row c.requires.1) c.requires.2;
+      stands = number-stands row c.args.e c.args.q c.pair_at-i.result _ refl (omega (arith, (clause-auxiliary c.args.e c.args.row.now c.requires.0 c.requires.3).0)) same c.requires.3 c.pair_at-i.ensures.0 c.pair_at-i.ensures.2 (c.next_pair-next.ensures row c.requires.1) c.requires.2;
       inside = c.pair_at-i.ensures.0;
     }
-
--- the clause's auxiliary is one of the row's
-number-at-After-clause_at : (c : After-clause_at) → (c.args.q / 6 + 1 ≤ length (pairs_of c.args.row.now)) × (c.args.q / 6 + 1 ≤ max_variables)
-number-at-After-clause_at c =
-    let row = c.args.row.now in
-    (omega (arith, row-most c.args.e row), omega (arith, row-most c.args.e row, pairs-length row))
 
 pub returns : goal.returns
 returns c =
     let row = c.args.row.now in
     let same : drop (c.args.q / 6) (pairs_of row) ≡ pairs_at c.pair_at-i.result row = ap (λ (k : ℕ). drop k (pairs_of row)) {x = c.args.q / 6} {y = c.args.q / 6 + 1 - 1} (omega arith) ∙ c.pair_at-i.ensures.1 in
-    clause-same c.clause_at.ensures (numbered row c.args.e c.args.q c.pair_at-i.result _ refl (omega (arith, (number-at-After-clause_at c).0)) same)
+    clause-same c.clause_at.ensures (numbered row c.args.e c.args.q c.pair_at-i.result _ refl (omega (arith, (clause-auxiliary c.args.e c.args.row.now c.requires.0 c.requires.3).0)) same)

@@ -19,12 +19,6 @@ returns-then-next-row c =
     (same-table 1 {e = p.auxiliary} {k = 0} refl refl c.own_code-x.ensures c.wide-y.ensures.0 c.own_code-x.ensures c.wide-y.ensures.0
     ∙ sym (at_one row p c.requires.stands c.requires.inside (omega arith) (pair_at row p.index)))
 
-pub own_code-x2-requires : goal.own_code-x2-requires
-own_code-x2-requires c = omega (arith, (c.requires.stands.then c.requires.inside).within)
-
-pub bounds-row-next : goal.bounds-row-next
-bounds-row-next c = omega (arith, (c.requires.stands.then c.requires.inside).within)
-
 pub table_clause-requires-2 : goal.table_clause-requires-2
 table_clause-requires-2 c =
     let few = few-auxiliaries c.args.row.now c.args.place c.requires.stands in

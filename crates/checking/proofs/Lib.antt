@@ -2,4 +2,5 @@ pub mod ClauseLaws
 pub mod CheckLaws
 pub mod SixLaws
 pub mod ReadLaws
+pub mod HeadLaws
 pub mod VerdictLaws

@@ -1,10 +1,12 @@
 -- What is read from the table by code: a literal of 1..m has a place there, and its value is the one that it has in every assignment of the words that has its
 -- variable. Assumes nothing.
+use Rattle.std.specs.List.{list_any, All}
 use mathlib.Core.Path.{◌≡◌, refl, sym, ap₂, ◌∙◌}
-use mathlib.Core.Bool.{Bool, true, not, ◌||◌, beq}
+use mathlib.Core.Bool.{Bool, true, not, cond, ◌&&◌, ◌||◌, beq}
 use mathlib.Core.List.{List, [], ◌∷◌}
-use Prim.Native.Nat.{ℕ, ◌+◌, ◌*◌, ◌/◌, ◌<◌}
+use Prim.Native.Nat.{ℕ, ◌+◌, ◌*◌, ◌/◌, ◌≤◌, ◌<◌}
 use native.Mathlib.Omega.{arith}
+use lib.Dec.{eqb}
 use lib.ListN.{length, get_or}
 use Rattle.lists.specs.Tests.{any_of, all_of}
 use Rattle.lists.proofs.Cases.{and_l, and_r}
@@ -16,13 +18,15 @@ use Rattle.store.specs.Literals.{is_literal}
 use Rattle.store.specs.Stores.{is_row}
 use Rattle.store.proofs.FormLaws.{literal-low, literal-high, literal-within}
 use Rattle.store.proofs.Formed.{row_of}
-use Rattle.lexleader.specs.Models.{literal_value, clause_holds}
+use Rattle.lexleader.specs.Models.{literal_value, clause_holds, formula_holds}
 use Rattle.lexleader.specs.Made.{agrees}
 use Rattle.lexleader.specs.Clause.{pair_at}
+use Rattle.lexleader.specs.Places.{six_at}
+use Rattle.lexleader.specs.declared.places.Place.{Place}
 use Rattle.valuation.specs.Tables.{by_code}
 use Rattle.checking.specs.Reading.{TableOf}
-use Rattle.checking.specs.SixClauses.{ordered}
-use Rattle.checking.proofs.SixLaws.{PairWithin}
+use Rattle.checking.specs.SixClauses.{LiteralsWithin, ordered, auxiliary_due}
+use Rattle.checking.proofs.SixLaws.{PairWithin, six-say, own-within}
 
 module _ {m : ℕ} {values : List Bool} {a : List ℕ} (t : TableOf m values a) where
   place : (code : ℕ) → is_literal m code ≡ true → code < length values
@@ -38,11 +42,11 @@ module _ {m : ℕ} {values : List Bool} {a : List ℕ} (t : TableOf m values a) 
       t.table.value code low high ∙ rw (t.bits, same)
 
   -- a clause
-  pub clause-places : (clause : List ℕ) → all_of (is_literal m) clause ≡ true → (i : ℕ) → i < length clause → get_or clause i 0 < length values
-  clause-places clause good i h = place (get_or clause i 0) (all-at (is_literal m) clause 0 good i h)
+  pub clause-places : (clause : List ℕ) → all_of (is_literal m) clause ≡ true → All (λ code. code < length values) clause
+  clause-places clause good i d h = place (get_or clause i d) (all-at (is_literal m) clause d good i h)
 
   pub read-clause : (n : ℕ) (clause : List ℕ) → all_of (is_literal m) clause ≡ true → all_of (is_literal n) clause ≡ true
-      → any_of (by_code values) clause ≡ clause_holds (value_of (bits_of n a)) clause
+      → list_any (by_code values) clause ≡ clause_holds (value_of (bits_of n a)) clause
   unfolding clause_holds any_of all_of
   read-clause n [] l k = refl
   read-clause n (code ∷ clause) l k =
@@ -74,3 +78,13 @@ module _ (row : List ℕ) (good : is_row (length row) row ≡ true) {values : Li
     pub read-ordered : (b : Bool) → b ≡ (not (by_code values (2 * (i + 1))) || by_code values (get_or row i 0)) → b ≡ ordered (value_of (bits_of n a)) (pair_at row i)
     unfolding ordered
     read-ordered b e = e ∙ ap₂ (λ (u v : Bool). not u || v) x y
+
+-- the six clauses of the auxiliary at a place, by what was read: its own value, and whether it is due
+module _ (a row : List ℕ) (p : Place) {own due : Bool}
+    (reads : (n : ℕ) → p.auxiliary ≤ n → own ≡ literal_value (value_of (bits_of n a)) (2 * p.auxiliary))
+    (is-due : (n : ℕ) → LiteralsWithin n (six_at row p) → due ≡ auxiliary_due (value_of (bits_of n a)) row p) where
+  pub six-read : (n : ℕ) → LiteralsWithin n (six_at row p) → let v = value_of (bits_of n a) in
+      formula_holds v (six_at row p)
+      ≡ cond own (due && ordered v (pair_at row p.next)) (not due && (not (eqb p.j 1) || ordered v (pair_at row p.index)))
+  six-read n within =
+      rw (reads n (omega (arith, literal-high _ _ (own-within n row p within))), is-due n within) (six-say (value_of (bits_of n a)) row p)

@@ -15,7 +15,8 @@
 
 ghost use Rattle.std.specs.Prelude.{◌≡◌, true, not, ◌||◌, [], ℕ, ◌*◌, ◌<◌, length, get_or};
 ghost use Rattle.std.specs.Bool.{beq};
-ghost use Rattle.lists.specs.Tests.{any_of, all_of};
+ghost use Rattle.std.specs.List.{list_any, All};
+ghost use Rattle.lists.specs.Tests.{all_of};
 ghost use Rattle.packed.specs.Words.{bits_of, is_assignment};
 ghost use Rattle.packed.specs.Order.{value_of};
 ghost use Rattle.store.specs.Literals.{is_literal};
@@ -34,15 +35,8 @@ use cursor::Cursor;
 use lexleader::places::Place;
 use store::record::Record;
 
-// Every clause of the made formula is true, or the number of the first that is false, from 1.
-#[derive(Clone, Copy)]
-pub enum Checked {
-    Satisfied,
-    Falsified(usize),
-}
-
-// The first clause of the made formula that an assignment of 1..N makes false; how many clauses there are is known, and there is room for the
-// marks of a row.
+// The number, from 1, of the first clause of the made formula that an assignment of 1..N makes false; how many clauses there are is known, and
+// there is room for the marks of a row.
 pub fn first_false(
     counts: Record,
     literals: &[u16],
@@ -51,7 +45,7 @@ pub fn first_false(
     clauses: usize,
     a: &[u64],
     marks: &mut [bool],
-) -> Checked
+) -> Option<usize>
     requires { let s = stored counts literals ends images in
         (is_formed s ≡ true) × (is_assignment (variables_of s) a.now ≡ true) × (clauses ≡ clauses_of s) × (length marks.old ≡ counts.variables) }
     ensures { let s = stored counts literals.entry ends.entry images.entry in
@@ -61,6 +55,7 @@ pub fn first_false(
     valuation::tabulate(a, counts.variables, &mut values);
     let mut at = cursor::start(counts, images, marks);
     let mut q = 1;
+    // Counted by hand: the six clauses of an auxiliary are passed at once.
     while q <= clauses {
         if six_hold(counts, images, at, &values, a) {
             at = cursor::next_auxiliary(counts, images, at, marks);
@@ -68,12 +63,12 @@ pub fn first_false(
             continue;
         }
         if !holds_at(counts, literals, ends, images, at, &values, a) {
-            return Checked::Falsified(q);
+            return Some(q);
         }
         at = cursor::next(counts, images, at, marks);
         q += 1;
     }
-    Checked::Satisfied
+    None
 }
 
 // Whether a cursor stands at the first of an auxiliary's six clauses and they all hold.
@@ -89,8 +84,7 @@ fn six_hold(counts: Record, images: &[u16], at: Cursor, values: &[bool], a: &[u6
         return false;
     }
     let row = store::rows::row(images, counts.variables, at.row);
-    let place = at.place;
-    table_holds(row, place, values, a)
+    table_holds(row, at.place, values, a)
 }
 
 // Whether the six clauses of the auxiliary at a place hold: it is true exactly when it is due, the next pair is ordered where it is true,
@@ -102,22 +96,11 @@ fn table_holds(row: &[u16], place: Place, values: &[bool], a: &[u64]) -> bool
     ensures { let six = six_at row.now place in
         ((n : ℕ) → LiteralsWithin n six → result ≡ formula_holds (value_of (bits_of n a.now)) six) }
 {
-    let i = place.index;
-    let next = place.next;
     let due = auxiliary_due(row, place, values, a);
     if valuation::variable_value(a, place.auxiliary as usize) {
-        if !due {
-            return false;
-        }
-        return is_ordered(row, next, values);
+        return due && is_ordered(row, place.next, values);
     }
-    if due {
-        return false;
-    }
-    if place.j == 1 {
-        return is_ordered(row, i, values);
-    }
-    true
+    !due && (place.j != 1 || is_ordered(row, place.index, values))
 }
 
 // Whether the auxiliary at a place has to be true.
@@ -128,14 +111,11 @@ fn auxiliary_due(row: &[u16], place: Place, values: &[bool], a: &[u64]) -> bool
     ensures { let row = row.entry.now in
         ((n : ℕ) → LiteralsWithin n (six_at row place) → result ≡ auxiliary_due (value_of (bits_of n a.now)) row place) }
 {
-    let i = place.index;
     if place.j == 1 {
-        return pair_agrees(row, i, values);
+        return pair_agrees(row, place.index, values);
     }
-    if !valuation::variable_value(a, place.auxiliary as usize - 1) {
-        return false;
-    }
-    pair_agrees(row, i, values)
+    valuation::variable_value(a, place.auxiliary as usize - 1)
+        && pair_agrees(row, place.index, values)
 }
 
 // Whether a variable and its image have the same value.
@@ -158,11 +138,7 @@ fn is_ordered(row: &[u16], i: usize, values: &[bool]) -> bool
         result ≡ (not (value pair.x) || value pair.y) }
 {
     let own = 2 * (i + 1);
-    if !values[own] {
-        return true;
-    }
-    let image = row[i] as usize;
-    values[image]
+    !values[own] || values[row[i] as usize]
 }
 
 // Whether the clause at a cursor has a true literal.
@@ -199,17 +175,10 @@ fn holds_at(
 
 // Whether a clause of the store has a true literal.
 fn stored_holds(clause: &[u16], values: &[bool]) -> bool
-    requires { (i : ℕ) → i < length clause.now → get_or clause.now i 0 < length values.now }
-    ensures { result ≡ any_of (by_code values.now) clause.now }
+    requires { All (λ code. code < length values.now) clause.now }
+    ensures { result ≡ list_any (by_code values.now) clause.now }
 {
-    let mut i = 0;
-    while i < clause.len() {
-        if values[clause[i] as usize] {
-            return true;
-        }
-        i += 1;
-    }
-    false
+    clause.iter().any(|code| values[*code as usize])
 }
 
 // Whether a clause of any codes, as the rows add them, has a true literal.
@@ -218,12 +187,11 @@ fn codes_hold(clause: &[u32], a: &[u64]) -> bool
     ensures { let clause = clause.entry.now in
         ((n : ℕ) → all_of (is_literal n) clause ≡ true → result ≡ clause_holds (value_of (bits_of n a.now)) clause) }
 {
-    let mut i = 0;
-    while i < clause.len() {
-        if valuation::literal_value(a, clause[i]) {
+    // A loop and no `any`, as what is read is known only of variables that the words hold.
+    for code in clause {
+        if valuation::literal_value(a, *code) {
             return true;
         }
-        i += 1;
     }
     false
 }

@@ -2,10 +2,12 @@
 -- Assumes nothing.
 use mathlib.Core.Path.{◌≡◌, refl, sym, ◌∙◌}
 use mathlib.Core.Bool.{Bool, true, false, cond, beq}
-use mathlib.Core.List.{List, [], ◌∷◌, ◌++◌}
-use Prim.Native.Nat.{ℕ, suc, ◌+◌, ◌-◌, ◌*◌, ◌/◌, ◌≤◌, ◌<◌}
+use mathlib.Core.List.{List, [], ◌∷◌, ◌++◌, append-nil}
+use mathlib.Core.Logic.{⊎_elim}
+use Prim.Native.Nat.{ℕ, suc, ◌+◌, ◌-◌, ◌*◌, ◌/◌, ◌≤◌, ◌<◌, min}
 use native.Mathlib.Omega.{arith}
 use lib.ListN.{length, take, replicate, length-append}
+use Rattle.lists.proofs.Cases.{lt-or-le}
 use Rattle.packed.specs.Words.{max_words, bits_of, word_count}
 use Rattle.packed.specs.Order.{value_of}
 use Rattle.packed.specs.Writing.{WriterHolds, Appends}
@@ -67,18 +69,29 @@ module _ (v : ℕ → Bool) where
           (λ h. absurd (omega arith), λ h. rw (e, size, all, after-false (p ∷ pairs)))
 
 module _ (row : List ℕ) (bits : List Bool) (all agreed : ℕ) (count : all ≡ auxiliaries row) (is : agreed ≡ agreeing (value_of bits) (pairs_of row)) where
-  pub settings-alike : all ≤ agreed → row_settings row bits ≡ replicate all true
+  settings-alike : all ≤ agreed → row_settings row bits ≡ replicate all true
   unfolding row_settings auxiliaries
   settings-alike h = rw count ((after-true (value_of bits) (pairs_of row) agreed is).0 (omega (arith, count)))
 
-  pub settings-apart : agreed < all → row_settings row bits ≡ replicate agreed true ++ replicate (all - agreed) false
+  settings-apart : agreed < all → row_settings row bits ≡ replicate agreed true ++ replicate (all - agreed) false
   unfolding row_settings auxiliaries
   settings-apart h = rw count ((after-true (value_of bits) (pairs_of row) agreed is).1 (omega (arith, count)))
 
-  -- after the run of true, the run of false is left
-  pub halfway : {w v : Writer} {out after : List ℕ} → agreed < all → Appends w (replicate agreed true) out v after
-      → WriterRun w out (row_settings row bits) (replicate (all - agreed) false) v after
-  halfway {w} {out = out} h begun = run_more (rw (settings-apart h) (run-start w out _)) begun
+  -- no more of them than there are
+  module _ (m : ℕ) (least : m ≡ min agreed all) where
+    pub settings-runs : row_settings row bits ≡ replicate m true ++ replicate (all - m) false
+    settings-runs =
+        ⊎_elim (λ (h : agreed < all). let is : m ≡ agreed = omega (arith, least) in rw is (settings-apart h))
+        (λ (h : all ≤ agreed).
+        let is : m ≡ all = omega (arith, least) in
+        let none : all - all ≡ 0 = omega arith in
+        rw (is, none) (settings-alike h ∙ sym (append-nil (replicate all true))))
+        (lt-or-le agreed all)
+
+    -- after the run of true, the run of false is left
+    pub halfway : {w v : Writer} {out after : List ℕ} → Appends w (replicate m true) out v after
+        → WriterRun w out (row_settings row bits) (replicate (all - m) false) v after
+    halfway {w} {out = out} begun = run_more (rw settings-runs (run-start w out _)) begun
 
 -- ---- how far a row's x agree with their images: up to the one that decides
 

@@ -9,9 +9,9 @@
 // writer takes up to 32 values at a time (`packed::writer`). Values are read from a table by code (`valuation::tabulate`), not from the
 // words.
 //
-// What makes the proof go: `settings-alike` and `settings-apart` (proofs/Runs.antt) say that the definition, which carries agreement
-// along the pairs, is these two runs; each function's contract is that it appends its values to whatever the writer holds (`Appends`),
-// so the loop over the rows needs only that the rows passed and the rows left make up all of them.
+// What makes the proof go: `settings-runs` (proofs/Runs.antt) says that the definition, which carries agreement along the pairs, is these
+// two runs; each function's contract is that it appends its values to whatever the writer holds (`Appends`), so the loop over the rows
+// needs only that the rows passed and the rows left make up all of them.
 #![tactic(auto)]
 
 ghost use Rattle.std.specs.Prelude.{◌≡◌, true, ◌++◌, ◌≤◌, length, drop};
@@ -78,10 +78,7 @@ fn fill_row(row: &[u16], values: &[bool], marks: &mut [bool], out: &mut [u64], w
 {
     let added = lexleader::counting::added_by(row, marks);
     let all = added.auxiliaries;
-    let agreed = agreeing(row, values, marks);
-    if all <= agreed {
-        return writer::push_run(out, w, true, all);
-    }
+    let agreed = agreeing(row, values, marks).min(all);
     let begun = writer::push_run(out, w, true, agreed);
     writer::push_run(out, begun, false, all - agreed)
 }

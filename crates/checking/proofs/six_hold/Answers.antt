@@ -4,7 +4,6 @@ use mathlib.Core.Bool.{true}
 use mathlib.Core.List.{List}
 use Prim.Native.Nat.{ℕ, ◌*◌, ◌<◌}
 use native.Mathlib.Omega.{arith}
-use borrow.Author.Tests.{not-false}
 use lib.ListN.{length}
 use Rattle.lists.specs.Tests.{all_of}
 use Rattle.lists.proofs.Cases.{never}
@@ -28,7 +27,7 @@ pub returns-then-not-at_auxiliary : goal.returns-then-not-at_auxiliary
 returns-then-not-at_auxiliary c = never
 
 at : (c : Else-not-at_auxiliary) → let a = c.args in AtAuxiliary a.counts a.at
-at c = c.at_auxiliary.ensures (not-false _ c.if-not-at_auxiliary.false-raw)
+at c = c.at_auxiliary.ensures c.if-not-at_auxiliary.false
 
 pub row-row-requires : goal.row-row-requires
 row-row-requires c =

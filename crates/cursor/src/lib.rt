@@ -23,7 +23,8 @@ ghost use Rattle.cursor.specs.Cursors.{added_from, remaining, row_of, CursorStan
 use lexleader::places::Place;
 use store::record::Record;
 
-// How many plain clauses are passed, the row whose clauses come next, and the place among them.
+// How many plain clauses are passed, the row whose clauses come next, and the place among them. Past all rows the row is their count
+// (`CursorStands`).
 #[derive(Clone, Copy)]
 pub struct Cursor {
     pub plain: usize,

@@ -19,7 +19,8 @@ use crate::table;
 use crate::table::Clause;
 
 // A place among the clauses that a row adds: clause r of auxiliary j, that auxiliary's number, and the indices of its pair's variable and
-// of the next one. Past the last clause the index is the row's length and the number that of the next row's first auxiliary.
+// of the next one. Past the last clause the index is the row's length and the number that of the next row's first auxiliary, which the walk
+// goes on from: so there is a place too where no clause is (`past_last`), and it is no Option.
 #[derive(Clone, Copy)]
 pub struct Place {
     pub index: usize,
@@ -114,7 +115,8 @@ fn no_place(row: &[u16], e: u32) -> Place
     }
 }
 
-// The index of a row's first x at or after an index, by the marks of what is left out; the row's length where there is none.
+// The index of a row's first x at or after an index, by the marks of what is left out; the row's length where there is none, as `NextBut`
+// says and a place's `next` needs it.
 pub fn next_pair(marks: &[bool], from: usize) -> usize
     requires { from ≤ length marks.now }
     ensures { (row : List ℕ) → marks.now ≡ marks_of row → NextPair row from result }

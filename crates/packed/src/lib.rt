@@ -55,7 +55,8 @@ pub fn first_difference(a: &[u64], b: &[u64]) -> usize
     }
 }
 
-// The lesser of a and b, itself: the first when they are equal, the empty beginning of the first when their lengths differ.
+// The lesser of a and b, itself: the first when they are equal, the empty beginning of the first, document 01's answer, when their lengths
+// differ (`lesser_of`).
 pub fn lesser<'a>(a: &'a [u64], b: &'a [u64]) -> &'a [u64]
     ensures { part result ≡ lesser_of (part a.entry) (part b.entry) }
 {

@@ -3,12 +3,12 @@
 // of words after it, and each pass is a walk through such a list.
 #![tactic(auto)]
 
-ghost use Rattle.std.specs.Prelude.{◌≡◌, true, [], ◌∷◌, ℕ, ◌≤◌, length};
+ghost use Rattle.std.specs.Prelude.{◌≡◌, true, ◌&&◌, leb, [], ◌∷◌, ℕ, ◌≤◌, length};
 ghost use Rattle.lists.specs.Writing.{overwritten};
 ghost use Rattle.dimacs.specs.Words.{Piece, words_at};
 ghost use Rattle.dimacs.specs.Numbers.{Numeral, word_at};
 ghost use Rattle.comments.specs.Comments.{words_past, Between};
-ghost use Rattle.store.specs.Stores.{max_variables};
+ghost use Rattle.store.specs.Stores.{max_variables, max_clauses};
 ghost use Rattle.keys.specs.Keys.{keys_of};
 ghost use Rattle.opening.specs.Problem.{same_bytes, sizes_if, four_words, sizes_of, problem_of};
 ghost use Rattle.opening.specs.Clauses.{scan_from, literals_in, ends_from};
@@ -76,13 +76,17 @@ fn problem_of(text: &[u8]) -> Result<Problem, Refusal>
     let Some(sizes) = sizes_of(&text[start..end]) else {
         return Err(Refusal::NoProblemLine(start));
     };
-    if Record::MAX_VARIABLES < sizes.variables {
-        return Err(Refusal::SizeOverLimit(start));
-    }
-    if Record::MAX_CLAUSES < sizes.clauses {
+    if !fits(sizes) {
         return Err(Refusal::SizeOverLimit(start));
     }
     Ok(Problem { sizes, end })
+}
+
+// Whether n and m are within their limits.
+fn fits(sizes: Sizes) -> bool
+    ensures { result ≡ (leb sizes.variables max_variables && leb sizes.clauses max_clauses) }
+{
+    sizes.variables <= Record::MAX_VARIABLES && sizes.clauses <= Record::MAX_CLAUSES
 }
 
 // What a line says: the word `p` at its start, the word `cnf`, and two numbers.

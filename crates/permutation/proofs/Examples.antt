@@ -2,6 +2,7 @@
 use mathlib.Core.Path.{◌≡◌, refl}
 use mathlib.Core.List.{List, [], ◌∷◌, map}
 use Prim.Native.Nat.{ℕ}
+use Rattle.std.proofs.Common.{Ok, Err}
 use Rattle.lists.specs.Tests.{any_of, all_of}
 use Rattle.lists.specs.Tables.{table}
 use Rattle.dimacs.specs.Words.{is_blank, run, words_from}
@@ -11,7 +12,6 @@ use Rattle.store.specs.declared.refusal.Refusal.{Refusal}
 use Rattle.store.specs.Numerals.{code_in}
 use Rattle.permutation.specs.Lines.{is_name, not_number, bad_name_after, bad_name, bad_value_after, names_on, values_on}
 use Rattle.permutation.specs.Stated.{stated_by, image_among, row_stated}
-use Rattle.permutation.specs.declared.Stated.{Stated}
 
 -- a line of names and a line of values
 record Offer : Type 0 where
@@ -34,18 +34,18 @@ answers :
     ∷ record { names = 52 ∷ 32 ∷ 120 ∷ []; values = 49 ∷ [] }
     ∷ record { names = 32 ∷ 32 ∷ []; values = 49 ∷ [] }
     ∷ [])
-    ≡ Stated.Permutation
-    ∷ Stated.Permutation
-    ∷ Stated.Refused (Refusal.BadValue 1)
-    ∷ Stated.Refused (Refusal.BadValue 2)
-    ∷ Stated.Refused (Refusal.BadValue 2)
-    ∷ Stated.Refused (Refusal.ValueNotNumber 4)
-    ∷ Stated.Refused (Refusal.BadValue 0)
-    ∷ Stated.Refused (Refusal.BadName 2)
-    ∷ Stated.Refused (Refusal.BadName 0)
-    ∷ Stated.Refused (Refusal.BadName 0)
-    ∷ Stated.Refused (Refusal.NameNotNumber 2)
-    ∷ Stated.Refused (Refusal.BadName 2)
+    ≡ (Ok tt)
+    ∷ (Ok tt)
+    ∷ Err (Refusal.BadValue 1)
+    ∷ Err (Refusal.BadValue 2)
+    ∷ Err (Refusal.BadValue 2)
+    ∷ Err (Refusal.ValueNotNumber 4)
+    ∷ Err (Refusal.BadValue 0)
+    ∷ Err (Refusal.BadName 2)
+    ∷ Err (Refusal.BadName 0)
+    ∷ Err (Refusal.BadName 0)
+    ∷ Err (Refusal.NameNotNumber 2)
+    ∷ Err (Refusal.BadName 2)
     ∷ []
 unfolding stated_by not_number bad_name bad_name_after bad_value_after names_on code_in is_name is_literal any_of all_of is_digit decimal_from digits_of size_of numeral_of is_blank run words_from
 answers = refl

@@ -6,6 +6,7 @@ use Prim.Native.Nat.{ℕ, ◌≤◌, ◌<◌}
 use native.Mathlib.Omega.{arith}
 use borrow.Author.Tests.{lt-ltb, le-ltb}
 use lib.ListN.{length}
+use Rattle.std.proofs.Common.{Option, Some, None}
 use Rattle.lists.specs.Tests.{any_of, has}
 use Rattle.lists.proofs.Cases.{never, and_l, not_so}
 use Rattle.dimacs.specs.Words.{Piece, words_at}
@@ -14,7 +15,6 @@ use Rattle.store.specs.Literals.{variable_of, is_literal}
 use Rattle.store.specs.Numerals.{code_in}
 use Rattle.permutation.specs.Lines.{is_name, not_number, bad_name_after, bad_name, bad_value_after}
 use Rattle.permutation.specs.Names.{Named}
-use Rattle.permutation.specs.declared.Fault.{Fault}
 use Rattle.permutation.proofs.Walks.{Word, Stray}
 use Rattle.permutation.proofs.Marks.{is_free}
 use Rattle.permutation.proofs.NameLaws.{size_in, Passes, size-some}
@@ -22,11 +22,11 @@ use Rattle.permutation.proofs.InOrder.{is_value, value-literal}
 
 -- ---- 7 and 9
 
-pub number-end : {words : List Piece} → words ≡ [] → not_number words ≡ Fault.Nowhere
+pub number-end : {words : List Piece} → words ≡ [] → not_number words ≡ None
 unfolding not_number
 number-end e = rw e
 
-pub number-stray : {line : List ℕ} {at place : ℕ} → Stray line at place → not_number (words_at line at) ≡ Fault.At place
+pub number-stray : {line : List ℕ} {at place : ℕ} → Stray line at place → not_number (words_at line at) ≡ Some place
 unfolding not_number
 number-stray s = rw (s.words, s.number)
 
@@ -37,7 +37,7 @@ number-on w = rw (w.words, w.number)
 
 -- ---- 8
 
-pub name-missing : (n end : ℕ) {words : List Piece} → words ≡ [] → bad_name n end words ≡ Fault.At end
+pub name-missing : (n end : ℕ) {words : List Piece} → words ≡ [] → bad_name n end words ≡ Some end
 unfolding bad_name
 name-missing n end e = rw e
 
@@ -46,16 +46,16 @@ unfolding bad_name
 name-first n end e = rw e
 
 module _ (n : ℕ) (seen : List ℕ) where
-  pub name-end : {words : List Piece} → words ≡ [] → bad_name_after n seen words ≡ Fault.Nowhere
+  pub name-end : {words : List Piece} → words ≡ [] → bad_name_after n seen words ≡ None
   unfolding bad_name_after
   name-end e = rw e
 
   module _ {words : List Piece} {w : Piece} {rest : List Piece} (e : words ≡ w ∷ rest) where
-    pub name-outside : is_name n (code_in w) ≡ false → bad_name_after n seen words ≡ Fault.At w.place
+    pub name-outside : is_name n (code_in w) ≡ false → bad_name_after n seen words ≡ Some w.place
     unfolding bad_name_after
     name-outside i = rw (e, i)
 
-    pub name-twice : (name : ℕ) → Passes (is_name n) (code_in w) name → has seen name ≡ true → bad_name_after n seen words ≡ Fault.At w.place
+    pub name-twice : (name : ℕ) → Passes (is_name n) (code_in w) name → has seen name ≡ true → bad_name_after n seen words ≡ Some w.place
     unfolding bad_name_after
     name-twice name i h = rw (e, i.is, h, and-false (is_name n (code_in w)))
 
@@ -73,7 +73,7 @@ name-same n seen more e (w ∷ words) =
     rw (e v, name-same n (v ∷ seen) (v ∷ more) (λ u. rw (e u)) words)
 
 -- what rule 8 finds from a place on, after the names before it
-pub bad_name_from : ℕ → ℕ → List ℕ → List Piece → Fault
+pub bad_name_from : ℕ → ℕ → List ℕ → List Piece → Option ℕ
 bad_name_from n end [] words = bad_name n end words
 bad_name_from n end (v ∷ seen) words = bad_name_after n (v ∷ seen) words
 
@@ -82,7 +82,7 @@ module _ (n end : ℕ) where
   unfolding bad_name_from
   from_start words = refl
 
-  pub from-none : (seen : List ℕ) {words : List Piece} → length seen ≡ 0 → words ≡ [] → bad_name_from n end seen words ≡ Fault.At end
+  pub from-none : (seen : List ℕ) {words : List Piece} → length seen ≡ 0 → words ≡ [] → bad_name_from n end seen words ≡ Some end
   unfolding bad_name_from
   from-none [] z e = name-missing n end e
   from-none (v ∷ seen) z e = absurd (omega arith)
@@ -107,17 +107,17 @@ pub zero-taken : {n : ℕ} {names : List ℕ} → Named n names → (used : List
 zero-taken named used = not_so _ (λ f. free-some named used 0 f refl)
 
 module _ (names : List ℕ) (end : ℕ) (used : List ℕ) where
-  pub value-few : {words : List Piece} → words ≡ [] → length used < length names → bad_value_after names end used words ≡ Fault.At end
+  pub value-few : {words : List Piece} → words ≡ [] → length used < length names → bad_value_after names end used words ≡ Some end
   unfolding bad_value_after
   value-few e h = rw (e, lt-ltb (length used) (length names) h)
 
-  pub value-end : {words : List Piece} → words ≡ [] → length names ≤ length used → bad_value_after names end used words ≡ Fault.Nowhere
+  pub value-end : {words : List Piece} → words ≡ [] → length names ≤ length used → bad_value_after names end used words ≡ None
   unfolding bad_value_after
   value-end e h = rw (e, le-ltb (length used) (length names) h)
 
   module _ {words : List Piece} {w : Piece} {rest : List Piece} (e : words ≡ w ∷ rest)
       (n size : ℕ) (is : size ≡ size_in (is_literal n) (code_in w)) (named : Named n names) where
-    pub value-stop : is_free names used size ≡ false → bad_value_after names end used words ≡ Fault.At w.place
+    pub value-stop : is_free names used size ≡ false → bad_value_after names end used words ≡ Some w.place
     unfolding bad_value_after
     value-stop f = rw (e, not_free (is_literal n (code_in w)) refl is)
       where

@@ -7,6 +7,7 @@ use native.Mathlib.Omega.{arith}
 use borrow.Author.Tests.{not-true, eqb-true, ltb-false}
 use lib.ListN.{length, get_or, length-map}
 use lib.Dec.{eqb, ltb}
+use Rattle.std.proofs.Common.{Option, Some, None, Ok, Result}
 use Rattle.lists.specs.Tests.{any_of, all_of, has, distinct}
 use Rattle.lists.specs.Tables.{table}
 use Rattle.lists.proofs.Cases.{never, and_l, and_r, and_both, or_cases, or-r-false, not_so}
@@ -20,8 +21,6 @@ use Rattle.store.proofs.FormLaws.{variables, variable-at, literal-zero, literal-
 use Rattle.store.specs.Numerals.{is_numeral, numeral_code, code_in}
 use Rattle.permutation.specs.Lines.{is_name, not_number, bad_name_after, bad_name, bad_value_after, names_on, values_on}
 use Rattle.permutation.specs.Stated.{or_else, stated_by}
-use Rattle.permutation.specs.declared.Fault.{Fault}
-use Rattle.permutation.specs.declared.Stated.{Stated}
 use Rattle.permutation.specs.Names.{Named}
 use Rattle.permutation.proofs.Lists.{rest-differ, no_longer}
 use Rattle.permutation.proofs.NameLaws.{name-literal}
@@ -53,11 +52,11 @@ sifted-more pass seen code codes e rest =
     }
 
 -- a test that no fault comes of
-clear : (t : Bool) (next : Fault) (place : ℕ) → cond t next (Fault.At place) ≡ Fault.Nowhere → (t ≡ true) × (next ≡ Fault.Nowhere)
+clear : (t : Bool) (next : Option ℕ) (place : ℕ) → cond t next (Some place) ≡ None → (t ≡ true) × (next ≡ None)
 clear true next place e = (refl, e)
 clear false next place e = let z : ◌≡◌ {A = ℕ} 0 1 = cc in absurd (omega arith)
 
-names-sifted : (n : ℕ) (seen : List ℕ) (words : List Piece) → bad_name_after n seen words ≡ Fault.Nowhere → Sifted (is_name n) seen (map code_in words)
+names-sifted : (n : ℕ) (seen : List ℕ) (words : List Piece) → bad_name_after n seen words ≡ None → Sifted (is_name n) seen (map code_in words)
 unfolding bad_name_after
 names-sifted n seen [] e = sifted-none (is_name n) seen
 names-sifted n seen (w ∷ words) e =
@@ -107,12 +106,12 @@ names_of n codes s = record {
   differ = s.differ;
 }
 
-name-after : (n end : ℕ) (words : List Piece) → bad_name n end words ≡ Fault.Nowhere → bad_name_after n [] words ≡ Fault.Nowhere
+name-after : (n end : ℕ) (words : List Piece) → bad_name n end words ≡ None → bad_name_after n [] words ≡ None
 unfolding bad_name bad_name_after
 name-after n end [] e = refl
 name-after n end (w ∷ words) e = e
 
-named-on : (n end : ℕ) (line : List ℕ) → bad_name n end (words_at line 0) ≡ Fault.Nowhere → Named n (names_on line)
+named-on : (n end : ℕ) (line : List ℕ) → bad_name n end (words_at line 0) ≡ None → Named n (names_on line)
 unfolding names_on
 named-on n end line e =
     rw (← (map-map variable_of code_in (words_at line 0))) (names_of n _ (names-sifted n [] (words_at line 0) (name-after n end (words_at line 0) e)))
@@ -126,12 +125,12 @@ is_value names code = has names (variable_of code)
 pub value-literal : (n : ℕ) (names : List ℕ) (code : ℕ) → Named n names → is_value names code ≡ true → is_literal n code ≡ true
 value-literal n names code named e = literal-within n code (named.low _ e) (named.high _ e)
 
-values-sifted : (names : List ℕ) (end : ℕ) (used : List ℕ) (words : List Piece) → bad_value_after names end used words ≡ Fault.Nowhere
+values-sifted : (names : List ℕ) (end : ℕ) (used : List ℕ) (words : List Piece) → bad_value_after names end used words ≡ None
     → Sifted (is_value names) used (map code_in words) × (length names ≤ length used + length words)
 unfolding bad_value_after
 values-sifted names end used [] e = (sifted-none (is_value names) used, by (ltb (length used) (length names)) refl e)
   where
-    by : (t : Bool) → ltb (length used) (length names) ≡ t → cond t (Fault.At end) Fault.Nowhere ≡ Fault.Nowhere → length names ≤ length used + 0
+    by : (t : Bool) → ltb (length used) (length names) ≡ t → cond t (Some end) None ≡ None → length names ≤ length used + 0
     by true q k = let z : ◌≡◌ {A = ℕ} 0 1 = cc in absurd (omega arith)
     by false q k = omega (arith, ltb-false (length used) (length names) q)
 values-sifted names end used (w ∷ words) e =
@@ -151,18 +150,18 @@ literal-number n w e = by (numeral_of w.bytes) e
     by Numeral.Not i = never (sym (literal-zero n 0 refl) ∙ i)
 
 all-numbers : (n : ℕ) (pass : ℕ → Bool) → ((code : ℕ) → pass code ≡ true → is_literal n code ≡ true) → (words : List Piece)
-    → all_of pass (map code_in words) ≡ true → not_number words ≡ Fault.Nowhere
+    → all_of pass (map code_in words) ≡ true → not_number words ≡ None
 unfolding not_number all_of
 all-numbers n pass only [] e = refl
 all-numbers n pass only (w ∷ words) e =
     rw (literal-number n w (only (code_in w) (and_l (pass (code_in w)) (all_of pass (map code_in words)) e)))
     (all-numbers n pass only words (and_r (pass (code_in w)) (all_of pass (map code_in words)) e))
 
-pub names-numbers : (n end : ℕ) (words : List Piece) → bad_name n end words ≡ Fault.Nowhere → not_number words ≡ Fault.Nowhere
+pub names-numbers : (n end : ℕ) (words : List Piece) → bad_name n end words ≡ None → not_number words ≡ None
 names-numbers n end words e = all-numbers n (is_name n) (name-literal n) words (names-sifted n [] words (name-after n end words e)).passes
 
 pub values-numbers : (n : ℕ) (names : List ℕ) (end : ℕ) (words : List Piece) → Named n names
-    → bad_value_after names end [] words ≡ Fault.Nowhere → not_number words ≡ Fault.Nowhere
+    → bad_value_after names end [] words ≡ None → not_number words ≡ None
 values-numbers n names end words named e =
     all-numbers n (is_value names) (λ code. value-literal n names code named) words (values-sifted names end [] words e).0.passes
 
@@ -176,19 +175,19 @@ pub record InOrder (n : ℕ) (names values : List ℕ) : Type 0 where
   pub as_many : length (values_on values) ≡ length (names_on names)
 
 -- a rule that no refusal comes of
-pub passed : (f : Fault) (refusal : ℕ → Refusal) (next : Stated) → or_else f refusal next ≡ Stated.Permutation
-    → (f ≡ Fault.Nowhere) × (next ≡ Stated.Permutation)
-passed (Fault.At place) refusal next e = let z : ◌≡◌ {A = ℕ} 0 1 = cc in absurd (omega arith)
-passed Fault.Nowhere refusal next e = (refl, e)
+pub passed : (f : Option ℕ) (refusal : ℕ → Refusal) (next : Result (Unit {0}) Refusal) → or_else f refusal next ≡ (Ok tt)
+    → (f ≡ None) × (next ≡ (Ok tt))
+passed (Some place) refusal next e = let z : ◌≡◌ {A = ℕ} 0 1 = cc in absurd (omega arith)
+passed None refusal next e = (refl, e)
 
-pub in_order : (n : ℕ) (names values : List ℕ) → stated_by n names values ≡ Stated.Permutation → InOrder n names values
+pub in_order : (n : ℕ) (names values : List ℕ) → stated_by n names values ≡ (Ok tt) → InOrder n names values
 unfolding stated_by values_on
 in_order n names values e =
     let words : List Piece = words_at values 0 in
     let first = passed (not_number (words_at names 0)) Refusal.NameNotNumber _ e in
     let second = passed _ Refusal.BadName _ first.1 in
     let third = passed (not_number words) Refusal.ValueNotNumber _ second.1 in
-    let fourth = passed _ Refusal.BadValue Stated.Permutation third.1 in
+    let fourth = passed _ Refusal.BadValue (Ok tt) third.1 in
     let named : Named n (names_on names) = named-on n (length names) names second.0 in
     let s = values-sifted (names_on names) (length values) [] words fourth.0 in
     let value : (code : ℕ) → has (map code_in words) code ≡ true → is_value (names_on names) code ≡ true =

@@ -9,6 +9,7 @@ use borrow.Author.Tests.{eqb-true}
 use lib.ListN.{length, get_or, set, take, replicate, length-set}
 use lib.Seq.{length-take-le, take-set-le, take-suc-set, get_or-set_same, append_snoc}
 use lib.Dec.{eqb}
+use Rattle.std.proofs.Common.{Some}
 use Rattle.lists.specs.Tests.{any_of, has, distinct}
 use Rattle.lists.proofs.Cases.{never, or_cases}
 use Rattle.lists.proofs.Distinct.{has_more, distinct_more}
@@ -18,7 +19,6 @@ use Rattle.dimacs.proofs.WordLaws.{piece_at}
 use Rattle.store.specs.Numerals.{code_in}
 use Rattle.permutation.specs.Lines.{is_name, bad_name, names_on}
 use Rattle.permutation.specs.Names.{Named, Marks, Listed}
-use Rattle.permutation.specs.declared.Fault.{Fault}
 use Rattle.permutation.proofs.Walks.{Word, names_from}
 use Rattle.permutation.proofs.Marks.{seen_none, seen_more}
 use Rattle.permutation.proofs.NameLaws.{Passes, name-literal, size-range}
@@ -50,7 +50,7 @@ module _ {n : ℕ} {line : List ℕ} {marks : List Bool} {order : List ℕ} {cou
   size : length (take count order) ≡ count
   size = length-take-le count order l.fits
 
-  pub listing-empty : words_at line at ≡ [] → count ≡ 0 → bad_name n (length line) (words_at line 0) ≡ Fault.At (length line)
+  pub listing-empty : words_at line at ≡ [] → count ≡ 0 → bad_name n (length line) (words_at line 0) ≡ Some (length line)
   listing-empty e z = l.fault ∙ from-none n (length line) (take count order) (size ∙ z) e
 
   pub listing-all : words_at line at ≡ [] → (count ≡ 0 → ⊥) → Listed n line marks order count
@@ -65,11 +65,11 @@ module _ {n : ℕ} {line : List ℕ} {marks : List Bool} {order : List ℕ} {cou
       }
 
   module _ {w : Piece} {rest : List Piece} (e : words_at line at ≡ w ∷ rest) where
-    pub listing-outside : is_name n (code_in w) ≡ false → bad_name n (length line) (words_at line 0) ≡ Fault.At w.place
+    pub listing-outside : is_name n (code_in w) ≡ false → bad_name n (length line) (words_at line 0) ≡ Some w.place
     listing-outside i = l.fault ∙ from-word n (length line) (take count order) e ∙ name-outside n (take count order) e i
 
     pub listing-twice : (name : ℕ) → Passes (is_name n) (code_in w) name → get_or marks name false ≡ true
-        → bad_name n (length line) (words_at line 0) ≡ Fault.At w.place
+        → bad_name n (length line) (words_at line 0) ≡ Some w.place
     listing-twice name i h =
         l.fault ∙ from-word n (length line) (take count order) e ∙ name-twice n (take count order) e name i (sym (l.marked.is name) ∙ h)
 

@@ -5,6 +5,7 @@ use mathlib.Core.List.{List, [], ◌++◌}
 use Prim.Native.Nat.{ℕ, ◌≤◌}
 use native.Mathlib.Omega.{arith}
 use lib.ListN.{length, take, drop}
+use Rattle.std.proofs.Common.{Option, Result, Some, None, Ok, Err}
 use Rattle.lists.specs.Tables.{table}
 use Rattle.dimacs.specs.Words.{words_at}
 use Rattle.store.specs.Refusals.{number_of}
@@ -12,38 +13,36 @@ use Rattle.store.specs.declared.refusal.Refusal.{Refusal}
 use Rattle.permutation.specs.Lines.{not_number, bad_name, bad_value_after, names_on, values_on}
 use Rattle.permutation.specs.Stated.{or_else, stated_by, row_stated, row_of}
 use Rattle.permutation.specs.Names.{Listed}
-use Rattle.permutation.specs.declared.Fault.{Fault}
-use Rattle.permutation.specs.declared.Stated.{Stated}
 use Rattle.permutation.proofs.InOrder.{passed, names-numbers, values-numbers}
 use Rattle.permutation.proofs.RowLaws.{table-back}
 
 -- a refusal is no permutation, and so nothing is asked of the row
-refused : {A : Type 0} (f : Fault) (first : ℕ → Refusal) (second : Refusal) → or_else f first (Stated.Refused second) ≡ Stated.Permutation → A
-refused f first second e = let z : ◌≡◌ {A = ℕ} 0 1 = cc (passed f first (Stated.Refused second) e).1 in absurd (omega arith)
+refused : {A : Type 0} (f : Option ℕ) (first : ℕ → Refusal) (second : Refusal) → or_else f first (Err second) ≡ (Ok tt) → A
+refused f first second e = let z : ◌≡◌ {A = ℕ} 0 1 = cc (passed f first (Err second) e).1 in absurd (omega arith)
 
 module _ (n : ℕ) (names values : List ℕ) where
-  pub names-refused : {A : Type 0} (r : Stated) (place : ℕ) → bad_name n (length names) (words_at names 0) ≡ Fault.At place
-      → r ≡ or_else (not_number (words_at names 0)) Refusal.NameNotNumber (Stated.Refused (Refusal.BadName place))
-      → (r ≡ stated_by n names values) × (r ≡ Stated.Permutation → A)
+  pub names-refused : {A : Type 0} (r : Result (Unit {0}) Refusal) (place : ℕ) → bad_name n (length names) (words_at names 0) ≡ Some place
+      → r ≡ or_else (not_number (words_at names 0)) Refusal.NameNotNumber (Err (Refusal.BadName place))
+      → (r ≡ stated_by n names values) × (r ≡ (Ok tt) → A)
   unfolding stated_by
   names-refused r place bad e =
       (e ∙ rw bad, λ q. refused (not_number (words_at names 0)) Refusal.NameNotNumber (Refusal.BadName place) (sym e ∙ q))
 
   module _ {marks : List Bool} {order : List ℕ} {count : ℕ} (l : Listed n names marks order count) where
-    names-numbered : not_number (words_at names 0) ≡ Fault.Nowhere
+    names-numbered : not_number (words_at names 0) ≡ None
     names-numbered = names-numbers n (length names) (words_at names 0) l.good
 
-    module _ {fault : Fault} (found : fault ≡ bad_value_after (take count order) (length values) [] (words_at values 0)) where
-      pub values-refused : {A : Type 0} (r : Stated) (place : ℕ) → fault ≡ Fault.At place
-          → r ≡ or_else (not_number (words_at values 0)) Refusal.ValueNotNumber (Stated.Refused (Refusal.BadValue place))
-          → (r ≡ stated_by n names values) × (r ≡ Stated.Permutation → A)
+    module _ {fault : Option ℕ} (found : fault ≡ bad_value_after (take count order) (length values) [] (words_at values 0)) where
+      pub values-refused : {A : Type 0} (r : Result (Unit {0}) Refusal) (place : ℕ) → fault ≡ Some place
+          → r ≡ or_else (not_number (words_at values 0)) Refusal.ValueNotNumber (Err (Refusal.BadValue place))
+          → (r ≡ stated_by n names values) × (r ≡ (Ok tt) → A)
       unfolding stated_by
       values-refused r place bad e = (
         e ∙ rw (names-numbered, l.good, ← l.names, ← found, bad),
         λ q. refused (not_number (words_at values 0)) Refusal.ValueNotNumber (Refusal.BadValue place) (sym e ∙ q),
       )
 
-      pub values-stated : fault ≡ Fault.Nowhere → Stated.Permutation ≡ stated_by n names values
+      pub values-stated : fault ≡ None → (Ok tt) ≡ stated_by n names values
       unfolding stated_by
       values-stated good =
           let numbers = values-numbers n (take count order) (length values) (words_at values 0) l.named (sym found ∙ good) in
@@ -55,21 +54,21 @@ module _ (n : ℕ) (names values : List ℕ) where
     row-stated f old row written e = e ∙ rw (l.names, table-back n f old row written)
 
 -- a line that states no permutation is refused with one of 7 to 10
-abbrev number_in : Stated → ℕ
-number_in Stated.Permutation = 0
-number_in (Stated.Refused r) = number_of r
+abbrev number_in : Result (Unit {0}) Refusal → ℕ
+number_in (Ok tt) = 0
+number_in (Err r) = number_of r
 
-pub stated-number : (n : ℕ) (names values : List ℕ) (r : Refusal) → stated_by n names values ≡ Stated.Refused r → number_of r ≤ 10
+pub stated-number : (n : ℕ) (names values : List ℕ) (r : Refusal) → stated_by n names values ≡ Err r → number_of r ≤ 10
 unfolding stated_by
 stated-number n names values r e =
     rw e at
     (by (not_number (words_at names 0)) (bad_name n (length names) (words_at names 0)) (not_number (words_at values 0))
     (bad_value_after (names_on names) (length values) [] (words_at values 0)))
   where
-    by : (a b c d : Fault)
-        → number_in (or_else a Refusal.NameNotNumber (or_else b Refusal.BadName (or_else c Refusal.ValueNotNumber (or_else d Refusal.BadValue Stated.Permutation)))) ≤ 10
-    by (Fault.At p) b c d = omega arith
-    by Fault.Nowhere (Fault.At p) c d = omega arith
-    by Fault.Nowhere Fault.Nowhere (Fault.At p) d = omega arith
-    by Fault.Nowhere Fault.Nowhere Fault.Nowhere (Fault.At p) = omega arith
-    by Fault.Nowhere Fault.Nowhere Fault.Nowhere Fault.Nowhere = omega arith
+    by : (a b c d : Option ℕ)
+        → number_in (or_else a Refusal.NameNotNumber (or_else b Refusal.BadName (or_else c Refusal.ValueNotNumber (or_else d Refusal.BadValue (Ok tt))))) ≤ 10
+    by (Some p) b c d = omega arith
+    by None (Some p) c d = omega arith
+    by None None (Some p) d = omega arith
+    by None None None (Some p) = omega arith
+    by None None None None = omega arith

@@ -6,6 +6,7 @@ use mathlib.Core.Logic.{◌⊎◌, inl, inr, ⊎_elim, ◌↔◌}
 use Prim.Native.Nat.{ℕ, suc, ◌-◌, ◌*◌, ◌≤◌, ◌<◌}
 use native.Mathlib.Omega.{arith}
 use lib.ListN.{length, get_or, length-map}
+use Rattle.std.proofs.Common.{Ok}
 use Rattle.lists.specs.Tests.{has}
 use Rattle.lists.proofs.Cases.{never}
 use Rattle.lists.proofs.Members.{place, placed}
@@ -18,7 +19,6 @@ use Rattle.store.proofs.Formed.{is-row}
 use Rattle.store.proofs.Identity.{moves-nothing-each}
 use Rattle.permutation.specs.Lines.{names_on, values_on}
 use Rattle.permutation.specs.Stated.{stated_by, image_among, row_stated}
-use Rattle.permutation.specs.declared.Stated.{Stated}
 use Rattle.permutation.proofs.InOrder.{InOrder, in_order}
 use Rattle.permutation.proofs.RowLaws.{among-elsewhere, among-at, row-length, row_at}
 
@@ -104,10 +104,10 @@ module _ (n : ℕ) (names values : List ℕ) (o : InOrder n names values) where
         one_place = λ i j h k q. omega (arith, one_place (suc i) (suc j) (rw (at i h, at j k) at q));
       })
 
-pub stated-row : (n : ℕ) (names values : List ℕ) → stated_by n names values ≡ Stated.Permutation → is_row n (row_stated n names values) ≡ true
+pub stated-row : (n : ℕ) (names values : List ℕ) → stated_by n names values ≡ (Ok tt) → is_row n (row_stated n names values) ≡ true
 stated-row n names values e = row_is n names values (in_order n names values e)
 
-pub row-at-name : (n : ℕ) (names values : List ℕ) → stated_by n names values ≡ Stated.Permutation
+pub row-at-name : (n : ℕ) (names values : List ℕ) → stated_by n names values ≡ (Ok tt)
     → (k : ℕ) → k < length (names_on names) → get_or (row_stated n names values) (get_or (names_on names) k 0 - 1) 0 ≡ get_or (values_on values) k 0
 row-at-name n names values e k h =
     let o = in_order n names values e in
@@ -115,7 +115,7 @@ row-at-name n names values e k h =
     row_of n names values (get_or (names_on names) k 0) (o.named.low _ name) (o.named.high _ name) ∙ image-at n names values o k h
 
 -- "every value equals its name" (document 02, CR 8) exactly where the row moves nothing
-pub each-own-iff : (n : ℕ) (names values : List ℕ) → stated_by n names values ≡ Stated.Permutation
+pub each-own-iff : (n : ℕ) (names values : List ℕ) → stated_by n names values ≡ (Ok tt)
     → (moves_nothing (row_stated n names values) ≡ true) ↔ ((k : ℕ) → k < length (names_on names) → get_or (values_on values) k 0 ≡ 2 * get_or (names_on names) k 0)
 each-own-iff n names values e = (
   λ stays k h.

@@ -7,6 +7,7 @@ use native.Mathlib.Omega.{arith}
 use borrow.Author.Tests.{not-true, eqb-true}
 use lib.ListN.{length, get_or, set, take, drop, drop_of_length-le}
 use lib.Dec.{eqb}
+use Rattle.std.proofs.Common.{Some, None}
 use Rattle.lists.specs.Tests.{any_of, has, distinct}
 use Rattle.lists.specs.Tables.{table}
 use Rattle.lists.proofs.Cases.{never, and_l, and_r, or_cases}
@@ -20,7 +21,6 @@ use Rattle.store.specs.Numerals.{code_in}
 use Rattle.permutation.specs.Lines.{bad_value_after, values_on}
 use Rattle.permutation.specs.Stated.{row_of}
 use Rattle.permutation.specs.Names.{Named, Marks}
-use Rattle.permutation.specs.declared.Fault.{Fault}
 use Rattle.permutation.proofs.Lists.{no_longer}
 use Rattle.permutation.proofs.Walks.{Word, codes_from}
 use Rattle.permutation.proofs.Marks.{is_free, free-none, free_more}
@@ -64,18 +64,18 @@ module _ {n : ℕ} {names : List ℕ} (named : Named n names) where
   }
 
   module _ {line final : List ℕ} {free : List Bool} {row : List ℕ} {used at : ℕ} (u : Using n names line final free row used at) where
-    pub using-few : words_at line at ≡ [] → used < length names → bad_value_after names (length line) [] (words_at line 0) ≡ Fault.At (length line)
+    pub using-few : words_at line at ≡ [] → used < length names → bad_value_after names (length line) [] (words_at line 0) ≡ Some (length line)
     using-few e h = u.fault ∙ value-few names (length line) u.passed e (omega (arith, u.many))
 
     pub using-all : words_at line at ≡ [] → length names ≤ used
-        → (bad_value_after names (length line) [] (words_at line 0) ≡ Fault.Nowhere) × (row ≡ final)
+        → (bad_value_after names (length line) [] (words_at line 0) ≡ None) × (row ≡ final)
     using-all e h = (
       u.fault ∙ value-end names (length line) u.passed e (omega (arith, u.many)),
       placing-all u.placing (drop_of_length-le names h),
     )
 
     pub using-stop : {w : Piece} {rest : List Piece} → words_at line at ≡ w ∷ rest → (value : ℕ) → value ≡ size_in (is_literal n) (code_in w)
-        → get_or free value false ≡ false → bad_value_after names (length line) [] (words_at line 0) ≡ Fault.At w.place
+        → get_or free value false ≡ false → bad_value_after names (length line) [] (words_at line 0) ≡ Some w.place
     using-stop e value is f =
         u.fault ∙ value-stop names (length line) u.passed e n value is named (sym (u.marked.is value) ∙ f)
 

@@ -6,12 +6,13 @@ use mathlib.Core.Logic.{⊎_elim}
 use Prim.Native.Nat.{ℕ, ◌≤◌, ◌<◌}
 use native.Mathlib.Omega.{arith}
 use lib.ListN.{length}
+use Rattle.std.proofs.Common.{Ok, Err}
 use Rattle.lists.proofs.Cases.{lt-or-le}
 use Rattle.dimacs.specs.Words.{is_blank, is_word_byte, run_end, words_at}
 use Rattle.dimacs.specs.Numbers.{numeral_of, word_at, reading_at}
 use Rattle.dimacs.specs.declared.Number.{Number}
 use Rattle.dimacs.specs.declared.Cursor.{Cursor}
-use Rattle.dimacs.specs.declared.Reading.{Reading}
+use Rattle.dimacs.specs.declared.NotNumber.{NotNumber}
 use Rattle.dimacs.proofs.WordLaws.{piece_at, next_word, word-forward, read_found, read-refused, read_past}
 use Rattle.store.specs.Literals.{code_of, variable_of}
 use Rattle.store.specs.Numerals.{is_numeral, code_in}
@@ -35,7 +36,7 @@ half s true = omega arith
 half s false = omega arith
 
 module _ (line : List ℕ) (at place : ℕ) (found : place ≡ run_end is_blank line at) where
-  pub word_read : (x : Number) (c : Cursor) → reading_at line place ≡ Reading.Found x c → Word line at place x c.at
+  pub word_read : (x : Number) (c : Cursor) → reading_at line place ≡ Ok (x, c) → Word line at place x c.at
   unfolding code_in
   word_read x c e = ⊎_elim inside past (lt-or-le place (length line))
     where
@@ -53,7 +54,7 @@ module _ (line : List ℕ) (at place : ℕ) (found : place ≡ run_end is_blank 
       past : length line ≤ place → Word line at place x c.at
       past h = let z : ◌≡◌ {A = ℕ} 0 1 = cc (read_past line place h) in absurd (omega arith)
 
-  pub word-refused : place < length line → (p : ℕ) → reading_at line place ≡ Reading.Refused p → Stray line at place
+  pub word-refused : place < length line → (p : NotNumber) → reading_at line place ≡ Err p → Stray line at place
   unfolding code_in
   word-refused h p e =
       let n = read-refused line place p e in

@@ -14,52 +14,31 @@ ghost use Rattle.permutation.specs.Lines.{is_name, not_number, bad_value_after, 
 ghost use Rattle.permutation.specs.Stated.{or_else, stated_by, row_stated, row_of};
 ghost use Rattle.permutation.specs.Names.{Named, Marks, Walked};
 
-use dimacs::{Number, Reading};
+use dimacs::Number;
 use store::record::Record;
 use store::refusal::Refusal;
 
 // A mark for each variable, and one for 0.
 const MARKS: usize = Record::MAX_VARIABLES + 1;
 
-// Where a rule finds its first fault.
-#[derive(Clone, Copy)]
-pub enum Fault {
-    At(usize),
-    Nowhere,
-}
-
-// What two lines state: a permutation, or the refusal at their first fault.
-#[derive(Clone, Copy)]
-pub enum Stated {
-    Permutation,
-    Refused(Refusal),
-}
-
-// What rule 8 finds on a line: so many names, or where the first bad one stands.
-#[derive(Clone, Copy)]
-enum Names {
-    Listed(usize),
-    Bad(usize),
-}
-
-// What the two lines state, by the rules 7, 8, 9 and 10 in that order, and its row over the first n entries. The row is the caller's scratch
-// memory: after a refusal it may hold anything.
-pub fn state(names: &[u8], values: &[u8], n: usize, row: &mut [u16]) -> Stated
+// Whether the two lines state a permutation, by the rules 7, 8, 9 and 10 in that order, and its row over the first n entries. The row is the
+// caller's scratch memory: after a refusal it may hold anything.
+pub fn state(names: &[u8], values: &[u8], n: usize, row: &mut [u16]) -> Result<(), Refusal>
     requires { (n ≤ max_variables) × (n ≤ length row.old) }
     ensures answer { result ≡ stated_by n names.now values.now }
-    ensures row { result ≡ Stated.Permutation
+    ensures row { result ≡ Ok tt
         → row.new ≡ row_stated n names.now values.now ++ drop n row.old }
 {
     let mut marks = [false; MARKS];
     let mut order = [0u16; Record::MAX_VARIABLES];
     match list_names(names, n, &mut marks, &mut order) {
-        Names::Bad(place) => refuse_names(names, place),
-        Names::Listed(count) => {
+        Err(place) => refuse_names(names, place),
+        Ok(count) => {
             identity(n, row);
-            if let Fault::At(place) = place_values(&order[..count], &mut marks, values, n, row) {
+            if let Some(place) = place_values(&order[..count], &mut marks, values, n, row) {
                 return refuse_values(values, place);
             }
-            Stated::Permutation
+            Ok(())
         }
     }
 }
@@ -70,7 +49,7 @@ fn list_names(
     n: usize,
     marks: &mut [bool; MARKS],
     order: &mut [u16; Record::MAX_VARIABLES],
-) -> Names
+) -> Result<usize, usize>
     requires { (n ≤ max_variables) × (marks.old ≡ replicate 513 false) × (n ≤ length order.old) }
     ensures { Walked n names.now marks.new order.new result }
 {
@@ -80,19 +59,19 @@ fn list_names(
         let place = dimacs::next_word(names, at);
         if names.len() <= place {
             if count == 0 {
-                return Names::Bad(names.len());
+                return Err(names.len());
             }
-            return Names::Listed(count);
+            return Ok(count);
         }
-        let Reading::Found(number, next) = dimacs::read(names, place) else {
-            return Names::Bad(place);
+        let Ok((number, next)) = dimacs::read(names, place) else {
+            return Err(place);
         };
         let name = name_of(number, n);
         if name == 0 {
-            return Names::Bad(place);
+            return Err(place);
         }
         if marks[name] {
-            return Names::Bad(place);
+            return Err(place);
         }
         marks[name] = true;
         order[count] = name as u16;
@@ -123,27 +102,27 @@ fn size_of(number: Number, n: usize) -> usize
 }
 
 // 7 before 8: the refusal of a line whose first bad name stands at `place`.
-fn refuse_names(names: &[u8], place: usize) -> Stated
-    ensures { result ≡ or_else (not_number (words_at names.now 0)) Refusal.NameNotNumber (Stated.Refused (Refusal.BadName place)) }
+fn refuse_names(names: &[u8], place: usize) -> Result<(), Refusal>
+    ensures { result ≡ or_else (not_number (words_at names.now 0)) Refusal.NameNotNumber (Err (Refusal.BadName place)) }
 {
-    if let Fault::At(first) = not_number(names) {
-        return Stated::Refused(Refusal::NameNotNumber(first));
+    if let Some(first) = not_number(names) {
+        return Err(Refusal::NameNotNumber(first));
     }
-    Stated::Refused(Refusal::BadName(place))
+    Err(Refusal::BadName(place))
 }
 
 // 7 and 9: the first word that is no number.
-fn not_number(line: &[u8]) -> Fault
+fn not_number(line: &[u8]) -> Option<usize>
     ensures { result ≡ not_number (words_at line.now 0) }
 {
     let mut at = 0;
     loop {
         let place = dimacs::next_word(line, at);
         if line.len() <= place {
-            return Fault::Nowhere;
+            return None;
         }
-        let Reading::Found(_, next) = dimacs::read(line, place) else {
-            return Fault::At(place);
+        let Ok((_, next)) = dimacs::read(line, place) else {
+            return Some(place);
         };
         at = next.at;
     }
@@ -154,10 +133,8 @@ fn identity(n: usize, row: &mut [u16])
     requires { (n ≤ max_variables) × (n ≤ length row.old) }
     ensures { row.new ≡ identity n ++ drop n row.old }
 {
-    let mut i = 0;
-    while i < n {
+    for i in 0..n {
         row[i] = store::literal::code((i + 1) as u16, false);
-        i += 1;
     }
 }
 
@@ -170,7 +147,7 @@ fn place_values(
     values: &[u8],
     n: usize,
     row: &mut [u16],
-) -> Fault
+) -> Option<usize>
     requires { (n ≤ max_variables)
         × Named n order.now
         × Marks (has order.now) free.old
@@ -178,7 +155,7 @@ fn place_values(
         × (take n row.old ≡ identity n) }
     ensures answer { let line = values.now in
         result ≡ bad_value_after order.now (length line) [] (words_at line 0) }
-    ensures row { result ≡ Fault.Nowhere
+    ensures row { result ≡ None
         → row.new ≡ row_of n order.now (values_on values.now) ++ drop n row.old }
 {
     let mut used = 0;
@@ -187,16 +164,16 @@ fn place_values(
         let place = dimacs::next_word(values, at);
         if values.len() <= place {
             if used < order.len() {
-                return Fault::At(values.len());
+                return Some(values.len());
             }
-            return Fault::Nowhere;
+            return None;
         }
-        let Reading::Found(number, next) = dimacs::read(values, place) else {
-            return Fault::At(place);
+        let Ok((number, next)) = dimacs::read(values, place) else {
+            return Some(place);
         };
         let size = size_of(number, n);
         if !free[size] {
-            return Fault::At(place);
+            return Some(place);
         }
         free[size] = false;
         let name = order[used] as usize;
@@ -207,11 +184,11 @@ fn place_values(
 }
 
 // 9 before 10: the refusal of a line whose first bad value stands at `place`.
-fn refuse_values(values: &[u8], place: usize) -> Stated
-    ensures { result ≡ or_else (not_number (words_at values.now 0)) Refusal.ValueNotNumber (Stated.Refused (Refusal.BadValue place)) }
+fn refuse_values(values: &[u8], place: usize) -> Result<(), Refusal>
+    ensures { result ≡ or_else (not_number (words_at values.now 0)) Refusal.ValueNotNumber (Err (Refusal.BadValue place)) }
 {
-    if let Fault::At(first) = not_number(values) {
-        return Stated::Refused(Refusal::ValueNotNumber(first));
+    if let Some(first) = not_number(values) {
+        return Err(Refusal::ValueNotNumber(first));
     }
-    Stated::Refused(Refusal::BadValue(place))
+    Err(Refusal::BadValue(place))
 }

@@ -4,7 +4,7 @@ use Rattle.dimacs.specs.Lines.{is_line_byte}
 use Rattle.dimacs.proofs.Runs.{run-within}
 use Rattle.opening.specs.Problem.{problem_of, within_limits}
 use Rattle.opening.specs.declared.Sizes.{Sizes}
-use Rattle.opening.proofs.ProblemLaws.{problem-none, problem-here, many-variables, many-clauses, within}
+use Rattle.opening.proofs.ProblemLaws.{problem-none, problem-here}
 use Rattle.opening.proofs.problem_of.Goals as goal
 use Rattle.opening.proofs.problem_of.Goals.{After-sizes_of}
 
@@ -24,15 +24,8 @@ said c s e =
 pub returns-in_default : goal.returns-in_default
 returns-in_default c = sym (said (goal.at.returns-in_default c).After-sizes_of _ c.in_default.is)
 
-pub returns-then-sizes-gt-MAX_VARIABLES : goal.returns-then-sizes-gt-MAX_VARIABLES
-returns-then-sizes-gt-MAX_VARIABLES c =
-    sym (said (goal.at.returns-then-sizes-gt-MAX_VARIABLES c).After-sizes_of _ c.in-Some.is ∙ many-variables c.in-Some.sizes _ _ c.if-sizes-gt-MAX_VARIABLES.true)
-
-pub returns-then-sizes-gt-MAX_CLAUSES : goal.returns-then-sizes-gt-MAX_CLAUSES
-returns-then-sizes-gt-MAX_CLAUSES c =
-    sym (said (goal.at.returns-then-sizes-gt-MAX_CLAUSES c).After-sizes_of _ c.in-Some.is
-    ∙ many-clauses c.in-Some.sizes _ _ c.if-sizes-gt-MAX_VARIABLES.false c.if-sizes-gt-MAX_CLAUSES.true)
+pub returns-then-not-fits : goal.returns-then-not-fits
+returns-then-not-fits c = sym (said (goal.at.returns-then-not-fits c).After-sizes_of _ c.in-Some.is ∙ rw (sym c.fits.ensures ∙ c.if-not-fits.true))
 
 pub returns : goal.returns
-returns c =
-    sym (said (goal.at.returns c).After-sizes_of _ c.in-Some.is ∙ within c.in-Some.sizes _ _ c.if-sizes-gt-MAX_VARIABLES.false c.if-sizes-gt-MAX_CLAUSES.false)
+returns c = sym (said (goal.at.returns c).After-sizes_of _ c.in-Some.is ∙ rw (sym c.fits.ensures ∙ c.if-not-fits.false))

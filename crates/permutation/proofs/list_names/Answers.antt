@@ -10,7 +10,7 @@ use Rattle.permutation.proofs.NameLaws.{name-literal, no_name, size_in, Passes, 
 use Rattle.permutation.proofs.Listing.{listing_none, listing-empty, listing-all, listing-outside, listing-twice, listing-room, listing-more}
 use native.Mathlib.Omega.{arith}
 use Rattle.permutation.proofs.list_names.Goals as goal
-use Rattle.permutation.proofs.list_names.Goals.{After-way_told-1, After-way_told-in-loop-n-1, Else-marks-name, In-Found, Then-marks-name, Then-name-eq0}
+use Rattle.permutation.proofs.list_names.Goals.{After-way_told-1, After-way_told-in-loop-n-1, Else-marks-name, In-Ok, Then-marks-name, Then-name-eq0}
 
 pub loop-n-init : goal.loop-n-init
 loop-n-init c = let pre = c.requires in listing_none _ _ _ _ pre.1 pre.2
@@ -29,16 +29,16 @@ returns-in_default c =
     listing-outside c.loop-n.invariant stray.words (no_name _ _ stray.code)
 
 -- the number that `read` found, and what `name_of` says of it
-found : (c : In-Found) → let names = c.args.names.now in
-    Word names c.loop-n.at c.next_word-place.result c.in-Found.number c.in-Found.next.at
+found : (c : In-Ok) → let names = c.args.names.now in
+    Word names c.loop-n.at c.next_word-place.result c.in-Ok.number c.in-Ok.next.at
 found c =
-    word_read _ _ _ c.next_word-place.ensures _ _ (sym c.read.ensures ∙ c.in-Found.is)
+    word_read _ _ _ c.next_word-place.ensures _ _ (sym c.read.ensures ∙ c.in-Ok.is)
 
 -- the number that `read` found, and what `name_of` says of it
 found-at-Then-name-eq0 : (c : Then-name-eq0) → let names = c.args.names.now in
-    Word names c.loop-n.at c.next_word-place.result c.in-Found.number c.in-Found.next.at
+    Word names c.loop-n.at c.next_word-place.result c.in-Ok.number c.in-Ok.next.at
 found-at-Then-name-eq0 c =
-    word_read _ _ _ c.next_word-place.ensures _ _ (sym c.read.ensures ∙ c.in-Found.is)
+    word_read _ _ _ c.next_word-place.ensures _ _ (sym c.read.ensures ∙ c.in-Ok.is)
 
 says : (c : Then-name-eq0) → c.name_of-name.result ≡ size_in (is_name c.args.n) (code_in (piece_at c.args.names.now c.next_word-place.result))
 says c = size-read (is_name _) _ (found-at-Then-name-eq0 c) c.name_of-name.ensures
@@ -46,13 +46,13 @@ says c = size-read (is_name _) _ (found-at-Then-name-eq0 c) c.name_of-name.ensur
 pub returns-then-name-eq0 : goal.returns-then-name-eq0
 returns-then-name-eq0 c =
     let inv = c.loop-n.invariant in
-    listing-outside inv (found (goal.at.returns-then-name-eq0 c).In-Found).words (size_none _ _ (name-literal _) _ _ (says c) c.if-name-eq0.true)
+    listing-outside inv (found (goal.at.returns-then-name-eq0 c).In-Ok).words (size_none _ _ (name-literal _) _ _ (says c) c.if-name-eq0.true)
 
 -- the number that `read` found, and what `name_of` says of it
 found-at-After-way_told-1 : (c : After-way_told-1) → let names = c.args.names.now in
-    Word names c.loop-n.at c.next_word-place.result c.in-Found.number c.in-Found.next.at
+    Word names c.loop-n.at c.next_word-place.result c.in-Ok.number c.in-Ok.next.at
 found-at-After-way_told-1 c =
-    word_read _ _ _ c.next_word-place.ensures _ _ (sym c.read.ensures ∙ c.in-Found.is)
+    word_read _ _ _ c.next_word-place.ensures _ _ (sym c.read.ensures ∙ c.in-Ok.is)
 
 says-at-After-way_told-1 : (c : After-way_told-1) → c.name_of-name.result ≡ size_in (is_name c.args.n) (code_in (piece_at c.args.names.now c.next_word-place.result))
 says-at-After-way_told-1 c = size-read (is_name _) _ (found-at-After-way_told-1 c) c.name_of-name.ensures
@@ -65,9 +65,9 @@ bounds-marks-name c = small c
 
 -- the number that `read` found, and what `name_of` says of it
 found-at-Then-marks-name : (c : Then-marks-name) → let names = c.args.names.now in
-    Word names c.loop-n.at c.next_word-place.result c.in-Found.number c.in-Found.next.at
+    Word names c.loop-n.at c.next_word-place.result c.in-Ok.number c.in-Ok.next.at
 found-at-Then-marks-name c =
-    word_read _ _ _ c.next_word-place.ensures _ _ (sym c.read.ensures ∙ c.in-Found.is)
+    word_read _ _ _ c.next_word-place.ensures _ _ (sym c.read.ensures ∙ c.in-Ok.is)
 
 says-at-Then-marks-name : (c : Then-marks-name) → c.name_of-name.result ≡ size_in (is_name c.args.n) (code_in (piece_at c.args.names.now c.next_word-place.result))
 says-at-Then-marks-name c = size-read (is_name _) _ (found-at-Then-marks-name c) c.name_of-name.ensures
@@ -78,13 +78,13 @@ name_known c = size-some _ _ (name-literal _) _ _ (says-at-Then-marks-name c) c.
 pub returns-then-marks-name : goal.returns-then-marks-name
 returns-then-marks-name c =
     let inv = c.loop-n.invariant in
-    listing-twice inv (found (goal.at.returns-then-marks-name c).In-Found).words _ (name_known c) c.if-marks-name.true
+    listing-twice inv (found (goal.at.returns-then-marks-name c).In-Ok).words _ (name_known c) c.if-marks-name.true
 
 -- the number that `read` found, and what `name_of` says of it
 found-at-Else-marks-name : (c : Else-marks-name) → let names = c.args.names.now in
-    Word names c.loop-n.at c.next_word-place.result c.in-Found.number c.in-Found.next.at
+    Word names c.loop-n.at c.next_word-place.result c.in-Ok.number c.in-Ok.next.at
 found-at-Else-marks-name c =
-    word_read _ _ _ c.next_word-place.ensures _ _ (sym c.read.ensures ∙ c.in-Found.is)
+    word_read _ _ _ c.next_word-place.ensures _ _ (sym c.read.ensures ∙ c.in-Ok.is)
 
 says-at-Else-marks-name : (c : Else-marks-name) → c.name_of-name.result ≡ size_in (is_name c.args.n) (code_in (piece_at c.args.names.now c.next_word-place.result))
 says-at-Else-marks-name c = size-read (is_name _) _ (found-at-Else-marks-name c) c.name_of-name.ensures
@@ -116,13 +116,13 @@ pub overflow_add-count : goal.overflow_add-count
 overflow_add-count c = omega (arith, room (goal.at.overflow_add-count c).Else-marks-name)
 
 pub loop-n-smaller : goal.loop-n-smaller
-loop-n-smaller c = omega (arith, (found (goal.at.loop-n-smaller c).In-Found).forward)
+loop-n-smaller c = omega (arith, (found (goal.at.loop-n-smaller c).In-Ok).forward)
 
 -- the number that `read` found, and what `name_of` says of it
 found-at-After-way_told-in-loop-n-1 : (c : After-way_told-in-loop-n-1) → let names = c.args.names.now in
-    Word names c.loop-n.at c.next_word-place.result c.in-Found.number c.in-Found.next.at
+    Word names c.loop-n.at c.next_word-place.result c.in-Ok.number c.in-Ok.next.at
 found-at-After-way_told-in-loop-n-1 c =
-    word_read _ _ _ c.next_word-place.ensures _ _ (sym c.read.ensures ∙ c.in-Found.is)
+    word_read _ _ _ c.next_word-place.ensures _ _ (sym c.read.ensures ∙ c.in-Ok.is)
 
 says-at-After-way_told-in-loop-n-1 : (c : After-way_told-in-loop-n-1) → c.name_of-name.result ≡ size_in (is_name c.args.n) (code_in (piece_at c.args.names.now c.next_word-place.result))
 says-at-After-way_told-in-loop-n-1 c = size-read (is_name _) _ (found-at-After-way_told-in-loop-n-1 c) c.name_of-name.ensures
@@ -136,4 +136,4 @@ small-at-After-way_told-in-loop-n-1 c = omega (arith, size-high _ _ (name-litera
 pub loop-n-preserved : goal.loop-n-preserved
 loop-n-preserved c =
     let inv = c.loop-n.invariant in
-    listing-more inv (found (goal.at.loop-n-preserved c).In-Found) _ (name_known-at-After-way_told-in-loop-n-1 c) c.if-marks-name.false (small-at-After-way_told-in-loop-n-1 c)
+    listing-more inv (found (goal.at.loop-n-preserved c).In-Ok) _ (name_known-at-After-way_told-in-loop-n-1 c) c.if-marks-name.false (small-at-After-way_told-in-loop-n-1 c)

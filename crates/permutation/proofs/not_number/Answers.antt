@@ -2,11 +2,10 @@
 -- Assumes nothing.
 use mathlib.Core.Path.{refl, sym, ◌∙◌}
 use Rattle.dimacs.proofs.WordLaws.{no_word}
-use Rattle.permutation.proofs.Walks.{Word, word_read, word-refused}
+use Rattle.permutation.proofs.Walks.{word_read, word-refused}
 use Rattle.permutation.proofs.Faults.{number-end, number-stray, number-on}
 use native.Mathlib.Omega.{arith}
 use Rattle.permutation.proofs.not_number.Goals as goal
-use Rattle.permutation.proofs.not_number.Goals.{In-Found}
 
 pub loop-at-init : goal.loop-at-init
 loop-at-init c = refl
@@ -19,14 +18,8 @@ returns-in_default c =
     let stray = word-refused _ _ _ c.next_word-place.ensures c.if-line-place.false _ (sym c.read.ensures ∙ c.in_default.is) in
     sym (c.loop-at.invariant ∙ number-stray stray)
 
--- the number that `read` found
-found : (c : In-Found) → let line = c.args.line.now in
-    Word line c.loop-at.at c.next_word-place.result c.in-Found.field-0 c.in-Found.next.at
-found c =
-    word_read _ _ _ c.next_word-place.ensures _ _ (sym c.read.ensures ∙ c.in-Found.is)
-
 pub loop-at-smaller : goal.loop-at-smaller
-loop-at-smaller c = omega (arith, (found c).forward)
+loop-at-smaller c = omega (arith, (word_read _ _ _ c.next_word-place.ensures _ _ (sym c.read.ensures ∙ c.in-Ok.is)).forward)
 
 pub loop-at-preserved : goal.loop-at-preserved
-loop-at-preserved c = c.loop-at.invariant ∙ number-on (found c)
+loop-at-preserved c = c.loop-at.invariant ∙ number-on (word_read _ _ _ c.next_word-place.ensures _ _ (sym c.read.ensures ∙ c.in-Ok.is))

@@ -10,16 +10,16 @@ use Rattle.store.specs.Literals.{is_literal}
 use Rattle.store.specs.Numerals.{code_in}
 use Rattle.store.proofs.FormLaws.{literal-zero}
 use Rattle.permutation.specs.Names.{Named}
-use Rattle.permutation.specs.declared.Fault.{Fault}
+use Rattle.std.proofs.Common.{Some, None}
 use Rattle.permutation.proofs.Walks.{Word, word_read, word-refused}
 use Rattle.permutation.proofs.NameLaws.{size_in, no_size, size-read, size-high}
 use Rattle.permutation.proofs.Using.{using-none, using-few, using-all, using-stop, using-zero, Step, using-step, using-more}
 use native.Mathlib.Omega.{arith}
 use Rattle.permutation.proofs.place_values.Goals as goal
-use Rattle.permutation.proofs.place_values.Goals.{After-code, After-way_told-1, At-loop-n, Else-not-free-size, In-Found, Then-not-free-size}
+use Rattle.permutation.proofs.place_values.Goals.{After-code, After-way_told-1, At-loop-n, Else-not-free-size, In-Ok, Then-not-free-size}
 
 -- at a fault nothing is asked of the row
-at-fault : {place : ℕ} {A : Type 0} → Fault.At place ≡ Fault.Nowhere → A
+at-fault : {place : ℕ} {A : Type 0} → Some place ≡ None → A
 at-fault e = let z : ◌≡◌ {A = ℕ} 0 1 = cc in absurd (omega arith)
 
 pub loop-n-init : goal.loop-n-init
@@ -51,9 +51,9 @@ returns-in_default c = let stray = word-refused _ _ _ c.next_word-place.ensures 
 
 -- the number that `read` found, and what `size_of` says of it
 found : (c : After-way_told-1) → let values = c.args.values.now in
-    Word values c.loop-n.at c.next_word-place.result c.in-Found.number c.in-Found.next.at
+    Word values c.loop-n.at c.next_word-place.result c.in-Ok.number c.in-Ok.next.at
 found c =
-    word_read _ _ _ c.next_word-place.ensures _ _ (sym c.read.ensures ∙ c.in-Found.is)
+    word_read _ _ _ c.next_word-place.ensures _ _ (sym c.read.ensures ∙ c.in-Ok.is)
 
 says : (c : After-way_told-1) → c.size_of-size.result ≡ size_in (is_literal c.args.n) (code_in (piece_at c.args.values.now c.next_word-place.result))
 says c = size-read (is_literal _) _ (found c) c.size_of-size.ensures
@@ -65,31 +65,31 @@ pub bounds-free-size : goal.bounds-free-size
 bounds-free-size c = small c
 
 -- the number that `read` found, and what `size_of` says of it
-found-at-In-Found : (c : In-Found) → let values = c.args.values.now in
-    Word values c.loop-n.at c.next_word-place.result c.in-Found.number c.in-Found.next.at
-found-at-In-Found c =
-    word_read _ _ _ c.next_word-place.ensures _ _ (sym c.read.ensures ∙ c.in-Found.is)
+found-at-In-Ok : (c : In-Ok) → let values = c.args.values.now in
+    Word values c.loop-n.at c.next_word-place.result c.in-Ok.number c.in-Ok.next.at
+found-at-In-Ok c =
+    word_read _ _ _ c.next_word-place.ensures _ _ (sym c.read.ensures ∙ c.in-Ok.is)
 
 -- the number that `read` found, and what `size_of` says of it
 found-at-Then-not-free-size : (c : Then-not-free-size) → let values = c.args.values.now in
-    Word values c.loop-n.at c.next_word-place.result c.in-Found.number c.in-Found.next.at
+    Word values c.loop-n.at c.next_word-place.result c.in-Ok.number c.in-Ok.next.at
 found-at-Then-not-free-size c =
-    word_read _ _ _ c.next_word-place.ensures _ _ (sym c.read.ensures ∙ c.in-Found.is)
+    word_read _ _ _ c.next_word-place.ensures _ _ (sym c.read.ensures ∙ c.in-Ok.is)
 
 says-at-Then-not-free-size : (c : Then-not-free-size) → c.size_of-size.result ≡ size_in (is_literal c.args.n) (code_in (piece_at c.args.values.now c.next_word-place.result))
 says-at-Then-not-free-size c = size-read (is_literal _) _ (found-at-Then-not-free-size c) c.size_of-size.ensures
 
 pub returns-then-not-free-size : goal.returns-then-not-free-size
 returns-then-not-free-size c = record {
-  answer = sym (using-stop (names (goal.at.returns-then-not-free-size c).At-loop-n) c.loop-n.invariant.0 (found-at-In-Found (goal.at.returns-then-not-free-size c).In-Found).words _ (says-at-Then-not-free-size c) (not-true _ c.if-not-free-size.true-raw));
+  answer = sym (using-stop (names (goal.at.returns-then-not-free-size c).At-loop-n) c.loop-n.invariant.0 (found-at-In-Ok (goal.at.returns-then-not-free-size c).In-Ok).words _ (says-at-Then-not-free-size c) (not-true _ c.if-not-free-size.true-raw));
   row = at-fault;
 }
 
 -- the number that `read` found, and what `size_of` says of it
 found-at-Else-not-free-size : (c : Else-not-free-size) → let values = c.args.values.now in
-    Word values c.loop-n.at c.next_word-place.result c.in-Found.number c.in-Found.next.at
+    Word values c.loop-n.at c.next_word-place.result c.in-Ok.number c.in-Ok.next.at
 found-at-Else-not-free-size c =
-    word_read _ _ _ c.next_word-place.ensures _ _ (sym c.read.ensures ∙ c.in-Found.is)
+    word_read _ _ _ c.next_word-place.ensures _ _ (sym c.read.ensures ∙ c.in-Ok.is)
 
 says-at-Else-not-free-size : (c : Else-not-free-size) → c.size_of-size.result ≡ size_in (is_literal c.args.n) (code_in (piece_at c.args.values.now c.next_word-place.result))
 says-at-Else-not-free-size c = size-read (is_literal _) _ (found-at-Else-not-free-size c) c.size_of-size.ensures
@@ -143,13 +143,13 @@ pub bounds-row-name : goal.bounds-row-name
 bounds-row-name c = omega (arith, fits (goal.at.bounds-row-name c).Else-not-free-size)
 
 pub loop-n-smaller : goal.loop-n-smaller
-loop-n-smaller c = omega (arith, (found-at-In-Found (goal.at.loop-n-smaller c).In-Found).forward)
+loop-n-smaller c = omega (arith, (found-at-In-Ok (goal.at.loop-n-smaller c).In-Ok).forward)
 
 -- the number that `read` found, and what `size_of` says of it
 found-at-After-code : (c : After-code) → let values = c.args.values.now in
-    Word values c.loop-n.at c.next_word-place.result c.in-Found.number c.in-Found.next.at
+    Word values c.loop-n.at c.next_word-place.result c.in-Ok.number c.in-Ok.next.at
 found-at-After-code c =
-    word_read _ _ _ c.next_word-place.ensures _ _ (sym c.read.ensures ∙ c.in-Found.is)
+    word_read _ _ _ c.next_word-place.ensures _ _ (sym c.read.ensures ∙ c.in-Ok.is)
 
 says-at-After-code : (c : After-code) → c.size_of-size.result ≡ size_in (is_literal c.args.n) (code_in (piece_at c.args.values.now c.next_word-place.result))
 says-at-After-code c = size-read (is_literal _) _ (found-at-After-code c) c.size_of-size.ensures
@@ -159,6 +159,6 @@ small-at-After-code c = omega (arith, size-high _ _ (λ code l. l) _ _ (says-at-
 
 pub loop-n-preserved : goal.loop-n-preserved
 loop-n-preserved c = (
-  rw c.code.ensures (using-more (names (goal.at.loop-n-preserved c).At-loop-n) c.loop-n.invariant.0 _ (free (goal.at.loop-n-preserved c).Else-not-free-size) (found-at-In-Found (goal.at.loop-n-preserved c).In-Found) (says-at-After-code c) (small-at-After-code c)),
+  rw c.code.ensures (using-more (names (goal.at.loop-n-preserved c).At-loop-n) c.loop-n.invariant.0 _ (free (goal.at.loop-n-preserved c).Else-not-free-size) (found-at-In-Ok (goal.at.loop-n-preserved c).In-Ok) (says-at-After-code c) (small-at-After-code c)),
   simp length-set c.loop-n.invariant.1,
 )

@@ -2,8 +2,8 @@
 use mathlib.Core.Path.{sym, ◌∙◌}
 use Rattle.permutation.proofs.refuse_names.Goals as goal
 
-pub returns-in-At : goal.returns-in-At
-returns-in-At c = rw (sym c.not_number.ensures ∙ c.in-At.is)
+pub returns-in-Some : goal.returns-in-Some
+returns-in-Some c = rw (sym c.not_number.ensures ∙ c.in-Some.is)
 
 pub returns : goal.returns
 returns c = rw (sym c.not_number.ensures ∙ c.in_default.is)

@@ -1,57 +1,78 @@
 -- What an offer answers: one law for each way out, and what the row is that it checks. Assumes nothing.
 use mathlib.Core.Path.{◌≡◌, ◌∙◌}
-use mathlib.Core.Bool.{true, false}
+use mathlib.Core.Bool.{Bool, true, false}
 use mathlib.Core.List.{List, ◌++◌}
 use Prim.Native.Nat.{ℕ, ◌≤◌, ◌<◌}
 use native.Mathlib.Omega.{arith}
-use borrow.Author.Tests.{eq-eqb, ne_eqb, le-leb, lt-leb}
-use lib.ListN.{length, take, drop, length-append, length-drop}
-use lib.Seq.{take_at}
+use borrow.Author.Tests.{ne_eqb, le-leb, lt-leb}
+use lib.ListN.{length, take, drop, length-append}
+use lib.Seq.{take_at, length-take-le}
+use Rattle.std.proofs.Common.{Option, Some, None, Ok, Err, sym, ap}
 use Rattle.store.specs.Stores.{Store, plain_of}
 use Rattle.store.specs.Identity.{moves_nothing}
 use Rattle.store.specs.declared.refusal.Refusal.{Refusal}
-use Rattle.permutation.specs.Stated.{stated_by, row_stated}
-use Rattle.permutation.specs.declared.Stated.{Stated}
+use Rattle.permutation.specs.Stated.{stated_by}
 use Rattle.permutation.proofs.RowLaws.{row-length}
-use Rattle.symmetry.specs.Symmetry.{first_missing}
+use Rattle.symmetry.specs.Symmetry.{first_missing, number_or_none}
+use Rattle.symmetry.proofs.Missing.{is_none, is_some}
 use Rattle.offering.specs.Offering.{row_for, images_needed, if_room, if_symmetry, if_moving, offered_by}
-use Rattle.offering.specs.declared.Offered.{Offered}
 
--- the row that was filled: its first n entries are the row stated
-module _ (n : ℕ) (names values old row : List ℕ) (filled : row ≡ row_stated n names values ++ drop n old) where
-  pub filled_row : take n row ≡ row_stated n names values
-  filled_row = rw filled (take_at (row_stated n names values) (drop n old) n (row-length n names values))
+-- two lines that state a permutation for a store, and the row's first n entries, which are what they state
+pub record RowRead (s : Store) (names values row : List ℕ) : Type 0 where
+  pub stated : stated_by s.counts.variables names values ≡ Ok tt
+  pub part : take s.counts.variables row ≡ row_for s names values
+  pub long : s.counts.variables ≤ length row
+  pub size : length (take s.counts.variables row) ≡ s.counts.variables
 
-  pub filled-length : n ≤ length old → length row ≡ length old
-  filled-length h = rw filled (length-append (row_stated n names values) (drop n old) ∙ omega (arith, row-length n names values, length-drop n old))
+pub row_read : (s : Store) (names values old row : List ℕ) → stated_by s.counts.variables names values ≡ Ok tt
+    → row ≡ row_for s names values ++ drop s.counts.variables old → s.counts.variables ≤ length old → RowRead s names values row
+row_read s names values old row stated filled room =
+    let n = s.counts.variables in
+    let size = row-length n names values in
+    let long : n ≤ length row = rw filled (omega (arith, length-append (row_for s names values) (drop n old), size)) in
+    record {
+      stated = stated;
+      part = rw filled (take_at (row_for s names values) (drop n old) n size);
+      long = long;
+      size = length-take-le n row long;
+    }
 
-module _ (s : Store) (names values : List ℕ) where
-  pub not-stated : (r : Refusal) → stated_by s.counts.variables names values ≡ Stated.Refused r → offered_by s names values ≡ Offered.Refused r
-  unfolding offered_by
-  not-stated r e = rw e
+pub not-stated : (s : Store) (names values : List ℕ) (r : Refusal) → stated_by s.counts.variables names values ≡ Err r → offered_by s names values ≡ Err r
+unfolding offered_by
+not-stated s names values r e = rw e
 
-  module _ (stated : stated_by s.counts.variables names values ≡ Stated.Permutation) where
-    pub not-moving : moves_nothing (row_for s names values) ≡ true → offered_by s names values ≡ Offered.Refused Refusal.MovesNothing
+-- what the tests of the row say
+module _ {s : Store} {names values row : List ℕ} (read : RowRead s names values row) (idle : Bool) (idle-is : idle ≡ moves_nothing (take s.counts.variables row)) where
+  moves-is : idle ≡ moves_nothing (row_for s names values)
+  moves-is = idle-is ∙ ap moves_nothing read.part
+
+  pub not-moving : idle ≡ true → offered_by s names values ≡ Err Refusal.MovesNothing
+  unfolding offered_by if_moving
+  not-moving e = rw (read.stated, sym moves-is ∙ e)
+
+  module _ (moving : idle ≡ false) (missing : Option ℕ) (is : missing ≡ number_or_none (first_missing (take s.counts.variables row) (plain_of s))) where
+    missing-is : missing ≡ number_or_none (first_missing (row_for s names values) (plain_of s))
+    missing-is = is ∙ ap (λ (r : List ℕ). number_or_none (first_missing r (plain_of s))) read.part
+
+    by-symmetry : (k : ℕ) → first_missing (row_for s names values) (plain_of s) ≡ k → offered_by s names values ≡ if_symmetry k (if_room s)
     unfolding offered_by if_moving
-    not-moving e = rw (stated, e)
+    by-symmetry k e = rw (read.stated, sym moves-is ∙ moving, e)
 
-    module _ (moving : moves_nothing (row_for s names values) ≡ false) (missing : ℕ) (is : missing ≡ first_missing (row_for s names values) (plain_of s)) where
-      by-symmetry : offered_by s names values ≡ if_symmetry missing (if_room s)
-      unfolding offered_by if_moving
-      by-symmetry = rw (stated, moving, is)
+    pub not-symmetric : (k : ℕ) → missing ≡ Some k → offered_by s names values ≡ Err (Refusal.NoSymmetry k)
+    unfolding if_symmetry
+    not-symmetric k e =
+        let p = is_some _ _ (sym missing-is ∙ e) in
+        by-symmetry k p.0 ∙ rw (ne_eqb k 0 (λ z. p.1 (p.0 ∙ z)))
 
-      pub not-symmetric : (missing ≡ 0 → ⊥) → offered_by s names values ≡ Offered.Refused (Refusal.NoSymmetry missing)
+    module _ (none : missing ≡ None) where
+      by-room : offered_by s names values ≡ if_room s
       unfolding if_symmetry
-      not-symmetric h = by-symmetry ∙ rw (ne_eqb missing 0 h)
+      by-room = by-symmetry 0 (is_none _ (sym missing-is ∙ none))
 
-      by-room : missing ≡ 0 → offered_by s names values ≡ if_room s
-      unfolding if_symmetry
-      by-room h = by-symmetry ∙ rw (eq-eqb missing 0 h)
-
-      pub no_room : missing ≡ 0 → length s.images < images_needed s → offered_by s names values ≡ Offered.Refused (Refusal.TooShort (images_needed s))
+      pub no_room : length s.images < images_needed s → offered_by s names values ≡ Err (Refusal.TooShort (images_needed s))
       unfolding if_room
-      no_room h k = by-room h ∙ rw (lt-leb (images_needed s) (length s.images) k)
+      no_room k = by-room ∙ rw (lt-leb (images_needed s) (length s.images) k)
 
-      pub held : missing ≡ 0 → images_needed s ≤ length s.images → offered_by s names values ≡ Offered.Accepted
+      pub held : images_needed s ≤ length s.images → offered_by s names values ≡ Ok tt
       unfolding if_room
-      held h k = by-room h ∙ rw (le-leb (images_needed s) (length s.images) k)
+      held k = by-room ∙ rw (le-leb (images_needed s) (length s.images) k)

@@ -8,15 +8,8 @@ ghost use Rattle.numbers.specs.Numbers.{numbers};
 ghost use Rattle.keys.specs.Keys.{right_keys};
 ghost use Rattle.offering.specs.Offering.{offered_by, images_after, row_for};
 
-use permutation::Stated;
 use store::record::Record;
 use store::refusal::Refusal;
-
-#[derive(Clone, Copy)]
-pub enum Offered {
-    Accepted,
-    Refused(Refusal),
-}
 
 // Tries an offer on a well-formed store that is not full, and appends its row to the images if it is accepted. The table is that of the literals' numbers.
 pub fn offer(
@@ -28,7 +21,7 @@ pub fn offer(
     names: &[u8],
     values: &[u8],
     table: &[u64; numbers::COUNT],
-) -> Offered
+) -> Result<(), Refusal>
     requires { let s = lent counts literals.now ends.now images.old in
         (is_formed s ≡ true) × (right_keys (plain_of s) keys.now ≡ true) × (counts.rows < max_rows) × (table.now ≡ numbers) }
     ensures answer { let s = lent counts literals.now ends.now images.old in
@@ -39,21 +32,25 @@ pub fn offer(
     let n = counts.variables;
     let rows = counts.rows;
     let mut row = [0u16; Record::MAX_VARIABLES];
-    let stated = permutation::state(names, values, n, &mut row);
-    if let Stated::Refused(refusal) = stated {
-        return Offered::Refused(refusal);
+    permutation::state(names, values, n, &mut row)?;
+    let row = &row[..n];
+    if store::rows::moves_nothing(row) {
+        return Err(Refusal::MovesNothing);
     }
-    if store::rows::moves_nothing(&row[..n]) {
-        return Offered::Refused(Refusal::MovesNothing);
-    }
-    let missing = symmetry::first_missing(literals, ends, keys, counts.clauses, &row[..n], table);
-    if missing != 0 {
-        return Offered::Refused(Refusal::NoSymmetry(missing));
+    if let Some(missing) = symmetry::first_missing(
+        literals,
+        ends,
+        keys,
+        counts.clauses,
+        row,
+        table,
+    ) {
+        return Err(Refusal::NoSymmetry(missing));
     }
     let needed = (rows + 1) * n;
     if images.len() < needed {
-        return Offered::Refused(Refusal::TooShort(needed));
+        return Err(Refusal::TooShort(needed));
     }
-    store::rows::append(images, n, rows, &row[..n]);
-    Offered::Accepted
+    store::rows::append(images, n, rows, row);
+    Ok(())
 }

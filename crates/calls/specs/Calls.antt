@@ -1,20 +1,18 @@
--- What each public call says, in the documents' numbers, and what the lent store holds afterwards. For each answer enum of the code a definition gives
--- the numbers and the values of its cases. Assumes nothing.
-use Rattle.std.specs.Prelude.{ℕ, true, cond, ◌&&◌, List, length, eqb, leb}
+-- What each public call says, in the documents' numbers, and what the lent store holds afterwards. Assumes nothing.
+use Rattle.std.specs.Prelude.{Option, Result, Ok, Err, ℕ, true, cond, ◌&&◌, List, length, eqb, leb}
 use Rattle.packed.specs.Words.{max_words, bits_of, word_count, is_assignment}
 use Rattle.packed.specs.Order.{all_bits, first_difference}
 use Rattle.quality.specs.Efficiency.{has_efficiency, efficiency_of}
-use Rattle.store.specs.Refusals.{Said, done, refused, said_refused, unless_refused, buffer_left}
+use Rattle.store.specs.Refusals.{Said, done, refused, said_refused, said, unless_refused, buffer_left}
 use Rattle.store.specs.Stores.{lent, with_row, without_row, held_rows, max_rows}
 use Rattle.store.specs.declared.record.Record.{Record}
+use Rattle.store.specs.declared.refusal.Refusal.{Refusal}
 use Rattle.keys.specs.Keys.{keys_of}
 use Rattle.standing.specs.Keyed.{Keyed, with_keys, standing_of}
-use Rattle.standing.specs.declared.Standing.{Standing}
 use Rattle.opening.specs.Clauses.{literals_in, ends_from}
 use Rattle.opening.specs.Opening.{body_of, formula_of, opened_by, written}
-use Rattle.opening.specs.declared.Opened.{Opened}
+use Rattle.opening.specs.declared.Sizes.{Sizes}
 use Rattle.offering.specs.Offering.{row_for, offered_by}
-use Rattle.offering.specs.declared.Offered.{Offered}
 use Rattle.lexleader.specs.Descent.{descend}
 use Rattle.lexleader.specs.Store.{variables_of}
 use Rattle.emit.specs.Emit.{header_of, line_of, header_by, clause_by}
@@ -23,37 +21,34 @@ use Rattle.measure.specs.declared.Figures.{Figures}
 use Rattle.filling.specs.Written.{filled_words}
 use Rattle.checking.specs.Checking.{Verdict, verdict_of, first_false}
 use Rattle.descent.specs.Words.{Outcome, answer_of, outcome_of, descended}
-use Rattle.calls.specs.declared.Descent.{Descent}
-use Rattle.calls.specs.declared.Finding.{Finding}
-use Rattle.calls.specs.declared.Measured.{Measured}
-use Rattle.calls.specs.declared.Withdrawn.{Withdrawn}
+use Rattle.descent.specs.declared.Descended.{Descended}
 
 -- what a call that needs an open store says: 20 and 21 come first
-abbrev pub on_store : {Values : Type 0} → Standing → Said Values → Said Values
-on_store Standing.Ready said = said
-on_store (Standing.Refused r) said = said_refused r
+abbrev pub on_store : {Values : Type 0} → Result (Unit {0}) Refusal → Said Values → Said Values
+on_store (Ok ready) said = said
+on_store (Err r) said = said_refused r
+
+-- what a result says, its values in the documents' terms
+abbrev pub said_as : {Values Terms : Type 0} → (Values → Terms) → Result Values Refusal → Said Terms
+said_as terms (Ok values) = done (terms values)
+said_as terms (Err r) = said_refused r
 
 -- ---- open: 1 to 6 by place, then 23. It looks at no old store, replaces it with its keys and drops its rows; a refused opening changes nothing.
 
 -- n and m
-pub record Dimensions : Type 0 where
-  pub variables : ℕ
-  pub clauses : ℕ
-
-abbrev pub said_opened : Opened → Said Dimensions
-said_opened (Opened.Open n m) = done (record { variables = n; clauses = m })
-said_opened (Opened.Refused r) = said_refused r
+abbrev pub Dimensions : Type 0
+Dimensions = Sizes
 
 -- by the room in what is lent
-abbrev pub opened_in : Keyed → List ℕ → Opened
+abbrev pub opened_in : Keyed → List ℕ → Result Sizes Refusal
 opened_in s text = opened_by text (length s.store.literals) (length s.store.ends) (length s.keys)
 
 unfoldable pub open_says : Keyed → List ℕ → Said Dimensions
-open_says s text = said_opened (opened_in s text)
+open_says s text = said (opened_in s text)
 
-abbrev pub counts_opened : Opened → Record → Record
-counts_opened (Opened.Open n m) old = record { variables = n; clauses = m; rows = 0; is_open = true }
-counts_opened (Opened.Refused r) old = old
+abbrev pub counts_opened : Result Sizes Refusal → Record → Record
+counts_opened (Ok sizes) old = record { variables = sizes.variables; clauses = sizes.clauses; rows = 0; is_open = true }
+counts_opened (Err r) old = old
 
 unfoldable pub open_store : Keyed → List ℕ → Keyed
 open_store s text =
@@ -64,16 +59,15 @@ open_store s text =
 
 -- ---- offer: 20, 21, 22, then 7, 8, 9, 10, 31, 11, 23
 
--- what an offer that isn't refused says
-pub data Accepted : Type 0 where
-  accepted : Accepted
+-- what an offer that isn't refused says: no more than that
+abbrev pub Accepted : Type 0
+Accepted = Unit {0}
 
-abbrev pub said_offered : Offered → Said Accepted
-said_offered Offered.Accepted = done accepted
-said_offered (Offered.Refused r) = said_refused r
+abbrev pub accepted : Accepted
+accepted = tt
 
 unfoldable pub offer_says : Keyed → List ℕ → List ℕ → Said Accepted
-offer_says s names values = on_store (standing_of s) (cond (eqb s.store.counts.rows max_rows) (refused 22 0) (said_offered (offered_by s.store names values)))
+offer_says s names values = on_store (standing_of s) (cond (eqb s.store.counts.rows max_rows) (refused 22 0) (said (offered_by s.store names values)))
 
 -- the store with one row more; the keys stay
 unfoldable pub offer_store : Keyed → List ℕ → List ℕ → Keyed
@@ -81,13 +75,12 @@ offer_store s names values = unless_refused (offer_says s names values) (with_ke
 
 -- ---- withdraw (document 02, CR 3): 20, 21, then 30 where no row is held
 
--- what a withdrawal that isn't refused says
-pub data TakenBack : Type 0 where
-  taken_back : TakenBack
+-- what a withdrawal that isn't refused says: no more than that
+abbrev pub TakenBack : Type 0
+TakenBack = Unit {0}
 
-abbrev pub said_withdrawn : Withdrawn → Said TakenBack
-said_withdrawn Withdrawn.TakenBack = done taken_back
-said_withdrawn (Withdrawn.Refused r) = said_refused r
+abbrev pub taken_back : TakenBack
+taken_back = tt
 
 unfoldable pub withdraw_says : Keyed → Said TakenBack
 withdraw_says s = on_store (standing_of s) (cond (eqb s.store.counts.rows 0) (refused 30 0) (done taken_back))
@@ -97,10 +90,6 @@ unfoldable pub withdraw_store : Keyed → Keyed
 withdraw_store s = unless_refused (withdraw_says s) (with_keys (without_row s.store) s.keys) s
 
 -- ---- figures (document 02, CR 10): 20, 21
-
-abbrev pub said_measured : Measured → Said Figures
-said_measured (Measured.Figures figures) = done figures
-said_measured (Measured.Refused r) = said_refused r
 
 unfoldable pub figures_says : Keyed → Said Figures
 figures_says s = on_store (standing_of s) (done (figures_of s.store))
@@ -137,18 +126,16 @@ fill_leaves s a out = buffer_left (fill_says s a (length out)) (filled_words s.s
 
 -- ---- check: 20, 21, 12. It "answers yes, or the first clause of the made formula that an assignment of 1..N makes false"
 
-abbrev pub said_finding : Finding → Said Verdict
-said_finding (Finding.Found found) = done (verdict_of found)
-said_finding (Finding.Refused r) = said_refused r
+abbrev pub said_finding : Result (Option ℕ) Refusal → Said Verdict
+said_finding = said_as verdict_of
 
 unfoldable pub check_says : Keyed → List ℕ → Said Verdict
 check_says s a = on_store (standing_of s) (cond (is_assignment (variables_of s.store) a) (done (first_false s.store a)) (refused 12 0))
 
 -- ---- descend: 20, 21, 12. It answers settled or spent with the count of moves, and leaves the assignment reached
 
-abbrev pub said_descent : Descent → Said Outcome
-said_descent (Descent.Ended ending) = done (outcome_of ending)
-said_descent (Descent.Refused r) = said_refused r
+abbrev pub said_descent : Result Descended Refusal → Said Outcome
+said_descent = said_as outcome_of
 
 unfoldable pub descend_says : Keyed → List ℕ → ℕ → Said Outcome
 descend_says s a limit =

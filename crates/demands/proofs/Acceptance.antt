@@ -20,7 +20,7 @@ use Rattle.permutation.proofs.Theorem.{stated-row}
 use Rattle.symmetry.specs.Symmetry.{IsSymmetry, first_missing}
 use Rattle.symmetry.proofs.Theorem.{none-missing-iff}
 use Rattle.offering.specs.Offering.{row_for}
-use Rattle.offering.proofs.OfferLaws.{held}
+use Rattle.demands.proofs.OfferedBy.{held}
 use Rattle.calls.specs.Calls.{accepted, offer_says, offer_store}
 use Rattle.demands.specs.Demand2.{Permitted}
 use Rattle.demands.proofs.Decided.{Decided, shut, misformed, full, unstated, idle, asymmetric, short, taken, says, decided}

@@ -1,5 +1,8 @@
 -- Lists of calls: after any list from a fresh opening, refused calls included, the rows are exactly the permutations that the accepted offers not taken back
 -- state, in order, repeats included, each a symmetry that moves something, and the plain formula is the text's. What carries it: `Sound`, which every call keeps. Assumes nothing.
+use Rattle.std.proofs.Common.{Result, Ok, Err}
+use Rattle.store.specs.Refusals.{said as told}
+use Rattle.store.specs.declared.refusal.Refusal.{Refusal}
 use mathlib.Core.Path.{◌≡◌, refl, ap, ◌∙◌, subst, subst₂}
 use mathlib.Core.Bool.{true}
 use mathlib.Core.List.Memᴰ
@@ -19,13 +22,12 @@ use Rattle.store.proofs.RowLaws.{rows_append, rows_take}
 use Rattle.store.proofs.Demands.{rest_of, rows-of}
 use Rattle.store.proofs.RowChanges.{with-rows-formed, without-row-formed}
 use Rattle.permutation.specs.Stated.{stated_by, row_stated}
-use Rattle.permutation.specs.declared.Stated.{Stated}
 use Rattle.symmetry.specs.Symmetry.{IsSymmetry}
 use Rattle.opening.specs.Opening.{formula_of}
-use Rattle.opening.specs.declared.Opened.{Opened}
+use Rattle.opening.specs.declared.Sizes.{Sizes}
 use Rattle.opening.proofs.Theorem.{opened-formed, opened-plain}
 use Rattle.offering.specs.Offering.{row_for}
-use Rattle.calls.specs.Calls.{accepted as yes, Dimensions, said_opened, opened_in, open_says, open_store, offer_says, offer_store, taken_back, withdraw_says, withdraw_store}
+use Rattle.calls.specs.Calls.{accepted as yes, Dimensions, opened_in, open_says, open_store, offer_says, offer_store, taken_back, withdraw_says, withdraw_store}
 use Rattle.demands.specs.Lists.{Call, offer, withdraw, lend, lent_anew, after_call, after, but_last, held_after, held_from, accepted, offers_left}
 use Rattle.demands.proofs.ButLast.{but-last-more}
 use Rattle.demands.proofs.Acceptance.{accepted-iff, store-refused, store-accepted, accepted-held, accepted-formed}
@@ -60,7 +62,7 @@ accepted-keeps s names values e = rw (store-accepted s names values e) (record {
 
 -- what an offer's acceptance asks of the lines and the formula
 pub record Acceptable (s : Keyed) (names values : List ℕ) : Type 0 where
-  pub stated : stated_by s.store.counts.variables names values ≡ Stated.Permutation
+  pub stated : stated_by s.store.counts.variables names values ≡ Ok tt
   pub symmetry : IsSymmetry (row_for s.store names values) (plain_of s.store)
   pub moves : MovesSomething (row_for s.store names values)
 
@@ -200,18 +202,18 @@ pub fresh : (s : Keyed) (text : List ℕ) (sizes : Dimensions) → open_says s t
 unfolding open_says open_store held_rows rows_of
 fresh s text sizes said = by (opened_in s text) refl said
   where
-    by : (a : Opened) → opened_in s text ≡ a → said_opened a ≡ done sizes → Fresh s text
-    by (Opened.Open n m) e q = record {
+    by : (a : Result Sizes Refusal) → opened_in s text ≡ a → told a ≡ done sizes → Fresh s text
+    by (Ok o) e q = record {
       sound = record {
         keeps = keeps_self (open_store s text);
-        formed = rw e (well-formed _ (opened-formed text s.store.literals s.store.ends s.keys s.store.images n m e) (rw (opened-plain text s.store.literals s.store.ends s.keys s.store.images n m e) (written-right (formula_of text) _)));
+        formed = rw e (well-formed _ (opened-formed text s.store.literals s.store.ends s.keys s.store.images o e) (rw (opened-plain text s.store.literals s.store.ends s.keys s.store.images o e) (written-right (formula_of text) _)));
         are-rows = rw e;
         held = none;
       };
       opened = rw e;
-      plain = rw e (opened-plain text s.store.literals s.store.ends s.keys s.store.images n m e);
+      plain = rw e (opened-plain text s.store.literals s.store.ends s.keys s.store.images o e);
     }
-    by (Opened.Refused r) e q = let z : ◌≡◌ {A = ℕ} 0 1 = cc in absurd (omega arith)
+    by (Err r) e q = let z : ◌≡◌ {A = ℕ} 0 1 = cc in absurd (omega arith)
 
 -- For every text and lent store for which opening answers, and every list of calls from there, refused ones included: the store is open and well formed,
 -- its plain formula is the text's, its rows are exactly the accepted permutations of the list, and each of these is a symmetry of the formula and moves something.

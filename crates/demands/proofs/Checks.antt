@@ -1,5 +1,7 @@
 -- The checking call (document 01): it "answers yes, or the first clause of the made formula that an assignment of 1..N makes false". Yes is said exactly for
 -- the models of the made formula. Assumes nothing.
+use Rattle.std.proofs.Common.{Result, Ok, Err}
+use Rattle.store.specs.declared.refusal.Refusal.{Refusal}
 use mathlib.Core.Path.{◌≡◌, refl, ap, ◌∙◌}
 use mathlib.Core.Bool.{Bool, true, false, cond}
 use mathlib.Core.List.{List}
@@ -12,7 +14,6 @@ use Rattle.packed.specs.Words.{bits_of, bit_at, is_assignment}
 use Rattle.packed.specs.Order.{value_of}
 use Rattle.store.specs.Refusals.{done, refused}
 use Rattle.standing.specs.Keyed.{Keyed, well_formed, standing_of}
-use Rattle.standing.specs.declared.Standing.{Standing}
 use Rattle.standing.proofs.StandingLaws.{ready_of, ready}
 use Rattle.lexleader.specs.Models.{Model}
 use Rattle.lexleader.specs.Store.{made_of, variables_of}
@@ -38,11 +39,11 @@ module _ (s : Keyed) (words : List ℕ) where
     λ c. rw (ready_of s c.0.opened c.0.formed, c.0.form) (ap done c.1),
   )
     where
-      by : (standing : Standing) → standing_of s ≡ standing → (form : Bool) → is_assignment (variables_of s.store) words ≡ form
+      by : (standing : Result (Unit {0}) Refusal) → standing_of s ≡ standing → (form : Bool) → is_assignment (variables_of s.store) words ≡ form
           → on_store standing (cond form (done (first_false s.store words)) (refused 12 0)) ≡ done verdict → Checkable × (first_false s.store words ≡ verdict)
-      by Standing.Ready p true q e = (record { opened = (ready s p).0; formed = (ready s p).1; form = q }, (cc))
-      by Standing.Ready p false q e = let z : ◌≡◌ {A = ℕ} 0 1 = cc in absurd (omega arith)
-      by (Standing.Refused r) p form q e = let z : ◌≡◌ {A = ℕ} 0 1 = cc in absurd (omega arith)
+      by (Ok u) p true q e = (record { opened = (ready s p).0; formed = (ready s p).1; form = q }, (cc))
+      by (Ok u) p false q e = let z : ◌≡◌ {A = ℕ} 0 1 = cc in absurd (omega arith)
+      by (Err r) p form q e = let z : ◌≡◌ {A = ℕ} 0 1 = cc in absurd (omega arith)
 
   length-bits : length bits ≡ variables_of s.store
   unfolding bits_of

@@ -1,4 +1,5 @@
 -- What decides an offer: the first of its tests that turns it back, or none. Assumes nothing.
+use Rattle.std.proofs.Common.{Result, Ok, Err}
 use mathlib.Core.Path.{◌≡◌, refl, ap, ◌∙◌}
 use mathlib.Core.Bool.{Bool, true, false}
 use mathlib.Core.List.{List}
@@ -8,7 +9,7 @@ use borrow.Author.Tests.{eqb-true, eqb-false, leb-true, leb-false}
 use lib.Arith.{lt_of_le-ne}
 use lib.ListN.{length}
 use lib.Dec.{eqb, leb}
-use Rattle.store.specs.Refusals.{done, refused, number_of, said_refused}
+use Rattle.store.specs.Refusals.{done, refused, number_of, said_refused, said}
 use Rattle.store.specs.Stores.{plain_of, max_rows}
 use Rattle.store.specs.Identity.{moves_nothing}
 use Rattle.store.specs.declared.refusal.Refusal.{Refusal}
@@ -16,13 +17,11 @@ use Rattle.store.proofs.Demands.{rest_of}
 use Rattle.standing.specs.Keyed.{Keyed, well_formed}
 use Rattle.standing.proofs.StandingLaws.{not-open, badly-formed, ready_of, its-form}
 use Rattle.permutation.specs.Stated.{stated_by}
-use Rattle.permutation.specs.declared.Stated.{Stated}
 use Rattle.permutation.proofs.StateLaws.{stated-number}
 use Rattle.symmetry.specs.Symmetry.{first_missing}
 use Rattle.offering.specs.Offering.{row_for, images_needed, offered_by}
-use Rattle.offering.specs.declared.Offered.{Offered}
-use Rattle.offering.proofs.OfferLaws.{not-stated, not-moving, not-symmetric, no_room, held}
-use Rattle.calls.specs.Calls.{accepted, said_offered, offer_says}
+use Rattle.demands.proofs.OfferedBy.{not-stated, not-moving, not-symmetric, no_room, held}
+use Rattle.calls.specs.Calls.{accepted, offer_says}
 use Rattle.calls.proofs.CallLaws.{unready, full as is-full, tried}
 use Rattle.demands.specs.Demand2.{States}
 
@@ -46,8 +45,8 @@ module _ (s : Keyed) (names values : List ℕ) where
     taken : States s names values → moves_nothing row ≡ false → missing ≡ 0 → images_needed s.store ≤ length s.store.images → offer_says s names values ≡ done accepted → Decided
 
   -- an offer to such a store, by what `offering` says of it
-  pub says : States s names values → {o : Offered} → offered_by s.store names values ≡ o → offer_says s names values ≡ said_offered o
-  says a e = tried s names values (ready_of s a.opened a.formed) (λ full. omega (arith, a.not_full)) ∙ ap said_offered e
+  pub says : States s names values → {o : Result (Unit {0}) Refusal} → offered_by s.store names values ≡ o → offer_says s names values ≡ said o
+  says a e = tried s names values (ready_of s a.opened a.formed) (λ full. omega (arith, a.not_full)) ∙ ap said e
 
   pub decided : Decided
   decided = standing s.store.counts.is_open refl (well_formed s) refl
@@ -63,12 +62,12 @@ module _ (s : Keyed) (names values : List ℕ) where
           taken a qb (eqb-true missing 0 qc) h (says a (held s.store names values a.stated qb missing refl (eqb-true missing 0 qc) h))
 
       rows : s.store.counts.is_open ≡ true → well_formed s ≡ true → (b : Bool) → eqb s.store.counts.rows max_rows ≡ b
-          → (c : Stated) → stated_by s.store.counts.variables names values ≡ c → Decided
+          → (c : Result (Unit {0}) Refusal) → stated_by s.store.counts.variables names values ≡ c → Decided
       rows qo qf true qb c qc = full (is-full s names values (ready_of s qo qf) (eqb-true _ _ qb))
-      rows qo qf false qb (Stated.Refused r) qc =
+      rows qo qf false qb (Err r) qc =
           unstated r (stated-number s.store.counts.variables names values r qc)
-          (tried s names values (ready_of s qo qf) (eqb-false _ _ qb) ∙ ap said_offered (not-stated s.store names values r qc))
-      rows qo qf false qb Stated.Permutation qc =
+          (tried s names values (ready_of s qo qf) (eqb-false _ _ qb) ∙ ap said (not-stated s.store names values r qc))
+      rows qo qf false qb (Ok u) qc =
           stating
           (record { opened = qo; formed = qf; not_full = lt_of_le-ne (rest_of s.store (its-form s qf)).rows_fit (eqb-false _ _ qb); stated = qc })
           (moves_nothing row) refl (eqb missing 0) refl (leb (images_needed s.store) (length s.store.images)) refl

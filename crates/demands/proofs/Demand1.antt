@@ -1,4 +1,7 @@
 -- Demand 1 holds: each call by its reasons one after another (Refusing.antt), opening and offers in files of their own. Assumes nothing.
+use Rattle.std.proofs.Common.{Result, Ok, Err}
+use Rattle.store.specs.Refusals.{said as told}
+use Rattle.store.specs.declared.refusal.Refusal.{Refusal}
 use mathlib.Core.Path.{◌≡◌, refl, sym, ◌∙◌}
 use mathlib.Core.Bool.{Bool, true, false, cond, not, ◌&&◌}
 use mathlib.Core.List.{List, [], ◌∷◌}
@@ -15,8 +18,8 @@ use Rattle.store.specs.Refusals.{Said, done, refused}
 use Rattle.standing.specs.Keyed.{Keyed}
 use Rattle.lexleader.specs.Store.{variables_of, clauses_of}
 use Rattle.emit.specs.Emit.{header_of, line_of, written_if, header_by, clause_by}
-use Rattle.opening.specs.declared.Opened.{Opened}
-use Rattle.calls.specs.Calls.{taken_back, said_opened, opened_in, open_says, open_store, withdraw_says, figures_says, header_says, header_leaves, clause_says, clause_leaves, compare_says, fill_says, fill_leaves, check_says, descend_says, descend_leaves, efficiency_says}
+use Rattle.opening.specs.declared.Sizes.{Sizes}
+use Rattle.calls.specs.Calls.{taken_back, opened_in, open_says, open_store, withdraw_says, figures_says, header_says, header_leaves, clause_says, clause_leaves, compare_says, fill_says, fill_leaves, check_says, descend_says, descend_leaves, efficiency_says}
 use Rattle.demands.specs.Reasons.{Reason, bad_assignment, no_such_clause, too_short, withdraw_reasons, figures_reasons, header_reasons, clause_reasons, fill_reasons, check_reasons, descend_reasons, compare_reasons, efficiency_reasons}
 use Rattle.demands.specs.Demand1.{Unchanged, Demand1}
 use Rattle.demands.proofs.Acceptance.{store-refused}
@@ -119,9 +122,9 @@ open-leaves : (s : Keyed) (text : List ℕ) → Unchanged (open_says s text) s (
 unfolding open_says open_store
 open-leaves s text number place said = by (opened_in s text) refl said
   where
-    by : (a : Opened) → opened_in s text ≡ a → said_opened a ≡ refused number place → open_store s text ≡ s
-    by (Opened.Open n m) e q = let z : ◌≡◌ {A = ℕ} 0 1 = cc in absurd (omega arith)
-    by (Opened.Refused r) e q = rw e
+    by : (a : Result Sizes Refusal) → opened_in s text ≡ a → told a ≡ refused number place → open_store s text ≡ s
+    by (Ok o) e q = let z : ◌≡◌ {A = ℕ} 0 1 = cc in absurd (omega arith)
+    by (Err r) e q = rw e
 
 pub demand-1 : Demand1
 unfolding header_leaves clause_leaves fill_leaves descend_leaves

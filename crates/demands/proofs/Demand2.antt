@@ -1,5 +1,6 @@
 -- Demand 2 holds for every store: acceptance is that of Acceptance.antt, and the lines that the calls write, one after another, are the text of the made
 -- formula. Assumes nothing.
+use Rattle.std.proofs.Common.{Ok}
 use mathlib.Core.Path.{◌≡◌, refl, ◌∙◌}
 use mathlib.Core.Bool.{true}
 use mathlib.Core.List.{List, [], ◌++◌}
@@ -11,7 +12,6 @@ use lib.Seq.{take-append_seam}
 use Rattle.store.specs.Refusals.{buffer_left}
 use Rattle.store.specs.Stores.{plain_of, held_rows}
 use Rattle.standing.specs.Keyed.{Keyed, well_formed, standing_of}
-use Rattle.standing.specs.declared.Standing.{Standing}
 use Rattle.standing.proofs.StandingLaws.{ready_of, its-form}
 use Rattle.symmetry.proofs.SetLaws.{at_mem}
 use Rattle.permutation.proofs.Theorem.{row-at-name, row-elsewhere}
@@ -37,7 +37,7 @@ line-fits : (s : Keyed) → well_formed s ≡ true → (q : ℕ) → 1 ≤ q →
 unfolding line_of clauses_of
 line-fits s formed q low high = line-longest s.store (its-form s formed) (get_or (made_of s.store) (q - 1) []) (at_mem [] (made_of s.store) (q - 1) (omega arith))
 
-module _ (s : Keyed) (ready : standing_of s ≡ Standing.Ready) where
+module _ (s : Keyed) (ready : standing_of s ≡ Ok tt) where
   pub header-written : (buffer : List ℕ) → length (header_of s.store) ≤ length buffer → written_by (header_says s (length buffer)) (header_leaves s buffer) ≡ header_of s.store
   unfolding header_says header_leaves header_by
   header-written buffer h = rw ready (line-written (header_of s.store) buffer h)

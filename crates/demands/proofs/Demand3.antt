@@ -1,5 +1,7 @@
 -- Demand 3 holds: for every lent store and text for which opening answers, and every list of calls from there, refused ones included. The theory of kept
 -- models (lexleader/proofs/Theorems.antt) meets the store that the list leaves (AfterCalls.antt) and the calls on words. Assumes nothing.
+use Rattle.std.proofs.Common.{Result, Ok, Err}
+use Rattle.store.specs.declared.refusal.Refusal.{Refusal}
 use mathlib.Core.Path.{◌≡◌, refl, sym, ap, ◌∙◌}
 use mathlib.Core.Bool.{Bool, true, false, cond}
 use mathlib.Core.List.{List, ◌++◌}
@@ -17,7 +19,6 @@ use Rattle.store.specs.Refusals.{done, refused}
 use Rattle.store.specs.Stores.{held_rows, is_row}
 use Rattle.standing.proofs.StandingLaws.{its-form}
 use Rattle.standing.specs.Keyed.{Keyed, standing_of}
-use Rattle.standing.specs.declared.Standing.{Standing}
 use Rattle.store.proofs.Formed.{formed}
 use Rattle.store.proofs.Demands.{rows-of}
 use Rattle.store.proofs.Within.{literals-within}
@@ -44,13 +45,13 @@ fill-count : (s : Keyed) (a : List ℕ) (room k : ℕ) → fill_says s a room �
 unfolding fill_says
 fill-count s a room k e = by (standing_of s) (is_assignment s.store.counts.variables a) (leb (word_count (variables_of s.store)) room) e
   where
-    by : (standing : Standing) (form fits : Bool)
+    by : (standing : Result (Unit {0}) Refusal) (form fits : Bool)
         → on_store standing (cond form (cond fits (done (word_count (variables_of s.store))) (refused 23 (word_count (variables_of s.store)))) (refused 12 0)) ≡ done k
         → k ≡ word_count (variables_of s.store)
-    by Standing.Ready true true e = cc
-    by Standing.Ready true false e = let z : ◌≡◌ {A = ℕ} 0 1 = cc in absurd (omega arith)
-    by Standing.Ready false fits e = let z : ◌≡◌ {A = ℕ} 0 1 = cc in absurd (omega arith)
-    by (Standing.Refused r) form fits e = let z : ◌≡◌ {A = ℕ} 0 1 = cc in absurd (omega arith)
+    by (Ok u) true true e = cc
+    by (Ok u) true false e = let z : ◌≡◌ {A = ℕ} 0 1 = cc in absurd (omega arith)
+    by (Ok u) false fits e = let z : ◌≡◌ {A = ℕ} 0 1 = cc in absurd (omega arith)
+    by (Err r) form fits e = let z : ◌≡◌ {A = ℕ} 0 1 = cc in absurd (omega arith)
 
 -- the words that it wrote
 fill-wrote : (s : Keyed) (a out : List ℕ) (k : ℕ) → fill_says s a (length out) ≡ done k
@@ -74,15 +75,15 @@ unfolding descend_says descend_leaves descended
 descend-settled s a limit moves e =
     by (standing_of s) refl (is_assignment s.store.counts.variables a) refl (descend limit (held_rows s.store) (bits_of s.store.counts.variables a)) refl e
   where
-    by : (standing : Standing) → standing_of s ≡ standing → (form : Bool) → is_assignment s.store.counts.variables a ≡ form
+    by : (standing : Result (Unit {0}) Refusal) → standing_of s ≡ standing → (form : Bool) → is_assignment s.store.counts.variables a ≡ form
         → (ending : Ending) → descend limit (held_rows s.store) (bits_of s.store.counts.variables a) ≡ ending
         → on_store standing (cond form (done (answer_of ending)) (refused 12 0)) ≡ done (settled_after moves) → Settles s a limit moves
-    by Standing.Ready p true q (settled count b) d e =
+    by (Ok u) p true q (settled count b) d e =
         let same : count ≡ moves = cc in
         record { reached = b; ends = d ∙ ap (λ (m : ℕ). settled m b) same; leaves = rw (p, q, d) }
-    by Standing.Ready p true q (spent count b) d e = let z : ◌≡◌ {A = ℕ} 0 1 = cc in absurd (omega arith)
-    by Standing.Ready p false q ending d e = let z : ◌≡◌ {A = ℕ} 0 1 = cc in absurd (omega arith)
-    by (Standing.Refused r) p form q ending d e = let z : ◌≡◌ {A = ℕ} 0 1 = cc in absurd (omega arith)
+    by (Ok u) p true q (spent count b) d e = let z : ◌≡◌ {A = ℕ} 0 1 = cc in absurd (omega arith)
+    by (Ok u) p false q ending d e = let z : ◌≡◌ {A = ℕ} 0 1 = cc in absurd (omega arith)
+    by (Err r) p form q ending d e = let z : ◌≡◌ {A = ℕ} 0 1 = cc in absurd (omega arith)
 
 -- ---- the same numbers, formulas and rows
 

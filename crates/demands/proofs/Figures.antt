@@ -1,4 +1,6 @@
 -- Document 02, CR 10: `FiguresAhead` holds for every store. Assumes nothing.
+use Rattle.std.proofs.Common.{Result, Ok, Err}
+use Rattle.store.specs.declared.refusal.Refusal.{Refusal}
 use mathlib.Core.Path.{◌≡◌, refl, sym, ap, ◌∙◌}
 use mathlib.Core.Bool.{true}
 use mathlib.Core.Logic.{◌⊎◌, inl, inr, ◌↔◌}
@@ -10,7 +12,6 @@ use Rattle.lists.proofs.Cases.{never}
 use Rattle.store.specs.Refusals.{done, refused}
 use Rattle.store.specs.Stores.{plain_of, is_formed}
 use Rattle.standing.specs.Keyed.{Keyed, well_formed, standing_of}
-use Rattle.standing.specs.declared.Standing.{Standing}
 use Rattle.standing.proofs.StandingLaws.{ready_of, ready, its-form}
 use Rattle.lexleader.specs.Store.{variables_of, clauses_of}
 use Rattle.render.specs.Text.{header_line}
@@ -37,16 +38,16 @@ module _ (s : Keyed) where
   unfolding figures_says
   given_by f e = by (standing_of s) refl e
     where
-      by : (standing : Standing) → standing_of s ≡ standing → on_store standing (done (figures_of s.store)) ≡ done f → Given f
-      by Standing.Ready p q = record { opened = (ready s p).0; formed = (ready s p).1; are = (cc) }
-      by (Standing.Refused r) p q = let z : ◌≡◌ {A = ℕ} 0 1 = cc in absurd (omega arith)
+      by : (standing : Result (Unit {0}) Refusal) → standing_of s ≡ standing → on_store standing (done (figures_of s.store)) ≡ done f → Given f
+      by (Ok u) p q = record { opened = (ready s p).0; formed = (ready s p).1; are = (cc) }
+      by (Err r) p q = let z : ◌≡◌ {A = ℕ} 0 1 = cc in absurd (omega arith)
 
   given_to : (s.store.counts.is_open ≡ true) × (well_formed s ≡ true) → (f : Figures) × (figures_says s ≡ done f)
   unfolding figures_says
   given_to (opened, formed) = (figures_of s.store, rw (ready_of s opened formed))
 
   module _ (opened : s.store.counts.is_open ≡ true) (formed : well_formed s ≡ true) where
-    standing : standing_of s ≡ Standing.Ready
+    standing : standing_of s ≡ Ok tt
     standing = ready_of s opened formed
 
     well : is_formed s.store ≡ true

@@ -1,4 +1,7 @@
 -- Document 02, CR 5: `TheKeys` holds of whatever is lent. Assumes nothing.
+use Rattle.std.proofs.Common.{Result, Ok, Err}
+use Rattle.store.specs.Refusals.{said as told}
+use Rattle.store.specs.declared.refusal.Refusal.{Refusal}
 use mathlib.Core.Path.{◌≡◌, refl}
 use mathlib.Core.List.{List}
 use Prim.Native.Nat.{ℕ}
@@ -13,10 +16,10 @@ use Rattle.keys.proofs.RightLaws.{right-long, right-at, right-all}
 use Rattle.standing.specs.Keyed.{Keyed}
 use Rattle.standing.proofs.StandingLaws.{ready_of, its-form, its-keys, well-formed}
 use Rattle.opening.specs.Opening.{formula_of}
-use Rattle.opening.specs.declared.Opened.{Opened}
+use Rattle.opening.specs.declared.Sizes.{Sizes}
 use Rattle.symmetry.proofs.SetLaws.{same_set-iff}
 use Rattle.symmetry.proofs.KeyLaws.{same_keys}
-use Rattle.calls.specs.Calls.{Dimensions, accepted as yes, taken_back, said_opened, opened_in, open_says, open_store, offer_says, offer_store, withdraw_says, withdraw_store}
+use Rattle.calls.specs.Calls.{Dimensions, accepted as yes, taken_back, opened_in, open_says, open_store, offer_says, offer_store, withdraw_says, withdraw_store}
 use Rattle.demands.specs.Keys.{TheKeys}
 use Rattle.demands.proofs.AfterCalls.{Ending, ending, answered, turned}
 use Rattle.demands.proofs.Acceptance.{store-refused, store-accepted}
@@ -27,9 +30,9 @@ module _ (s : Keyed) where
   unfolding open_says open_store
   opened-keys text sizes said = by (opened_in s text) refl said
     where
-      by : (a : Opened) → opened_in s text ≡ a → said_opened a ≡ done sizes → (open_store s text).keys ≡ overwritten (keys_of (formula_of text)) s.keys
-      by (Opened.Open n m) e q = rw e
-      by (Opened.Refused r) e q = let z : ◌≡◌ {A = ℕ} 0 1 = cc in absurd (omega arith)
+      by : (a : Result Sizes Refusal) → opened_in s text ≡ a → told a ≡ done sizes → (open_store s text).keys ≡ overwritten (keys_of (formula_of text)) s.keys
+      by (Ok o) e q = rw e
+      by (Err r) e q = let z : ◌≡◌ {A = ℕ} 0 1 = cc in absurd (omega arith)
 
   offered-keys : (names values : List ℕ) → Ending (offer_says s names values) → (offer_store s names values).keys ≡ s.keys
   offered-keys names values (turned number place q) = rw (store-refused s names values number place q)

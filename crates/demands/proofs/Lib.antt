@@ -1,4 +1,5 @@
 pub mod ButLast
+pub mod OfferedBy
 pub mod Decided
 pub mod Acceptance
 pub mod Withdrawal

@@ -12,7 +12,7 @@ use Rattle.standing.specs.Keyed.{Keyed}
 use Rattle.standing.proofs.StandingLaws.{ready_of}
 use Rattle.permutation.proofs.RowLaws.{row-length}
 use Rattle.offering.specs.Offering.{row_for}
-use Rattle.offering.proofs.OfferLaws.{not-moving}
+use Rattle.demands.proofs.OfferedBy.{not-moving}
 use Rattle.lexleader.specs.Rows.{pairs_of}
 use Rattle.lexleader.specs.Made.{pair_clauses, row_clauses, auxiliaries, rows_clauses, all_auxiliaries, made, made_variables}
 use Rattle.lexleader.proofs.Remaining.{stays-none}

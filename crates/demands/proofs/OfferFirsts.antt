@@ -1,4 +1,5 @@
 -- The walks of an offer find the first failing word, or clause: 7 to 11; and 31 is by the row that the lines state. Assumes nothing.
+use Rattle.std.proofs.Common.{Option, Some, None, Ok}
 use mathlib.Core.Path.{◌≡◌, refl, sym, ap, ap₂, ◌∙◌}
 use mathlib.Core.Bool.{Bool, true, false, cond, not, ◌&&◌, ◌||◌, or-false}
 use mathlib.Core.List.Memᴰ
@@ -22,8 +23,6 @@ use Rattle.store.proofs.FormLaws.{literal-low, literal-high, literal-within}
 use Rattle.opening.proofs.CodeLaws.{coded}
 use Rattle.permutation.specs.Lines.{is_name, not_number, bad_name_after, bad_value_after, names_on, values_on}
 use Rattle.permutation.specs.Stated.{stated_by, row_stated}
-use Rattle.permutation.specs.declared.Fault.{Fault}
-use Rattle.permutation.specs.declared.Stated.{Stated}
 use Rattle.permutation.proofs.InOrder.{is_value, in_order}
 use Rattle.permutation.proofs.NameLaws.{name-literal, name-sign, is_name_lem, no_name}
 use Rattle.permutation.proofs.Theorem.{each-own-iff}
@@ -35,12 +34,12 @@ use Rattle.demands.specs.Reasons.{AllPass, Reads, IsNumber, Numeric, HasSize, Na
 use Rattle.demands.proofs.Firsts.{Turn, on, stop, Walked, walked}
 
 -- a fault at the place of the word at which the walk stops
-abbrev pub fault_at : List Piece → Piece → List Piece → Fault
-fault_at before w after = Fault.At w.place
+abbrev pub fault_at : List Piece → Piece → List Piece → Option ℕ
+fault_at before w after = Some w.place
 
 -- ---- 7 and 9
 
-abbrev pub number_walk : List Piece → List Piece → Fault
+abbrev pub number_walk : List Piece → List Piece → Option ℕ
 number_walk before words = not_number words
 
 number-turn : (before : List Piece) (w : Piece) (after : List Piece) → AllPass Numeric before → Turn Numeric number_walk fault_at before w after
@@ -140,7 +139,7 @@ module _ (before : List Piece) (numbers : AllNumbers before) (w : Piece) (x : Nu
 name-numbers : (n : ℕ) (words : List Piece) → AllPass (Name n) words → AllNumbers words
 name-numbers n words all y m = let r = split_at m in let h = all r.0 r.1 y r.2 in (h.0, h.1)
 
-abbrev pub name_walk : ℕ → List Piece → List Piece → Fault
+abbrev pub name_walk : ℕ → List Piece → List Piece → Option ℕ
 name_walk n before words = bad_name_after n (seen before) words
 
 name-turn : (n : ℕ) (before : List Piece) (w : Piece) (after : List Piece) → AllPass (Name n) before → Turn (Name n) (name_walk n) fault_at before w after
@@ -197,7 +196,7 @@ module _ (n end : ℕ) (line : List ℕ) (all : AllPass (Name n) (words_at line 
       let h = all r.0 r.1 m.0 r.2 in
       omega (arith, h.3, size_of m.0 h.0 h.1, size_of m.0 m.2 m.3, m.4, no_code w e))
 
-  abbrev pub value_walk : List Piece → List Piece → Fault
+  abbrev pub value_walk : List Piece → List Piece → Option ℕ
   value_walk before words = bad_value_after (names_on line) end (seen before) words
 
   value-turn : (before : List Piece) (w : Piece) (after : List Piece) → AllPass (Value name_words) before → Turn (Value name_words) value_walk fault_at before w after
@@ -225,7 +224,7 @@ module _ (n end : ℕ) (line : List ℕ) (all : AllPass (Name n) (words_at line 
   value-walked words = walked (Value name_words) value_walk fault_at value-turn words
 
   -- the walk's end: too few values, or none missing
-  pub value-end : (words : List Piece) → value_walk words [] ≡ cond (ltb (length words) (length name_words)) (Fault.At end) Fault.Nowhere
+  pub value-end : (words : List Piece) → value_walk words [] ≡ cond (ltb (length words) (length name_words)) (Some end) None
   unfolding bad_value_after names_on
   value-end words = let size : length (seen words) ≡ length words = omega (arith, seen-length [] words) in rw (size, length-map name_words variable)
 
@@ -276,7 +275,7 @@ same_numbers (name ∷ names) (value ∷ values) named numbers e =
 
 -- "every value equals its name" exactly where the row that the lines state moves nothing
 pub idle-iff : (n : ℕ) (names values : List ℕ) → AllPass (Name n) (words_at names 0) → AllPass (Value (words_at names 0)) (words_at values 0)
-    → stated_by n names values ≡ Stated.Permutation → SameNumbers (words_at names 0) (words_at values 0) ↔ (moves_nothing (row_stated n names values) ≡ true)
+    → stated_by n names values ≡ Ok tt → SameNumbers (words_at names 0) (words_at values 0) ↔ (moves_nothing (row_stated n names values) ≡ true)
 unfolding names_on values_on
 idle-iff n names values named valued stated =
     let own = each-own-iff n names values stated in

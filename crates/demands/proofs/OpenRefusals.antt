@@ -1,4 +1,5 @@
 -- Opening refuses by its list of reasons: the lines up to the problem line, then the words after it from the left. Assumes nothing.
+use Rattle.std.proofs.Common.{Option, Result, Some, None, Ok, Err}
 use mathlib.Core.Path.{◌≡◌, refl, sym, ap, ◌∙◌}
 use mathlib.Core.Bool.{Bool, true, false, cond}
 use mathlib.Core.List.{List, [], ◌∷◌, ◌++◌, append_assoc, append-nil}
@@ -13,7 +14,7 @@ use Rattle.dimacs.specs.Words.{Piece}
 use Rattle.dimacs.specs.Lines.{lines_at}
 use Rattle.dimacs.specs.Numbers.{Numeral, numeral_of}
 use Rattle.dimacs.specs.declared.Number.{Number}
-use Rattle.store.specs.Refusals.{Said, said_refused}
+use Rattle.store.specs.Refusals.{Said, said_refused, said}
 use Rattle.store.specs.Stores.{max_variables, max_clauses, max_literals}
 use Rattle.standing.specs.Keyed.{Keyed}
 use Rattle.store.specs.declared.refusal.Refusal.{Refusal}
@@ -22,11 +23,9 @@ use Rattle.opening.specs.Problem.{sizes_of, within_limits, problem_in, problem_o
 use Rattle.opening.specs.Clauses.{scan_from}
 use Rattle.opening.specs.Opening.{body_of, opened_if, opened_by}
 use Rattle.opening.specs.declared.Sizes.{Sizes}
-use Rattle.opening.specs.declared.Problem.{Problem}
-use Rattle.opening.specs.declared.Scanned.{Scanned}
 use Rattle.opening.proofs.ProblemLaws.{many-variables, many-clauses, within}
 use Rattle.opening.proofs.ScanLaws.{scan-extra, scan-word, scan-close, scan-beyond, scan-many, scan-literal}
-use Rattle.calls.specs.Calls.{Dimensions, said_opened, open_says}
+use Rattle.calls.specs.Calls.{Dimensions, open_says}
 use Rattle.demands.specs.Reasons.{Reason, AllPass, FirstFailing, Comment, no_problem_line, size_over_limit, Reads, not_number, literal_beyond}
 use Rattle.demands.specs.Reasons.{count_of, is_zero, is_nonzero, closed_by, literals_by, too_many_literals, too_short, word_reasons, end_reasons, body_reasons, open_reasons}
 use Rattle.demands.proofs.Firsts.{never_both, one-first, Turn, on, stop, Walked, found, none, walked}
@@ -55,8 +54,8 @@ module _ (before : List Piece) (w : Piece) (x : Number) (reads : Reads w x) wher
 
 -- what is said of the words of a text of a length, after a problem line of n and m, where there is room for so many literals, ends and keys
 module _ (end n m literals ends keys : ℕ) (all : List Piece) where
-  abbrev judged : Scanned → Said Dimensions
-  judged scanned = said_opened (opened_if scanned n m literals ends keys)
+  abbrev judged : Result ℕ Refusal → Said Dimensions
+  judged scanned = said (opened_if scanned (record { variables = n; clauses = m }) literals ends keys)
 
   abbrev last : List Reason
   last = end_reasons m all end literals ends keys
@@ -68,7 +67,7 @@ module _ (end n m literals ends keys : ℕ) (all : List Piece) where
       (λ t. (omega (arith, eqb-false (closed_by all) m t), rw t))
       (λ t. (λ k. omega (arith, eqb-true (closed_by all) m t), same-said (rw t) fits))
     where
-      fits : Exact (too_short (literals_by all) literals ∷ too_short m ends ∷ too_short m keys ∷ []) (judged (Scanned.Done (literals_by all)))
+      fits : Exact (too_short (literals_by all) literals ∷ too_short m ends ∷ too_short m keys ∷ []) (judged (Ok (literals_by all)))
       fits =
           where-false (leb (literals_by all) literals)
           (λ t. (leb-false (literals_by all) literals t, rw t))
@@ -182,11 +181,11 @@ module _ (s : Keyed) (text : List ℕ) where
   abbrev body : List Reason
   body = body_reasons (problem_of text) text room-literals room-ends room-keys
 
-  refused-head : (r : Refusal) → problem_of text ≡ Problem.Refused r → open_says s text ≡ said_refused r
+  refused-head : (r : Refusal) → problem_of text ≡ Err r → open_says s text ≡ said_refused r
   unfolding open_says opened_by
   refused-head r e = rw e
 
-  body-exact : (n m end : ℕ) → problem_of text ≡ Problem.Line n m end → Exact body (open_says s text)
+  body-exact : (n m end : ℕ) → problem_of text ≡ Ok (record { sizes = record { variables = n; clauses = m }; end = end }) → Exact body (open_says s text)
   unfolding open_says opened_by count_of
   body-exact n m end e = rw e (scan-exact (length text) n m room-literals room-ends room-keys (body_of text) [] (body_of text) refl (omega arith))
 
@@ -201,48 +200,52 @@ module _ (s : Keyed) (text : List ℕ) where
     same-sizes : (g : FirstFailing Comment (lines_at text 0)) → sizes_of g.it.bytes ≡ sizes_of f.it.bytes
     same-sizes g = ap (λ (line : Piece). sizes_of line.bytes) (one-first Comment g f).1
 
-    module _ (n m : ℕ) (sizes : sizes_of f.it.bytes ≡ Sizes.Are n m) where
+    module _ (n m : ℕ) (sizes : sizes_of f.it.bytes ≡ Some (record { variables = n; clauses = m })) where
       abbrev place : ℕ
       place = f.it.place
 
       abbrev end : ℕ
       end = f.it.place + length f.it.bytes
 
-      limits : problem_of text ≡ within_limits (Sizes.Are n m) place end
+      abbrev of_line : Sizes
+      of_line = record { variables = n; clauses = m }
+
+      limits : problem_of text ≡ within_limits (Some of_line) place end
       limits = here ∙ rw sizes
 
-      over : (max_variables < n) ⊎ (max_clauses < m) → problem_of text ≡ Problem.Refused (Refusal.SizeOverLimit place) → Exact (size_over_limit text ∷ body) (open_says s text)
+      over : (max_variables < n) ⊎ (max_clauses < m) → problem_of text ≡ Err (Refusal.SizeOverLimit place) → Exact (size_over_limit text ∷ body) (open_says s text)
       over h e =
           refuses (size_over_limit text) place (f, n, m, sizes, h, refl) (λ p k. k.5 ∙ same_place k.0) (refused-head (Refusal.SizeOverLimit place) e)
 
       size_exact : Exact (size_over_limit text ∷ body) (open_says s text)
       size_exact =
           ⊎_elim
-          (λ h. over (inl h) (limits ∙ many-variables n m place end h))
+          (λ h. over (inl h) (limits ∙ many-variables of_line place end h))
           (λ h. ⊎_elim
-          (λ k. over (inr k) (limits ∙ many-clauses n m place end h k))
-          (λ k. goes_on (size_over_limit text) (λ p o. none_over o h k) (body-exact n m end (limits ∙ within n m place end h k)))
+          (λ k. over (inr k) (limits ∙ many-clauses of_line place end h k))
+          (λ k. goes_on (size_over_limit text) (λ p o. none_over o h k) (body-exact n m end (limits ∙ within of_line place end h k)))
           (lt-or-le max_clauses m))
           (lt-or-le max_variables n)
         where
           none_over : {p : ℕ} → (size_over_limit text).at p → n ≤ max_variables → m ≤ max_clauses → ⊥
           none_over o h k =
-              let q : ◌≡◌ {A = Sizes} (Sizes.Are o.1 o.2) (Sizes.Are n m) = sym o.3 ∙ same-sizes o.0 ∙ sizes in
-              let same-n : o.1 ≡ n = cc in
-              let same-m : o.2 ≡ m = cc in
+              let q : ◌≡◌ {A = Option Sizes} (Some (record { variables = o.1; clauses = o.2 })) (Some of_line) = sym o.3 ∙ same-sizes o.0 ∙ sizes in
+              let same : ◌≡◌ {A = Sizes} (record { variables = o.1; clauses = o.2 }) of_line = cc in
+              let same-n : o.1 ≡ n = ap (λ (z : Sizes). z.variables) same in
+              let same-m : o.2 ≡ m = ap (λ (z : Sizes). z.clauses) same in
               ⊎_elim (λ big. omega arith) (λ big. omega arith) o.4
 
-    line-exact : (sizes : Sizes) → sizes_of f.it.bytes ≡ sizes → Exact (open_reasons s text) (open_says s text)
-    line-exact Sizes.Not e =
+    line-exact : (sizes : Option Sizes) → sizes_of f.it.bytes ≡ sizes → Exact (open_reasons s text) (open_says s text)
+    line-exact None e =
         refuses (no_problem_line text) f.it.place (inl (f, e, refl))
         (λ p. ⊎_elim (λ h. h.2 ∙ same_place h.0) (λ h. absurd (never_both Comment h.0 f)))
         (refused-head (Refusal.NoProblemLine f.it.place) (here ∙ rw e))
-    line-exact (Sizes.Are n m) e =
+    line-exact (Some o) e =
         goes_on (no_problem_line text)
         (λ p. ⊎_elim
-        (λ h. let q : ◌≡◌ {A = Sizes} Sizes.Not (Sizes.Are n m) = sym h.1 ∙ same-sizes h.0 ∙ e in let z : ◌≡◌ {A = ℕ} 0 1 = cc in omega arith)
+        (λ h. let q : ◌≡◌ {A = Option Sizes} None (Some o) = sym h.1 ∙ same-sizes h.0 ∙ e in let z : ◌≡◌ {A = ℕ} 0 1 = cc in omega arith)
         (λ h. never_both Comment h.0 f))
-        (size_exact n m e)
+        (size_exact o.variables o.clauses e)
 
   -- no line but comments
   comments-exact : AllPass Comment (lines_at text 0) → after_comments (lines_at text 0) ≡ [] → Exact (open_reasons s text) (open_says s text)

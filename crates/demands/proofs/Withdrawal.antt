@@ -1,4 +1,6 @@
 -- A withdrawal that is not refused: a row is held, the newest, and it is dropped with its clauses and auxiliaries. Assumes nothing.
+use Rattle.std.proofs.Common.{Result, Ok, Err}
+use Rattle.store.specs.declared.refusal.Refusal.{Refusal}
 use mathlib.Core.Path.{◌≡◌, refl, ap, ◌∙◌}
 use mathlib.Core.Bool.{Bool, true, false, cond}
 use mathlib.Core.List.{List, [], ◌∷◌, ◌++◌}
@@ -10,7 +12,6 @@ use lib.Dec.{eqb}
 use Rattle.store.specs.Refusals.{done, refused}
 use Rattle.store.specs.Stores.{plain_of, held_rows, without_row}
 use Rattle.standing.specs.Keyed.{Keyed, with_keys, standing_of}
-use Rattle.standing.specs.declared.Standing.{Standing}
 use Rattle.store.proofs.RowChanges.{held-count, without-row-held}
 use Rattle.lexleader.specs.Made.{made, made_variables}
 use Rattle.lexleader.specs.Store.{made_of, variables_of}
@@ -34,11 +35,11 @@ module _ (s : Keyed) where
     unfolding withdraw_says
     some-held = by (standing_of s) (eqb s.store.counts.rows 0) refl said
       where
-        by : (standing : Standing) (none : Bool) → eqb s.store.counts.rows 0 ≡ none → on_store standing (cond none (refused 30 0) (done taken_back)) ≡ done taken_back
+        by : (standing : Result (Unit {0}) Refusal) (none : Bool) → eqb s.store.counts.rows 0 ≡ none → on_store standing (cond none (refused 30 0) (done taken_back)) ≡ done taken_back
             → s.store.counts.rows ≡ 0 → ⊥
-        by Standing.Ready true q e = let z : ◌≡◌ {A = ℕ} 0 1 = cc in absurd (omega arith)
-        by Standing.Ready false q e = eqb-false s.store.counts.rows 0 q
-        by (Standing.Refused r) none q e = let z : ◌≡◌ {A = ℕ} 0 1 = cc in absurd (omega arith)
+        by (Ok u) true q e = let z : ◌≡◌ {A = ℕ} 0 1 = cc in absurd (omega arith)
+        by (Ok u) false q e = eqb-false s.store.counts.rows 0 q
+        by (Err r) none q e = let z : ◌≡◌ {A = ℕ} 0 1 = cc in absurd (omega arith)
 
     pub withdrawn-held : held_rows (withdraw_store s).store ≡ but_last (held_rows s.store)
     withdrawn-held = ap (λ (t : Keyed). held_rows t.store) withdrawn-row ∙ without-row-held s.store

@@ -1,6 +1,6 @@
 -- Demand 2 of the brief, sentence by sentence: which offers are accepted, what is then held, and which text the calls write. `demand-2`
 -- (proofs/Demand2.antt) says that it holds for every store. Assumes nothing.
-use Rattle.std.specs.Prelude.{◌≡◌, true, false, ◌↔◌, ℕ, zero, suc, ◌+◌, ◌-◌, ◌*◌, ◌≤◌, ◌<◌, List, [], ◌∷◌, ◌++◌, length, get_or, take}
+use Rattle.std.specs.Prelude.{◌≡◌, Ok, true, false, ◌↔◌, ℕ, zero, suc, ◌+◌, ◌-◌, ◌*◌, ◌≤◌, ◌<◌, List, [], ◌∷◌, ◌++◌, length, get_or, take}
 use Rattle.lists.specs.Tests.{has}
 use Rattle.store.specs.Refusals.{Said, done, refused}
 use Rattle.store.specs.Stores.{plain_of, held_rows, max_rows}
@@ -8,7 +8,6 @@ use Rattle.store.specs.Identity.{MovesSomething}
 use Rattle.standing.specs.Keyed.{Keyed, well_formed}
 use Rattle.permutation.specs.Lines.{names_on, values_on}
 use Rattle.permutation.specs.Stated.{stated_by}
-use Rattle.permutation.specs.declared.Stated.{Stated}
 use Rattle.symmetry.specs.Symmetry.{IsSymmetry}
 use Rattle.offering.specs.Offering.{row_for, images_needed}
 use Rattle.lexleader.specs.Made.{rows_clauses}
@@ -28,7 +27,7 @@ module _ (s : Keyed) where
     pub opened : s.store.counts.is_open ≡ true
     pub formed : well_formed s ≡ true
     pub not_full : s.store.counts.rows < max_rows
-    pub stated : stated_by s.store.counts.variables names values ≡ Stated.Permutation
+    pub stated : stated_by s.store.counts.variables names values ≡ Ok tt
 
   -- "the input rules and limits permitting": these, and there is room
   pub record Permitted (names values : List ℕ) : Type 0 where

@@ -3,7 +3,7 @@
 use Rattle.std.specs.Prelude.{◌≡◌, true, cond, List, [], ◌↔◌, ℕ, ◌%◌, ◌≤◌, ◌<◌, length, get_or, eqb}
 use Rattle.lists.specs.Tests.{all_of}
 use Rattle.lists.specs.Writing.{overwritten}
-use Rattle.store.specs.Refusals.{done, refused}
+use Rattle.store.specs.Refusals.{done, refused, said}
 use Rattle.store.specs.Literals.{is_literal}
 use Rattle.store.specs.Stores.{plain_of, is_formed, max_variables, max_rows}
 use Rattle.numbers.specs.Numbers.{numbers, count_range, WellChosen}
@@ -12,7 +12,7 @@ use Rattle.standing.specs.Keyed.{Keyed, well_formed}
 use Rattle.opening.specs.Opening.{formula_of}
 use Rattle.symmetry.specs.Sets.{SameSet}
 use Rattle.offering.specs.Offering.{offered_by}
-use Rattle.calls.specs.Calls.{Dimensions, open_says, open_store, said_offered, offer_says, offer_store, withdraw_store}
+use Rattle.calls.specs.Calls.{Dimensions, open_says, open_store, offer_says, offer_store, withdraw_store}
 
 module _ (s : Keyed) where
   -- each clause has a key, and it is its own
@@ -35,4 +35,4 @@ module _ (s : Keyed) where
     pub form : (well_formed s ≡ true) ↔ ((is_formed s.store ≡ true) × EachRight)
     -- "No permutation is decided otherwise than before, even where two clauses share a key": once the store stands, what is said of an offer knows no keys
     pub decides : s.store.counts.is_open ≡ true → well_formed s ≡ true → (names values : List ℕ)
-        → offer_says s names values ≡ cond (eqb s.store.counts.rows max_rows) (refused 22 0) (said_offered (offered_by s.store names values))
+        → offer_says s names values ≡ cond (eqb s.store.counts.rows max_rows) (refused 22 0) (said (offered_by s.store names values))

@@ -1,7 +1,7 @@
 -- The documented reasons to refuse (document 01, "Turned back by what was lent", "Turned back by the store"; document 02): first each sentence by its number, with the
 -- place that it names, then for each call the list of its reasons in the order in which they count. They have the names of `Refusal`'s cases. `demand-1`
 -- (proofs/Demand1.antt) says that a call refuses exactly where a reason of its list holds and comes first. Assumes nothing.
-use Rattle.std.specs.Prelude.{◌≡◌, Bool, true, false, cond, not, ◌⊎◌, ℕ, ◌+◌, ◌≤◌, ◌<◌, length, eqb}
+use Rattle.std.specs.Prelude.{◌≡◌, Result, Some, None, Ok, Err, Bool, true, false, cond, not, ◌⊎◌, ℕ, ◌+◌, ◌≤◌, ◌<◌, length, eqb}
 use mathlib.Core.List.{List, [], ◌∷◌, ◌++◌, Memᴰ}
 use Rattle.dimacs.specs.Words.{Piece, words_at}
 use Rattle.dimacs.specs.Lines.{lines_at}
@@ -12,9 +12,9 @@ use Rattle.packed.specs.Words.{max_words, word_count, is_assignment}
 use Rattle.quality.specs.Efficiency.{max_labelled}
 use Rattle.store.specs.Stores.{Store, plain_of, max_variables, max_clauses, max_literals, max_rows}
 use Rattle.standing.specs.Keyed.{Keyed, well_formed}
+use Rattle.store.specs.declared.refusal.Refusal.{Refusal}
 use Rattle.opening.specs.Problem.{sizes_of, problem_of}
 use Rattle.opening.specs.Opening.{body_of}
-use Rattle.opening.specs.declared.Sizes.{Sizes}
 use Rattle.opening.specs.declared.Problem.{Problem}
 use Rattle.symmetry.specs.Sets.{Among}
 use Rattle.symmetry.specs.Judged.{has_opposites, judged}
@@ -59,7 +59,7 @@ Comment before line = is_comment line ≡ true
 abbrev pub no_problem_line : List ℕ → Reason
 no_problem_line text = record {
   number = 1;
-  at = λ p. ((f : FirstFailing Comment (lines_at text 0)) × (sizes_of f.it.bytes ≡ Sizes.Not) × (p ≡ f.it.place))
+  at = λ p. ((f : FirstFailing Comment (lines_at text 0)) × (sizes_of f.it.bytes ≡ None) × (p ≡ f.it.place))
       ⊎ (AllPass Comment (lines_at text 0) × (p ≡ length text));
 }
 
@@ -67,7 +67,7 @@ no_problem_line text = record {
 abbrev pub size_over_limit : List ℕ → Reason
 size_over_limit text = record {
   number = 2;
-  at = λ p. (f : FirstFailing Comment (lines_at text 0)) × (n : ℕ) × (m : ℕ) × (sizes_of f.it.bytes ≡ Sizes.Are n m)
+  at = λ p. (f : FirstFailing Comment (lines_at text 0)) × (n : ℕ) × (m : ℕ) × (sizes_of f.it.bytes ≡ Some (record { variables = n; clauses = m }))
       × ((max_variables < n) ⊎ (max_clauses < m)) × (p ≡ f.it.place);
 }
 
@@ -228,9 +228,10 @@ end_reasons m words end literals ends keys = clause_missing m words end ∷ too_
 
 -- what comes after a problem line of n and m that ends there: n, m and the end are those of the first line that is no comment (`problem-line`,
 -- proofs/OpenRefusals.antt), and where there are none, 1 or 2 holds
-abbrev pub body_reasons : Problem → List ℕ → ℕ → ℕ → ℕ → List Reason
-body_reasons (Problem.Line n m end) text literals ends keys = word_reasons n m [] (body_of text) ++ end_reasons m (body_of text) (length text) literals ends keys
-body_reasons (Problem.Refused r) text literals ends keys = []
+abbrev pub body_reasons : Result Problem Refusal → List ℕ → ℕ → ℕ → ℕ → List Reason
+body_reasons (Ok p) text literals ends keys =
+    word_reasons p.sizes.variables p.sizes.clauses [] (body_of text) ++ end_reasons p.sizes.clauses (body_of text) (length text) literals ends keys
+body_reasons (Err r) text literals ends keys = []
 
 abbrev pub open_reasons : Keyed → List ℕ → List Reason
 open_reasons s text =

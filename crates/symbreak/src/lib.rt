@@ -1,23 +1,18 @@
 // The calls for C (include/symbreak.h): numbers and slices in, structs of numbers out. A slice passes as a pointer and a length.
 #![tactic(auto)]
 
-ghost use Rattle.std.specs.Prelude.{◌≡◌, cond, [], length};
-ghost use Rattle.store.specs.Refusals.{done, number_of, place_of, said};
+ghost use Rattle.std.specs.Prelude.{◌≡◌, [], length};
+ghost use Rattle.store.specs.Refusals.{said};
 ghost use Rattle.store.specs.Stores.{lent, closed_record};
 ghost use Rattle.standing.specs.Keyed.{keyed, with_keys};
-ghost use Rattle.checking.specs.Checking.{verdict_of};
-ghost use Rattle.descent.specs.Words.{outcome_of};
 ghost use Rattle.calls.specs.Calls.{open_says, open_store, offer_says, offer_store, withdraw_says, withdraw_store};
 ghost use Rattle.calls.specs.Calls.{figures_says, header_says, header_leaves, clause_says, clause_leaves};
-ghost use Rattle.calls.specs.Calls.{fill_says, fill_leaves, check_says, descend_says, descend_leaves, compare_says, efficiency_says};
-ghost use Rattle.symbreak.specs.Exports.{record_of, c_record, c_answer, c_checked, c_figures, c_descent, c_stored, c_stored_at};
+ghost use Rattle.calls.specs.Calls.{fill_says, fill_leaves, said_finding, check_says, said_descent, descend_says, descend_leaves, compare_says, efficiency_says};
+ghost use Rattle.symbreak.specs.Exports.{record_of, c_record, c_answer, c_checked, c_figures, c_descent, c_stored};
 
-use calls::{Descent, Finding, Measured, Withdrawn};
-use checking::Checked;
+use calls::Stored;
 use descent::Descended;
-use offering::Offered;
-use opening::Opened;
-use store::answer::Answer;
+use measure::Figures;
 use store::record::Record;
 use store::refusal::Refusal;
 
@@ -73,7 +68,7 @@ pub struct CDescent {
 pub extern "C" fn symbreak_new_record() -> CRecord
     ensures { result ≡ c_record closed_record }
 {
-    c_record(calls::new_record())
+    CRecord::from(calls::new_record())
 }
 
 #[unsafe(no_mangle)]
@@ -97,13 +92,7 @@ pub extern "C" fn symbreak_open(
         keys.new ≡ (open_store s text.now).keys }
 {
     let counts = record_of(variables, clauses, rows, flag);
-    let r = calls::open(counts, text, literals, ends, keys);
-    let answer = r.answer;
-    let after = r.counts;
-    match answer {
-        Opened::Open(_, _) => stored_at(0, 0, after),
-        Opened::Refused(refusal) => stored_refused(refusal, after),
-    }
+    CStored::from(calls::open(counts, text, literals, ends, keys))
 }
 
 #[unsafe(no_mangle)]
@@ -126,13 +115,8 @@ pub extern "C" fn symbreak_offer(
         images.new ≡ (offer_store s names.now values.now).store.images }
 {
     let counts = record_of(variables, clauses, rows, flag);
-    let r = calls::offer(counts, literals, ends, keys, images, names, values);
-    let answer = r.answer;
-    let after = r.counts;
-    match answer {
-        Offered::Accepted => stored_at(0, 0, after),
-        Offered::Refused(refusal) => stored_refused(refusal, after),
-    }
+    let stored = calls::offer(counts, literals, ends, keys, images, names, values);
+    CStored::from(stored)
 }
 
 #[unsafe(no_mangle)]
@@ -150,13 +134,7 @@ pub extern "C" fn symbreak_withdraw(
         result ≡ c_stored (withdraw_says s) (withdraw_store s).store.counts }
 {
     let counts = record_of(variables, clauses, rows, flag);
-    let r = calls::withdraw(counts, literals, ends, keys, images);
-    let answer = r.answer;
-    let after = r.counts;
-    match answer {
-        Withdrawn::TakenBack => stored_at(0, 0, after),
-        Withdrawn::Refused(refusal) => stored_refused(refusal, after),
-    }
+    CStored::from(calls::withdraw(counts, literals, ends, keys, images))
 }
 
 #[unsafe(no_mangle)]
@@ -174,17 +152,7 @@ pub extern "C" fn symbreak_figures(
         result ≡ c_figures (figures_says s) }
 {
     let counts = record_of(variables, clauses, rows, flag);
-    match calls::figures(counts, literals, ends, keys, images) {
-        Measured::Figures(figures) => c_figures(figures),
-        Measured::Refused(r) => CFigures {
-            refusal: r.number(),
-            place: r.place() as u64,
-            variables: 0,
-            clauses: 0,
-            literals: 0,
-            bytes: 0,
-        },
-    }
+    CFigures::from(calls::figures(counts, literals, ends, keys, images))
 }
 
 #[unsafe(no_mangle)]
@@ -205,7 +173,7 @@ pub extern "C" fn symbreak_header(
         out.new ≡ header_leaves s out.old }
 {
     let counts = record_of(variables, clauses, rows, flag);
-    c_answer(calls::header(counts, literals, ends, keys, images, out))
+    CAnswer::from(calls::header(counts, literals, ends, keys, images, out))
 }
 
 #[unsafe(no_mangle)]
@@ -227,7 +195,7 @@ pub extern "C" fn symbreak_clause(
         out.new ≡ clause_leaves s q out.old }
 {
     let counts = record_of(variables, clauses, rows, flag);
-    c_answer(calls::clause(counts, literals, ends, keys, images, q as usize, out))
+    CAnswer::from(calls::clause(counts, literals, ends, keys, images, q as usize, out))
 }
 
 #[unsafe(no_mangle)]
@@ -249,7 +217,7 @@ pub extern "C" fn symbreak_fill_in(
         out.new ≡ fill_leaves s a.now out.old }
 {
     let counts = record_of(variables, clauses, rows, flag);
-    c_answer(calls::fill_in(counts, literals, ends, keys, images, a, out))
+    CAnswer::from(calls::fill_in(counts, literals, ends, keys, images, a, out))
 }
 
 #[unsafe(no_mangle)]
@@ -268,10 +236,7 @@ pub extern "C" fn symbreak_check(
         result ≡ c_checked (check_says s a.now) }
 {
     let counts = record_of(variables, clauses, rows, flag);
-    match calls::check(counts, literals, ends, keys, images, a) {
-        Finding::Found(found) => c_checked(found),
-        Finding::Refused(r) => c_answer(Answer::Refused(r)),
-    }
+    CAnswer::from(calls::check(counts, literals, ends, keys, images, a))
 }
 
 #[unsafe(no_mangle)]
@@ -293,99 +258,21 @@ pub extern "C" fn symbreak_descend(
         a.new ≡ descend_leaves s a.old limit }
 {
     let counts = record_of(variables, clauses, rows, flag);
-    match calls::descend(counts, literals, ends, keys, images, a, limit) {
-        Descent::Ended(ending) => c_descent(ending),
-        Descent::Refused(r) => CDescent {
-            refusal: r.number(),
-            place: r.place() as u64,
-            settled: 0,
-            moves: 0,
-        },
-    }
+    CDescent::from(calls::descend(counts, literals, ends, keys, images, a, limit))
 }
 
 #[unsafe(no_mangle)]
 pub extern "C" fn symbreak_compare(a: &[u64], b: &[u64]) -> CAnswer
     ensures { result ≡ c_answer (compare_says a.now b.now) }
 {
-    c_answer(calls::compare(a, b))
+    CAnswer::from(calls::compare(a, b))
 }
 
 #[unsafe(no_mangle)]
 pub extern "C" fn symbreak_efficiency(labelled: u64, unlabelled: u64, allowed: u64) -> CAnswer
     ensures { result ≡ c_answer (efficiency_says labelled unlabelled allowed) }
 {
-    c_answer(calls::efficiency(labelled, unlabelled, allowed))
-}
-
-// An answer with one value, as numbers.
-fn c_answer(answer: Answer) -> CAnswer
-    ensures { result ≡ c_answer (said answer) }
-{
-    match answer {
-        Answer::Value(value) => CAnswer {
-            refusal: 0,
-            place: 0,
-            value: value,
-        },
-        Answer::Refused(r) => CAnswer {
-            refusal: r.number(),
-            place: r.place() as u64,
-            value: 0,
-        },
-    }
-}
-
-fn c_record(r: Record) -> CRecord
-    ensures { result ≡ c_record r }
-{
-    CRecord {
-        variables: r.variables as u64,
-        clauses: r.clauses as u64,
-        rows: r.rows as u64,
-        is_open: flag(r.is_open),
-    }
-}
-
-fn c_checked(found: Checked) -> CAnswer
-    ensures { result ≡ c_checked (done (verdict_of found)) }
-{
-    match found {
-        Checked::Satisfied => c_answer(Answer::Value(0)),
-        Checked::Falsified(clause) => c_answer(Answer::Value(clause as u64)),
-    }
-}
-
-fn c_figures(figures: measure::Figures) -> CFigures
-    ensures { result ≡ c_figures (done figures) }
-{
-    CFigures {
-        refusal: 0,
-        place: 0,
-        variables: figures.variables as u64,
-        clauses: figures.clauses as u64,
-        literals: figures.literals as u64,
-        bytes: figures.bytes as u64,
-    }
-}
-
-fn c_descent(ending: Descended) -> CDescent
-    ensures { result ≡ c_descent (done (outcome_of ending)) }
-{
-    match ending {
-        Descended::Settled(moves) => CDescent {
-            refusal: 0,
-            place: 0,
-            settled: 1,
-            moves: moves,
-        },
-        Descended::Spent(moves) => CDescent {
-            refusal: 0,
-            place: 0,
-            settled: 0,
-            moves: moves,
-        },
-    }
+    CAnswer::from(calls::efficiency(labelled, unlabelled, allowed))
 }
 
 fn record_of(variables: u64, clauses: u64, rows: u64, flag: u64) -> Record
@@ -399,27 +286,117 @@ fn record_of(variables: u64, clauses: u64, rows: u64, flag: u64) -> Record
     }
 }
 
-fn stored_at(refusal: u32, place: u64, r: Record) -> CStored
-    ensures { result ≡ c_stored_at refusal place r }
-{
-    CStored {
-        refusal: refusal,
-        place: place,
-        variables: r.variables as u64,
-        clauses: r.clauses as u64,
-        rows: r.rows as u64,
-        is_open: flag(r.is_open),
+impl From<Record> for CRecord {
+    ghost from_gives = { λ r c. c ≡ c_record r };
+
+    fn from(r: Record) -> CRecord {
+        CRecord {
+            variables: r.variables as u64,
+            clauses: r.clauses as u64,
+            rows: r.rows as u64,
+            is_open: r.is_open as u64,
+        }
     }
 }
 
-fn stored_refused(refusal: Refusal, r: Record) -> CStored
-    ensures { result ≡ c_stored_at (number_of refusal) (place_of refusal) r }
-{
-    stored_at(refusal.number(), refusal.place() as u64, r)
+// What changes the record, beside it.
+impl<T: Copy> From<Stored<T>> for CStored {
+    ghost from_gives = { λ r c. c ≡ c_stored (said r.answer) r.counts };
+
+    fn from(stored: Stored<T>) -> CStored {
+        let r = stored.counts;
+        let (refusal, place) = match stored.answer {
+            Ok(_) => (0, 0),
+            Err(refusal) => (refusal.number(), refusal.place() as u64),
+        };
+        CStored {
+            refusal,
+            place,
+            variables: r.variables as u64,
+            clauses: r.clauses as u64,
+            rows: r.rows as u64,
+            is_open: r.is_open as u64,
+        }
+    }
 }
 
-fn flag(b: bool) -> u64
-    ensures { result ≡ cond b 1 0 }
-{
-    if b { 1 } else { 0 }
+impl From<Result<Figures, Refusal>> for CFigures {
+    ghost from_gives = { λ r c. c ≡ c_figures (said r) };
+
+    fn from(answer: Result<Figures, Refusal>) -> CFigures {
+        match answer {
+            Ok(figures) => CFigures {
+                refusal: 0,
+                place: 0,
+                variables: figures.variables as u64,
+                clauses: figures.clauses as u64,
+                literals: figures.literals as u64,
+                bytes: figures.bytes as u64,
+            },
+            Err(refusal) => CFigures {
+                refusal: refusal.number(),
+                place: refusal.place() as u64,
+                variables: 0,
+                clauses: 0,
+                literals: 0,
+                bytes: 0,
+            },
+        }
+    }
+}
+
+// An answer with one value.
+impl From<Result<u64, Refusal>> for CAnswer {
+    ghost from_gives = { λ r c. c ≡ c_answer (said r) };
+
+    fn from(answer: Result<u64, Refusal>) -> CAnswer {
+        match answer {
+            Ok(value) => CAnswer {
+                refusal: 0,
+                place: 0,
+                value,
+            },
+            Err(refusal) => CAnswer {
+                refusal: refusal.number(),
+                place: refusal.place() as u64,
+                value: 0,
+            },
+        }
+    }
+}
+
+// What a check finds: the first false clause, or 0 for yes.
+impl From<Result<Option<usize>, Refusal>> for CAnswer {
+    ghost from_gives = { λ r c. c ≡ c_checked (said_finding r) };
+
+    fn from(answer: Result<Option<usize>, Refusal>) -> CAnswer {
+        CAnswer::from(answer.map(|found| found.map_or(0, |clause| clause as u64)))
+    }
+}
+
+impl From<Result<Descended, Refusal>> for CDescent {
+    ghost from_gives = { λ r c. c ≡ c_descent (said_descent r) };
+
+    fn from(answer: Result<Descended, Refusal>) -> CDescent {
+        match answer {
+            Ok(Descended::Settled(moves)) => CDescent {
+                refusal: 0,
+                place: 0,
+                settled: 1,
+                moves,
+            },
+            Ok(Descended::Spent(moves)) => CDescent {
+                refusal: 0,
+                place: 0,
+                settled: 0,
+                moves,
+            },
+            Err(refusal) => CDescent {
+                refusal: refusal.number(),
+                place: refusal.place() as u64,
+                settled: 0,
+                moves: 0,
+            },
+        }
+    }
 }

@@ -16,7 +16,7 @@ module _ (s : Keyed) (names values : List ℕ) where
   unfolding offer_says
   unready refusal e = rw e
 
-  module _ (ready : standing_of s ≡ Ok tt) where
+  module _ (ready : standing_of s ≡ Ok s.store) where
     pub full : s.store.counts.rows ≡ max_rows → offer_says s names values ≡ refused 22 0
     unfolding offer_says
     full e = rw (ready, eq-eqb s.store.counts.rows max_rows e)

@@ -4,7 +4,7 @@ use Rattle.packed.specs.Words.{max_words, bits_of, word_count, is_assignment}
 use Rattle.packed.specs.Order.{all_bits, first_difference}
 use Rattle.quality.specs.Efficiency.{has_efficiency, efficiency_of}
 use Rattle.store.specs.Refusals.{Said, done, refused, said_refused, said, unless_refused, buffer_left}
-use Rattle.store.specs.Stores.{lent, with_row, without_row, held_rows, max_rows}
+use Rattle.store.specs.Stores.{Store, lent, with_row, without_row, held_rows, max_rows}
 use Rattle.store.specs.declared.record.Record.{Record}
 use Rattle.store.specs.declared.refusal.Refusal.{Refusal}
 use Rattle.keys.specs.Keys.{keys_of}
@@ -24,8 +24,8 @@ use Rattle.descent.specs.Words.{Outcome, answer_of, outcome_of, descended}
 use Rattle.descent.specs.declared.Descended.{Descended}
 
 -- what a call that needs an open store says: 20 and 21 come first
-abbrev pub on_store : {Values : Type 0} → Result (Unit {0}) Refusal → Said Values → Said Values
-on_store (Ok ready) said = said
+abbrev pub on_store : {Values : Type 0} → Result Store Refusal → Said Values → Said Values
+on_store (Ok store) said = said
 on_store (Err r) said = said_refused r
 
 -- what a result says, its values in the documents' terms

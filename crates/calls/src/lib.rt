@@ -5,7 +5,7 @@
 ghost use Rattle.std.specs.Prelude.{◌≡◌, [], length};
 ghost use Rattle.store.specs.Refusals.{said};
 ghost use Rattle.store.specs.Stores.{lent, closed_record};
-ghost use Rattle.standing.specs.Keyed.{keyed, with_keys};
+ghost use Rattle.standing.specs.Keyed.{with_keys};
 ghost use Rattle.packed.specs.Order.{part, lesser_of};
 ghost use Rattle.calls.specs.Calls.{open_says, open_store, offer_says, offer_store};
 ghost use Rattle.calls.specs.Calls.{withdraw_says, withdraw_store};
@@ -17,6 +17,7 @@ ghost use Rattle.calls.specs.Stored.{stored_by};
 use descent::Descended;
 use measure::Figures;
 use opening::Sizes;
+use standing::Lent;
 use store::record::Record;
 use store::refusal::Refusal;
 
@@ -103,7 +104,14 @@ fn one_row_more(
         with_keys (lent (stored_by result counts).counts literals.now ends.now images.new) keys.now ≡ offer_store s names.now values.now }
 {
     let table = numbers::numbers();
-    standing::admit_by(counts, literals, ends, keys, images, &table)?;
+    let s = Lent {
+        counts,
+        literals,
+        ends,
+        keys,
+        images,
+    };
+    standing::admit_by(&s, &table)?;
     if counts.rows == Record::MAX_ROWS {
         return Err(Refusal::RowsFull);
     }
@@ -115,37 +123,22 @@ fn one_row_more(
 }
 
 // Takes the newest row back: one row fewer is counted, and no slice is written.
-pub fn withdraw(
-    counts: Record,
-    literals: &[u16],
-    ends: &[u16],
-    keys: &[u64],
-    images: &[u16],
-) -> Stored<()>
-    ensures says { let s = keyed counts literals.entry ends.entry keys.entry images.entry in
-        said result.answer ≡ withdraw_says s }
-    ensures leaves { let s = keyed counts literals.entry ends.entry keys.entry images.entry in
-        keyed result.counts literals.entry ends.entry keys.entry images.entry ≡ withdraw_store s }
+pub fn withdraw(s: &Lent) -> Stored<()>
+    ensures says { said result.answer ≡ withdraw_says s.now }
+    ensures leaves { let held = s.now.store in
+        with_keys (lent result.counts held.literals held.ends held.images) s.now.keys ≡ withdraw_store s.now }
 {
-    let changed = one_row_fewer(counts, literals, ends, keys, images);
-    answered(changed, counts)
+    answered(one_row_fewer(s), s.counts)
 }
 
 // The record with one row fewer.
 #[tactic(auto, unfolding(crate::specs::Calls::withdraw_says, crate::specs::Calls::withdraw_store))]
-fn one_row_fewer(
-    counts: Record,
-    literals: &[u16],
-    ends: &[u16],
-    keys: &[u64],
-    images: &[u16],
-) -> Result<Record, Refusal>
-    ensures says { let s = keyed counts literals.entry ends.entry keys.entry images.entry in
-        said (stored_by result counts).answer ≡ withdraw_says s }
-    ensures leaves { let s = keyed counts literals.entry ends.entry keys.entry images.entry in
-        keyed (stored_by result counts).counts literals.entry ends.entry keys.entry images.entry ≡ withdraw_store s }
+fn one_row_fewer(s: &Lent) -> Result<Record, Refusal>
+    ensures says { said (stored_by result s.now.store.counts).answer ≡ withdraw_says s.now }
+    ensures leaves { let held = s.now.store in
+        with_keys (lent (stored_by result held.counts).counts held.literals held.ends held.images) s.now.keys ≡ withdraw_store s.now }
 {
-    standing::admit(counts, literals, ends, keys, images)?;
+    let counts = standing::admit(s)?.rows.counts;
     if counts.rows == 0 {
         return Err(Refusal::NoRow);
     }
@@ -175,57 +168,31 @@ fn answered(changed: Result<Record, Refusal>, counts: Record) -> Stored<()>
 
 // The made formula's figures, before a line of it is written.
 #[tactic(auto, unfolding(crate::specs::Calls::figures_says))]
-pub fn figures(
-    counts: Record,
-    literals: &[u16],
-    ends: &[u16],
-    keys: &[u64],
-    images: &[u16],
-) -> Result<Figures, Refusal>
-    ensures { let s = keyed counts literals.entry ends.entry keys.entry images.entry in
-        said result ≡ figures_says s }
+pub fn figures(s: &Lent) -> Result<Figures, Refusal>
+    ensures { said result ≡ figures_says s.now }
 {
-    standing::admit(counts, literals, ends, keys, images)?;
-    Ok(measure::figures_of(counts, literals, ends, images))
+    let store = standing::admit(s)?;
+    Ok(measure::figures_of(store))
 }
 
 // Writes the made formula's header line.
 #[tactic(auto, unfolding(crate::specs::Calls::header_says, crate::specs::Calls::header_leaves))]
-pub fn header(
-    counts: Record,
-    literals: &[u16],
-    ends: &[u16],
-    keys: &[u64],
-    images: &[u16],
-    out: &mut [u8],
-) -> Result<u64, Refusal>
-    ensures says { let s = keyed counts literals.entry ends.entry keys.entry images.entry in
-        said result ≡ header_says s (length out.old) }
-    ensures leaves { let s = keyed counts literals.entry ends.entry keys.entry images.entry in
-        out.new ≡ header_leaves s out.old }
+pub fn header(s: &Lent, out: &mut [u8]) -> Result<u64, Refusal>
+    ensures says { said result ≡ header_says s.now (length out.old) }
+    ensures leaves { out.new ≡ header_leaves s.now out.old }
 {
-    standing::admit(counts, literals, ends, keys, images)?;
-    emit::header(lexleader::counting::totals_of(counts, images), out)
+    let store = standing::admit(s)?;
+    emit::header(lexleader::counting::totals_of(store.rows), out)
 }
 
 // Writes the line of the made formula's clause q, from 1.
 #[tactic(auto, unfolding(crate::specs::Calls::clause_says, crate::specs::Calls::clause_leaves))]
-pub fn clause(
-    counts: Record,
-    literals: &[u16],
-    ends: &[u16],
-    keys: &[u64],
-    images: &[u16],
-    q: usize,
-    out: &mut [u8],
-) -> Result<u64, Refusal>
-    ensures says { let s = keyed counts literals.entry ends.entry keys.entry images.entry in
-        said result ≡ clause_says s q (length out.old) }
-    ensures leaves { let s = keyed counts literals.entry ends.entry keys.entry images.entry in
-        out.new ≡ clause_leaves s q out.old }
+pub fn clause(s: &Lent, q: usize, out: &mut [u8]) -> Result<u64, Refusal>
+    ensures says { said result ≡ clause_says s.now q (length out.old) }
+    ensures leaves { out.new ≡ clause_leaves s.now q out.old }
 {
-    standing::admit(counts, literals, ends, keys, images)?;
-    emit::clause(counts, literals, ends, images, q, out)
+    let store = standing::admit(s)?;
+    emit::clause(store, q, out)
 }
 
 // ---- models
@@ -233,86 +200,51 @@ pub fn clause(
 // Writes the assignment of 1..N that an assignment of 1..n fills in as. A slice as long as any assignment needs is long enough, whatever N
 // is, and N is then counted as the words are written.
 #[tactic(auto, unfolding(crate::specs::Calls::fill_says, crate::specs::Calls::fill_leaves, store::specs::Stores::held_rows))]
-pub fn fill_in(
-    counts: Record,
-    literals: &[u16],
-    ends: &[u16],
-    keys: &[u64],
-    images: &[u16],
-    a: &[u64],
-    out: &mut [u64],
-) -> Result<u64, Refusal>
-    ensures says { let s = keyed counts literals.entry ends.entry keys.entry images.entry in
-        said result ≡ fill_says s a.now (length out.old) }
-    ensures leaves { let s = keyed counts literals.entry ends.entry keys.entry images.entry in
-        out.new ≡ fill_leaves s a.now out.old }
+pub fn fill_in(s: &Lent, a: &[u64], out: &mut [u64]) -> Result<u64, Refusal>
+    ensures says { said result ≡ fill_says s.now a.now (length out.old) }
+    ensures leaves { out.new ≡ fill_leaves s.now a.now out.old }
 {
-    standing::admit(counts, literals, ends, keys, images)?;
-    if !packed::is_assignment(a, counts.variables) {
+    let rows = standing::admit(s)?.rows;
+    if !packed::is_assignment(a, rows.counts.variables) {
         return Err(Refusal::BadAssignment);
     }
     if out.len() < packed::MAX_WORDS {
-        let total = lexleader::counting::totals_of(counts, images);
+        let total = lexleader::counting::totals_of(rows);
         let needed = packed::word_count(total.variables);
         if out.len() < needed {
             return Err(Refusal::TooShort(needed));
         }
     }
-    Ok(filling::fill(images, counts.rows, counts.variables, a, out) as u64)
+    Ok(filling::fill(rows, a, out) as u64)
 }
 
 // Whether an assignment of 1..N satisfies the made formula, or its first clause that is false.
 #[tactic(auto, unfolding(crate::specs::Calls::check_says))]
-pub fn check(
-    counts: Record,
-    literals: &[u16],
-    ends: &[u16],
-    keys: &[u64],
-    images: &[u16],
-    a: &[u64],
-) -> Result<Option<usize>, Refusal>
-    ensures { let s = keyed counts literals.entry ends.entry keys.entry images.entry in
-        said_finding result ≡ check_says s a.now }
+pub fn check(s: &Lent, a: &[u64]) -> Result<Option<usize>, Refusal>
+    ensures { said_finding result ≡ check_says s.now a.now }
 {
-    standing::admit(counts, literals, ends, keys, images)?;
-    let total = lexleader::counting::totals_of(counts, images);
+    let store = standing::admit(s)?;
+    let total = lexleader::counting::totals_of(store.rows);
     if !packed::is_assignment(a, total.variables) {
         return Err(Refusal::BadAssignment);
     }
     let mut marks = [false; Record::MAX_VARIABLES];
-    let n = counts.variables;
-    Ok(checking::first_false(
-        counts,
-        literals,
-        ends,
-        images,
-        total.clauses,
-        a,
-        &mut marks[..n],
-    ))
+    let n = store.rows.counts.variables;
+    Ok(checking::first_false(store, total.clauses, a, &mut marks[..n]))
 }
 
 // Moves an assignment of 1..n by the first row that makes it smaller, as often as the limit allows and one does.
 #[tactic(auto, unfolding(crate::specs::Calls::descend_says, crate::specs::Calls::descend_leaves, store::specs::Stores::held_rows))]
-pub fn descend(
-    counts: Record,
-    literals: &[u16],
-    ends: &[u16],
-    keys: &[u64],
-    images: &[u16],
-    a: &mut [u64],
-    limit: u64,
-) -> Result<Descended, Refusal>
-    ensures says { let s = keyed counts literals.entry ends.entry keys.entry images.entry in
-        said_descent result ≡ descend_says s a.old limit }
-    ensures leaves { let s = keyed counts literals.entry ends.entry keys.entry images.entry in
-        a.new ≡ descend_leaves s a.old limit }
+pub fn descend(s: &Lent, a: &mut [u64], limit: u64) -> Result<Descended, Refusal>
+    ensures says { said_descent result ≡ descend_says s.now a.old limit }
+    ensures leaves { a.new ≡ descend_leaves s.now a.old limit }
 {
-    standing::admit(counts, literals, ends, keys, images)?;
-    if !packed::is_assignment(a, counts.variables) {
+    let rows = standing::admit(s)?.rows;
+    let n = rows.counts.variables;
+    if !packed::is_assignment(a, n) {
         return Err(Refusal::BadAssignment);
     }
-    Ok(descent::descend(images, counts.rows, counts.variables, a, limit))
+    Ok(descent::descend(rows, a, limit))
 }
 
 // ---- assignments

@@ -1,5 +1,5 @@
 -- 20 and 21: one law for each way out of the test, and what it gives. Assumes nothing.
-use mathlib.Core.Path.{◌≡◌, refl, ap, ◌∙◌}
+use mathlib.Core.Path.{◌≡◌, refl, sym, ap, ◌∙◌}
 use mathlib.Core.Bool.{Bool, true, false, cond, not}
 use Prim.Native.Nat.{ℕ}
 use native.Mathlib.Omega.{arith}
@@ -66,3 +66,17 @@ module _ (s : Keyed) where
   pub same-clauses : (t : Store) → plain_of t ≡ plain_of s.store → well_formed s ≡ true → is_formed t ≡ true → well_formed (with_keys t s.keys) ≡ true
   unfolding well_formed
   same-clauses t e well form = and_both form (rw e (its-keys well))
+
+-- the store that is admitted is the one lent
+pub admitted-is : (s : Keyed) {t : Store} → Ok t ≡ standing_of s → t ≡ s.store
+unfolding standing_of
+admitted-is s {t = t} e = go s.store.counts.is_open (well_formed s) e
+  where
+    go : (a b : Bool) → ◌≡◌ {A = Result Store Refusal} (Ok t) (cond (not a) (Err Refusal.NotOpen) (cond (not b) (Err Refusal.BadlyFormed) (Ok s.store))) → t ≡ s.store
+    go true true k = cc
+    go true false k = let z : ◌≡◌ {A = ℕ} 0 1 = cc in absurd (omega arith)
+    go false b k = let z : ◌≡◌ {A = ℕ} 0 1 = cc in absurd (omega arith)
+
+-- which stands as it has to
+pub stands : (s : Keyed) {t : Store} → Ok t ≡ standing_of s → standing_of s ≡ Ok s.store
+stands s e = sym e ∙ ap Ok (admitted-is s e)

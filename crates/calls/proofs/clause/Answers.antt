@@ -1,7 +1,11 @@
 -- `calls::clause` meets its contract: 20 and 21 are tried, and then the line is written. Assumes nothing.
-use mathlib.Core.Path.{sym}
-use Rattle.standing.proofs.StandingLaws.{ready-form}
+use Rattle.std.proofs.Common.{refl}
+use Rattle.standing.proofs.StandingLaws.{admitted-is, stands}
+use Rattle.calls.specs.Calls.{clause_says, clause_leaves}
 use Rattle.calls.proofs.clause.Goals as goal
 
-pub clause-requires : goal.clause-requires
-clause-requires c = ready-form _ (sym c.in_ok-admit.ensures)
+pub returns : goal.returns
+unfolding clause_says clause_leaves
+returns c =
+    rw (stands _ c.in_ok-store.ensures, ← admitted-is _ c.in_ok-store.ensures, ← c.clause.ensures.answer)
+    (record { says = refl; leaves = c.clause.ensures.buffer })

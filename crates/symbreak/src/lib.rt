@@ -13,6 +13,7 @@ ghost use Rattle.symbreak.specs.Exports.{record_of, c_record, c_answer, c_checke
 use calls::Stored;
 use descent::Descended;
 use measure::Figures;
+use standing::Lent;
 use store::record::Record;
 use store::refusal::Refusal;
 
@@ -133,8 +134,14 @@ pub extern "C" fn symbreak_withdraw(
     ensures { let s = keyed (record_of variables clauses rows flag) literals.entry ends.entry keys.entry images.entry in
         result ≡ c_stored (withdraw_says s) (withdraw_store s).store.counts }
 {
-    let counts = record_of(variables, clauses, rows, flag);
-    CStored::from(calls::withdraw(counts, literals, ends, keys, images))
+    let s = Lent {
+        counts: record_of(variables, clauses, rows, flag),
+        literals,
+        ends,
+        keys,
+        images,
+    };
+    CStored::from(calls::withdraw(&s))
 }
 
 #[unsafe(no_mangle)]
@@ -151,8 +158,14 @@ pub extern "C" fn symbreak_figures(
     ensures { let s = keyed (record_of variables clauses rows flag) literals.entry ends.entry keys.entry images.entry in
         result ≡ c_figures (figures_says s) }
 {
-    let counts = record_of(variables, clauses, rows, flag);
-    CFigures::from(calls::figures(counts, literals, ends, keys, images))
+    let s = Lent {
+        counts: record_of(variables, clauses, rows, flag),
+        literals,
+        ends,
+        keys,
+        images,
+    };
+    CFigures::from(calls::figures(&s))
 }
 
 #[unsafe(no_mangle)]
@@ -172,8 +185,14 @@ pub extern "C" fn symbreak_header(
     ensures leaves { let s = keyed (record_of variables clauses rows flag) literals.entry ends.entry keys.entry images.entry in
         out.new ≡ header_leaves s out.old }
 {
-    let counts = record_of(variables, clauses, rows, flag);
-    CAnswer::from(calls::header(counts, literals, ends, keys, images, out))
+    let s = Lent {
+        counts: record_of(variables, clauses, rows, flag),
+        literals,
+        ends,
+        keys,
+        images,
+    };
+    CAnswer::from(calls::header(&s, out))
 }
 
 #[unsafe(no_mangle)]
@@ -194,8 +213,14 @@ pub extern "C" fn symbreak_clause(
     ensures leaves { let s = keyed (record_of variables clauses rows flag) literals.entry ends.entry keys.entry images.entry in
         out.new ≡ clause_leaves s q out.old }
 {
-    let counts = record_of(variables, clauses, rows, flag);
-    CAnswer::from(calls::clause(counts, literals, ends, keys, images, q as usize, out))
+    let s = Lent {
+        counts: record_of(variables, clauses, rows, flag),
+        literals,
+        ends,
+        keys,
+        images,
+    };
+    CAnswer::from(calls::clause(&s, q as usize, out))
 }
 
 #[unsafe(no_mangle)]
@@ -216,8 +241,14 @@ pub extern "C" fn symbreak_fill_in(
     ensures leaves { let s = keyed (record_of variables clauses rows flag) literals.entry ends.entry keys.entry images.entry in
         out.new ≡ fill_leaves s a.now out.old }
 {
-    let counts = record_of(variables, clauses, rows, flag);
-    CAnswer::from(calls::fill_in(counts, literals, ends, keys, images, a, out))
+    let s = Lent {
+        counts: record_of(variables, clauses, rows, flag),
+        literals,
+        ends,
+        keys,
+        images,
+    };
+    CAnswer::from(calls::fill_in(&s, a, out))
 }
 
 #[unsafe(no_mangle)]
@@ -235,8 +266,14 @@ pub extern "C" fn symbreak_check(
     ensures { let s = keyed (record_of variables clauses rows flag) literals.entry ends.entry keys.entry images.entry in
         result ≡ c_checked (check_says s a.now) }
 {
-    let counts = record_of(variables, clauses, rows, flag);
-    CAnswer::from(calls::check(counts, literals, ends, keys, images, a))
+    let s = Lent {
+        counts: record_of(variables, clauses, rows, flag),
+        literals,
+        ends,
+        keys,
+        images,
+    };
+    CAnswer::from(calls::check(&s, a))
 }
 
 #[unsafe(no_mangle)]
@@ -257,8 +294,14 @@ pub extern "C" fn symbreak_descend(
     ensures leaves { let s = keyed (record_of variables clauses rows flag) literals.entry ends.entry keys.entry images.entry in
         a.new ≡ descend_leaves s a.old limit }
 {
-    let counts = record_of(variables, clauses, rows, flag);
-    CDescent::from(calls::descend(counts, literals, ends, keys, images, a, limit))
+    let s = Lent {
+        counts: record_of(variables, clauses, rows, flag),
+        literals,
+        ends,
+        keys,
+        images,
+    };
+    CDescent::from(calls::descend(&s, a, limit))
 }
 
 #[unsafe(no_mangle)]

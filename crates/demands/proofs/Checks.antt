@@ -2,7 +2,7 @@
 -- the models of the made formula. Assumes nothing.
 use Rattle.std.proofs.Common.{Result, Ok, Err}
 use Rattle.store.specs.declared.refusal.Refusal.{Refusal}
-use mathlib.Core.Path.{◌≡◌, refl, ap, ◌∙◌}
+use mathlib.Core.Path.{◌≡◌, refl, sym, ap, ◌∙◌}
 use mathlib.Core.Bool.{Bool, true, false, cond}
 use mathlib.Core.List.{List}
 use mathlib.Core.Logic.{◌↔◌}
@@ -13,8 +13,9 @@ use Rattle.lists.proofs.TableLaws.{length-table}
 use Rattle.packed.specs.Words.{bits_of, bit_at, is_assignment}
 use Rattle.packed.specs.Order.{value_of}
 use Rattle.store.specs.Refusals.{done, refused}
+use Rattle.store.specs.Stores.{Store}
 use Rattle.standing.specs.Keyed.{Keyed, well_formed, standing_of}
-use Rattle.standing.proofs.StandingLaws.{ready_of, ready}
+use Rattle.standing.proofs.StandingLaws.{ready_of, ready, stands}
 use Rattle.lexleader.specs.Models.{Model}
 use Rattle.lexleader.specs.Store.{made_of, variables_of}
 use Rattle.checking.specs.Checking.{Verdict, yes, false_at, first_false}
@@ -39,9 +40,9 @@ module _ (s : Keyed) (words : List ℕ) where
     λ c. rw (ready_of s c.0.opened c.0.formed, c.0.form) (ap done c.1),
   )
     where
-      by : (standing : Result (Unit {0}) Refusal) → standing_of s ≡ standing → (form : Bool) → is_assignment (variables_of s.store) words ≡ form
+      by : (standing : Result Store Refusal) → standing_of s ≡ standing → (form : Bool) → is_assignment (variables_of s.store) words ≡ form
           → on_store standing (cond form (done (first_false s.store words)) (refused 12 0)) ≡ done verdict → Checkable × (first_false s.store words ≡ verdict)
-      by (Ok u) p true q e = (record { opened = (ready s p).0; formed = (ready s p).1; form = q }, (cc))
+      by (Ok u) p true q e = (record { opened = (ready s (stands s (sym p))).0; formed = (ready s (stands s (sym p))).1; form = q }, (cc))
       by (Ok u) p false q e = let z : ◌≡◌ {A = ℕ} 0 1 = cc in absurd (omega arith)
       by (Err r) p form q e = let z : ◌≡◌ {A = ℕ} 0 1 = cc in absurd (omega arith)
 

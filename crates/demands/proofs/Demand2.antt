@@ -37,7 +37,7 @@ line-fits : (s : Keyed) → well_formed s ≡ true → (q : ℕ) → 1 ≤ q →
 unfolding line_of clauses_of
 line-fits s formed q low high = line-longest s.store (its-form s formed) (get_or (made_of s.store) (q - 1) []) (at_mem [] (made_of s.store) (q - 1) (omega arith))
 
-module _ (s : Keyed) (ready : standing_of s ≡ Ok tt) where
+module _ (s : Keyed) (ready : standing_of s ≡ Ok s.store) where
   pub header-written : (buffer : List ℕ) → length (header_of s.store) ≤ length buffer → written_by (header_says s (length buffer)) (header_leaves s buffer) ≡ header_of s.store
   unfolding header_says header_leaves header_by
   header-written buffer h = rw ready (line-written (header_of s.store) buffer h)

@@ -16,7 +16,7 @@ use Rattle.packed.proofs.Form.{form-count}
 use Rattle.packed.proofs.Trips.{bits-words, words-form}
 use Rattle.store.specs.Literals.{is_literal}
 use Rattle.store.specs.Refusals.{done, refused}
-use Rattle.store.specs.Stores.{held_rows, is_row}
+use Rattle.store.specs.Stores.{Store, held_rows, is_row}
 use Rattle.standing.proofs.StandingLaws.{its-form}
 use Rattle.standing.specs.Keyed.{Keyed, standing_of}
 use Rattle.store.proofs.Formed.{formed}
@@ -45,7 +45,7 @@ fill-count : (s : Keyed) (a : List ℕ) (room k : ℕ) → fill_says s a room �
 unfolding fill_says
 fill-count s a room k e = by (standing_of s) (is_assignment s.store.counts.variables a) (leb (word_count (variables_of s.store)) room) e
   where
-    by : (standing : Result (Unit {0}) Refusal) (form fits : Bool)
+    by : (standing : Result Store Refusal) (form fits : Bool)
         → on_store standing (cond form (cond fits (done (word_count (variables_of s.store))) (refused 23 (word_count (variables_of s.store)))) (refused 12 0)) ≡ done k
         → k ≡ word_count (variables_of s.store)
     by (Ok u) true true e = cc
@@ -75,7 +75,7 @@ unfolding descend_says descend_leaves descended
 descend-settled s a limit moves e =
     by (standing_of s) refl (is_assignment s.store.counts.variables a) refl (descend limit (held_rows s.store) (bits_of s.store.counts.variables a)) refl e
   where
-    by : (standing : Result (Unit {0}) Refusal) → standing_of s ≡ standing → (form : Bool) → is_assignment s.store.counts.variables a ≡ form
+    by : (standing : Result Store Refusal) → standing_of s ≡ standing → (form : Bool) → is_assignment s.store.counts.variables a ≡ form
         → (ending : Ending) → descend limit (held_rows s.store) (bits_of s.store.counts.variables a) ≡ ending
         → on_store standing (cond form (done (answer_of ending)) (refused 12 0)) ≡ done (settled_after moves) → Settles s a limit moves
     by (Ok u) p true q (settled count b) d e =

@@ -10,9 +10,9 @@ use lib.ListN.{length}
 use Rattle.lists.specs.Sums.{sum_of}
 use Rattle.lists.proofs.Cases.{never}
 use Rattle.store.specs.Refusals.{done, refused}
-use Rattle.store.specs.Stores.{plain_of, is_formed}
+use Rattle.store.specs.Stores.{Store, plain_of, is_formed}
 use Rattle.standing.specs.Keyed.{Keyed, well_formed, standing_of}
-use Rattle.standing.proofs.StandingLaws.{ready_of, ready, its-form}
+use Rattle.standing.proofs.StandingLaws.{ready_of, ready, its-form, stands}
 use Rattle.lexleader.specs.Store.{variables_of, clauses_of}
 use Rattle.render.specs.Text.{header_line}
 use Rattle.emit.specs.Emit.{header_of}
@@ -38,8 +38,8 @@ module _ (s : Keyed) where
   unfolding figures_says
   given_by f e = by (standing_of s) refl e
     where
-      by : (standing : Result (Unit {0}) Refusal) → standing_of s ≡ standing → on_store standing (done (figures_of s.store)) ≡ done f → Given f
-      by (Ok u) p q = record { opened = (ready s p).0; formed = (ready s p).1; are = (cc) }
+      by : (standing : Result Store Refusal) → standing_of s ≡ standing → on_store standing (done (figures_of s.store)) ≡ done f → Given f
+      by (Ok u) p q = record { opened = (ready s (stands s (sym p))).0; formed = (ready s (stands s (sym p))).1; are = (cc) }
       by (Err r) p q = let z : ◌≡◌ {A = ℕ} 0 1 = cc in absurd (omega arith)
 
   given_to : (s.store.counts.is_open ≡ true) × (well_formed s ≡ true) → (f : Figures) × (figures_says s ≡ done f)
@@ -47,7 +47,7 @@ module _ (s : Keyed) where
   given_to (opened, formed) = (figures_of s.store, rw (ready_of s opened formed))
 
   module _ (opened : s.store.counts.is_open ≡ true) (formed : well_formed s ≡ true) where
-    standing : standing_of s ≡ Ok tt
+    standing : standing_of s ≡ Ok s.store
     standing = ready_of s opened formed
 
     well : is_formed s.store ≡ true

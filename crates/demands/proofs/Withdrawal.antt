@@ -10,7 +10,7 @@ use borrow.Author.Tests.{eqb-false}
 use lib.ListN.{length, get_or}
 use lib.Dec.{eqb}
 use Rattle.store.specs.Refusals.{done, refused}
-use Rattle.store.specs.Stores.{plain_of, held_rows, without_row}
+use Rattle.store.specs.Stores.{Store, plain_of, held_rows, without_row}
 use Rattle.standing.specs.Keyed.{Keyed, with_keys, standing_of}
 use Rattle.store.proofs.RowChanges.{held-count, without-row-held}
 use Rattle.lexleader.specs.Made.{made, made_variables}
@@ -35,7 +35,7 @@ module _ (s : Keyed) where
     unfolding withdraw_says
     some-held = by (standing_of s) (eqb s.store.counts.rows 0) refl said
       where
-        by : (standing : Result (Unit {0}) Refusal) (none : Bool) → eqb s.store.counts.rows 0 ≡ none → on_store standing (cond none (refused 30 0) (done taken_back)) ≡ done taken_back
+        by : (standing : Result Store Refusal) (none : Bool) → eqb s.store.counts.rows 0 ≡ none → on_store standing (cond none (refused 30 0) (done taken_back)) ≡ done taken_back
             → s.store.counts.rows ≡ 0 → ⊥
         by (Ok u) true q e = let z : ◌≡◌ {A = ℕ} 0 1 = cc in absurd (omega arith)
         by (Ok u) false q e = eqb-false s.store.counts.rows 0 q

@@ -66,10 +66,9 @@ fn list_names(
         let Ok((number, next)) = dimacs::read(names, place) else {
             return Err(place);
         };
-        let name = name_of(number, n);
-        if name == 0 {
+        let Some(name) = name_of(number, n) else {
             return Err(place);
-        }
+        };
         if marks[name] {
             return Err(place);
         }
@@ -80,25 +79,28 @@ fn list_names(
     }
 }
 
-// The variable of 1..n that a number names, and 0 where it names none: no name is signed.
-fn name_of(number: Number, n: usize) -> usize
-    ensures { result ≡ cond (is_name n (code_of number.size number.negative)) number.size 0 }
+// The variable of 1..n that a number names: no name is signed.
+fn name_of(number: Number, n: usize) -> Option<usize>
+    ensures { result ≡ cond (is_name n (code_of number.size number.negative)) (Some number.size) None }
 {
     if number.negative {
-        return 0;
+        return None;
     }
     size_of(number, n)
 }
 
-// The variable of 1..n that a number is or negates, and 0 where there is none.
-fn size_of(number: Number, n: usize) -> usize
-    ensures { result ≡ cond (is_literal n (code_of number.size number.negative)) number.size 0 }
+// The variable of 1..n that a number is or negates.
+fn size_of(number: Number, n: usize) -> Option<usize>
+    ensures { result ≡ cond (is_literal n (code_of number.size number.negative)) (Some number.size) None }
 {
     let size = number.size as usize;
-    if n < size {
-        return 0;
+    if size == 0 {
+        return None;
     }
-    size
+    if n < size {
+        return None;
+    }
+    Some(size)
 }
 
 // 7 before 8: the refusal of a line whose first bad name stands at `place`.
@@ -139,8 +141,7 @@ fn identity(n: usize, row: &mut [u16])
 }
 
 // 10: the first value whose size is no name or repeated, or the line's end where there are too few. Each value before it is put in the row,
-// with its sign, in the place of the name that stands where it does in its line. A name is free until a value uses it; 0, which is no name,
-// never is.
+// with its sign, in the place of the name that stands where it does in its line. A name is free until a value uses it.
 fn place_values(
     order: &[u16],
     free: &mut [bool; MARKS],
@@ -171,7 +172,9 @@ fn place_values(
         let Ok((number, next)) = dimacs::read(values, place) else {
             return Some(place);
         };
-        let size = size_of(number, n);
+        let Some(size) = size_of(number, n) else {
+            return Some(place);
+        };
         if !free[size] {
             return Some(place);
         }

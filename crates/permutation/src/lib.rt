@@ -11,7 +11,7 @@ ghost use Rattle.store.specs.Literals.{code_of, is_literal};
 ghost use Rattle.store.specs.Stores.{max_variables};
 ghost use Rattle.store.specs.Identity.{identity};
 ghost use Rattle.permutation.specs.Lines.{is_name, not_number, bad_value_after, values_on};
-ghost use Rattle.permutation.specs.Stated.{or_else, stated_by, row_stated, row_of};
+ghost use Rattle.permutation.specs.Stated.{stated_by, row_stated, row_of};
 ghost use Rattle.permutation.specs.Names.{Named, Marks, Walked};
 
 use dimacs::Number;
@@ -32,13 +32,19 @@ pub fn state(names: &[u8], values: &[u8], n: usize, row: &mut [u16]) -> Result<(
     let mut marks = [false; MARKS];
     let mut order = [0u16; Record::MAX_VARIABLES];
     match list_names(names, n, &mut marks, &mut order) {
-        Err(place) => refuse_names(names, place),
+        Err(place) => Err(not_number(names).map_or(
+            Refusal::BadName(place),
+            Refusal::NameNotNumber,
+        )),
         Ok(count) => {
             identity(n, row);
-            if let Some(place) = place_values(&order[..count], &mut marks, values, n, row) {
-                return refuse_values(values, place);
+            match place_values(&order[..count], &mut marks, values, n, row) {
+                Some(place) => Err(not_number(values).map_or(
+                    Refusal::BadValue(place),
+                    Refusal::ValueNotNumber,
+                )),
+                None => Ok(()),
             }
-            Ok(())
         }
     }
 }
@@ -101,16 +107,6 @@ fn size_of(number: Number, n: usize) -> Option<usize>
         return None;
     }
     Some(size)
-}
-
-// 7 before 8: the refusal of a line whose first bad name stands at `place`.
-fn refuse_names(names: &[u8], place: usize) -> Result<(), Refusal>
-    ensures { result ≡ or_else (not_number (words_at names.now 0)) Refusal.NameNotNumber (Err (Refusal.BadName place)) }
-{
-    if let Some(first) = not_number(names) {
-        return Err(Refusal::NameNotNumber(first));
-    }
-    Err(Refusal::BadName(place))
 }
 
 // 7 and 9: the first word that is no number.
@@ -184,14 +180,4 @@ fn place_values(
         row[name - 1] = store::literal::code(size as u16, number.negative);
         at = next.at;
     }
-}
-
-// 9 before 10: the refusal of a line whose first bad value stands at `place`.
-fn refuse_values(values: &[u8], place: usize) -> Result<(), Refusal>
-    ensures { result ≡ or_else (not_number (words_at values.now 0)) Refusal.ValueNotNumber (Err (Refusal.BadValue place)) }
-{
-    if let Some(first) = not_number(values) {
-        return Err(Refusal::ValueNotNumber(first));
-    }
-    Err(Refusal::BadValue(place))
 }

@@ -1,6 +1,6 @@
 -- The faults of a line: one law for each way through the loops that look for them. Assumes nothing.
 use mathlib.Core.Path.{◌≡◌, refl, sym, ◌∙◌}
-use mathlib.Core.Bool.{Bool, true, false, cond, not, ◌&&◌, and-false}
+use mathlib.Core.Bool.{true, false, and-false}
 use mathlib.Core.List.{List, [], ◌∷◌}
 use Prim.Native.Nat.{ℕ, ◌≤◌, ◌<◌}
 use native.Mathlib.Omega.{arith}
@@ -8,7 +8,7 @@ use borrow.Author.Tests.{lt-ltb, le-ltb}
 use lib.ListN.{length}
 use Rattle.std.proofs.Common.{Option, Some, None}
 use Rattle.lists.specs.Tests.{any_of, has}
-use Rattle.lists.proofs.Cases.{never, and_l, not_so}
+use Rattle.lists.proofs.Cases.{never, not_so}
 use Rattle.dimacs.specs.Words.{Piece, words_at}
 use Rattle.dimacs.specs.declared.Number.{Number}
 use Rattle.store.specs.Literals.{variable_of, is_literal}
@@ -17,7 +17,7 @@ use Rattle.permutation.specs.Lines.{is_name, not_number, bad_name_after, bad_nam
 use Rattle.permutation.specs.Names.{Named}
 use Rattle.permutation.proofs.Walks.{Word, Stray}
 use Rattle.permutation.proofs.Marks.{is_free}
-use Rattle.permutation.proofs.NameLaws.{size_in, Passes, size-some}
+use Rattle.permutation.proofs.NameLaws.{Passes}
 use Rattle.permutation.proofs.InOrder.{is_value, value-literal}
 
 -- ---- 7 and 9
@@ -100,12 +100,6 @@ module _ (n end : ℕ) where
 
 -- ---- 10
 
-pub free-some : {n : ℕ} {names : List ℕ} → Named n names → (used : List ℕ) (v : ℕ) → is_free names used v ≡ true → v ≡ 0 → ⊥
-free-some {names = names} named used v f e = omega (arith, named.low v (and_l (has names v) (not (has used v)) f))
-
-pub zero-taken : {n : ℕ} {names : List ℕ} → Named n names → (used : List ℕ) → is_free names used 0 ≡ false
-zero-taken named used = not_so _ (λ f. free-some named used 0 f refl)
-
 module _ (names : List ℕ) (end : ℕ) (used : List ℕ) where
   pub value-few : {words : List Piece} → words ≡ [] → length used < length names → bad_value_after names end used words ≡ Some end
   unfolding bad_value_after
@@ -115,17 +109,16 @@ module _ (names : List ℕ) (end : ℕ) (used : List ℕ) where
   unfolding bad_value_after
   value-end e h = rw (e, le-ltb (length used) (length names) h)
 
-  module _ {words : List Piece} {w : Piece} {rest : List Piece} (e : words ≡ w ∷ rest)
-      (n size : ℕ) (is : size ≡ size_in (is_literal n) (code_in w)) (named : Named n names) where
-    pub value-stop : is_free names used size ≡ false → bad_value_after names end used words ≡ Some w.place
+  module _ {words : List Piece} {w : Piece} {rest : List Piece} (e : words ≡ w ∷ rest) where
+    pub value-outside : (n : ℕ) → Named n names → is_literal n (code_in w) ≡ false → bad_value_after names end used words ≡ Some w.place
     unfolding bad_value_after
-    value-stop f = rw (e, not_free (is_literal n (code_in w)) refl is)
-      where
-        not_free : (t : Bool) → is_literal n (code_in w) ≡ t → size ≡ cond t (variable_of (code_in w)) 0
-            → (is_value names (code_in w) && not (has used (variable_of (code_in w)))) ≡ false
-        not_free true i q = rw (← q) f
-        not_free false i q = rw (not_so (is_value names (code_in w)) (λ t. never (sym i ∙ value-literal n names (code_in w) named t)))
+    value-outside n named i = rw (e, not_so (is_value names (code_in w)) (λ t. never (sym i ∙ value-literal n names (code_in w) named t)))
 
-    pub value_on : is_free names used size ≡ true → bad_value_after names end used words ≡ bad_value_after names end (size ∷ used) rest
-    unfolding bad_value_after
-    value_on f = let p = size-some n (is_literal n) (λ code l. l) (code_in w) size is (free-some named used size f) in rw (e, p.is, f)
+    module _ (n size : ℕ) (p : Passes (is_literal n) (code_in w) size) where
+      pub value-taken : is_free names used size ≡ false → bad_value_after names end used words ≡ Some w.place
+      unfolding bad_value_after
+      value-taken f = rw (e, p.is, f)
+
+      pub value_on : is_free names used size ≡ true → bad_value_after names end used words ≡ bad_value_after names end (size ∷ used) rest
+      unfolding bad_value_after
+      value_on f = rw (e, p.is, f)

@@ -13,34 +13,24 @@ use Rattle.store.specs.declared.refusal.Refusal.{Refusal}
 use Rattle.permutation.specs.Lines.{not_number, bad_name, bad_value_after, names_on, values_on}
 use Rattle.permutation.specs.Stated.{or_else, stated_by, row_stated, row_of}
 use Rattle.permutation.specs.Names.{Listed}
-use Rattle.permutation.proofs.InOrder.{passed, names-numbers, values-numbers}
+use Rattle.permutation.proofs.InOrder.{names-numbers, values-numbers}
 use Rattle.permutation.proofs.RowLaws.{table-back}
 
--- a refusal is no permutation, and so nothing is asked of the row
-refused : {A : Type 0} (f : Option ℕ) (first : ℕ → Refusal) (second : Refusal) → or_else f first (Err second) ≡ (Ok tt) → A
-refused f first second e = let z : ◌≡◌ {A = ℕ} 0 1 = cc (passed f first (Err second) e).1 in absurd (omega arith)
-
 module _ (n : ℕ) (names values : List ℕ) where
-  pub names-refused : {A : Type 0} (r : Result (Unit {0}) Refusal) (place : ℕ) → bad_name n (length names) (words_at names 0) ≡ Some place
-      → r ≡ or_else (not_number (words_at names 0)) Refusal.NameNotNumber (Err (Refusal.BadName place))
-      → (r ≡ stated_by n names values) × (r ≡ (Ok tt) → A)
+  pub names-refused : (r : Result (Unit {0}) Refusal) (place : ℕ) → bad_name n (length names) (words_at names 0) ≡ Some place
+      → r ≡ or_else (not_number (words_at names 0)) Refusal.NameNotNumber (Err (Refusal.BadName place)) → r ≡ stated_by n names values
   unfolding stated_by
-  names-refused r place bad e =
-      (e ∙ rw bad, λ q. refused (not_number (words_at names 0)) Refusal.NameNotNumber (Refusal.BadName place) (sym e ∙ q))
+  names-refused r place bad e = e ∙ rw bad
 
   module _ {marks : List Bool} {order : List ℕ} {count : ℕ} (l : Listed n names marks order count) where
     names-numbered : not_number (words_at names 0) ≡ None
     names-numbered = names-numbers n (length names) (words_at names 0) l.good
 
     module _ {fault : Option ℕ} (found : fault ≡ bad_value_after (take count order) (length values) [] (words_at values 0)) where
-      pub values-refused : {A : Type 0} (r : Result (Unit {0}) Refusal) (place : ℕ) → fault ≡ Some place
-          → r ≡ or_else (not_number (words_at values 0)) Refusal.ValueNotNumber (Err (Refusal.BadValue place))
-          → (r ≡ stated_by n names values) × (r ≡ (Ok tt) → A)
+      pub values-refused : (r : Result (Unit {0}) Refusal) (place : ℕ) → fault ≡ Some place
+          → r ≡ or_else (not_number (words_at values 0)) Refusal.ValueNotNumber (Err (Refusal.BadValue place)) → r ≡ stated_by n names values
       unfolding stated_by
-      values-refused r place bad e = (
-        e ∙ rw (names-numbered, l.good, ← l.names, ← found, bad),
-        λ q. refused (not_number (words_at values 0)) Refusal.ValueNotNumber (Refusal.BadValue place) (sym e ∙ q),
-      )
+      values-refused r place bad e = e ∙ rw (names-numbered, l.good, ← l.names, ← found, bad)
 
       pub values-stated : fault ≡ None → (Ok tt) ≡ stated_by n names values
       unfolding stated_by

@@ -24,9 +24,9 @@ use Rattle.permutation.specs.Names.{Named, Marks}
 use Rattle.permutation.proofs.Lists.{no_longer}
 use Rattle.permutation.proofs.Walks.{Word, codes_from}
 use Rattle.permutation.proofs.Marks.{is_free, free-none, free_more}
-use Rattle.permutation.proofs.NameLaws.{size_in, size-some}
+use Rattle.permutation.proofs.NameLaws.{Passes}
 use Rattle.permutation.proofs.InOrder.{named-few}
-use Rattle.permutation.proofs.Faults.{free-some, zero-taken, value-few, value-end, value-stop, value_on}
+use Rattle.permutation.proofs.Faults.{value-few, value-end, value-outside, value-taken, value_on}
 use Rattle.permutation.proofs.RowLaws.{Placing, placing-none, placing-name, placing-more, placing-all}
 
 -- the values before `at` have names as sizes that all differ, as many as `used` says, the other names are marked, the line's first bad value is the first from
@@ -74,13 +74,13 @@ module _ {n : ℕ} {names : List ℕ} (named : Named n names) where
       placing-all u.placing (drop_of_length-le names h),
     )
 
-    pub using-stop : {w : Piece} {rest : List Piece} → words_at line at ≡ w ∷ rest → (value : ℕ) → value ≡ size_in (is_literal n) (code_in w)
-        → get_or free value false ≡ false → bad_value_after names (length line) [] (words_at line 0) ≡ Some w.place
-    using-stop e value is f =
-        u.fault ∙ value-stop names (length line) u.passed e n value is named (sym (u.marked.is value) ∙ f)
+    module _ {w : Piece} {rest : List Piece} (e : words_at line at ≡ w ∷ rest) where
+      pub using-outside : is_literal n (code_in w) ≡ false → bad_value_after names (length line) [] (words_at line 0) ≡ Some w.place
+      using-outside i = u.fault ∙ value-outside names (length line) u.passed e n named i
 
-    pub using-zero : get_or free 0 false ≡ false
-    using-zero = u.marked.is 0 ∙ zero-taken named u.passed
+      pub using-taken : (value : ℕ) → Passes (is_literal n) (code_in w) value → get_or free value false ≡ false
+          → bad_value_after names (length line) [] (words_at line 0) ≡ Some w.place
+      using-taken value p f = u.fault ∙ value-taken names (length line) u.passed e n value p (sym (u.marked.is value) ∙ f)
 
     module _ (value : ℕ) (f : get_or free value false ≡ true) where
       unused : is_free names u.passed value ≡ true
@@ -116,14 +116,14 @@ module _ {n : ℕ} {names : List ℕ} (named : Named n names) where
             value-high = named.high value free;
           }
 
-      pub using-more : {place next : ℕ} {x : Number} → Word line at place x next → value ≡ size_in (is_literal n) (code_in (piece_at line place)) → value < 513
+      pub using-more : {place next : ℕ} {x : Number} → Word line at place x next → Passes (is_literal n) (code_in (piece_at line place)) value → value < 513
           → Using n names line final (set free value false) (set row (get_or names used 0 - 1) (code_of value x.negative)) (used + 1) next
-      using-more {place} {next} {x} w is small =
-          let size = sym (size-some n (is_literal n) (λ code l. l) (code_in (piece_at line place)) value is (free-some named u.passed value unused)).is ∙ w.size in
+      using-more {place} {next} {x} w p small =
+          let size : value ≡ x.size = sym p.is ∙ w.size in
           let code : code_in (piece_at line place) ≡ code_of value x.negative = rw size w.code in
           record {
             passed = value ∷ u.passed;
-            fault = u.fault ∙ value_on names (length line) u.passed w.words n value is named unused;
+            fault = u.fault ∙ value_on names (length line) u.passed w.words n value p unused;
             marked = free_more names u.passed free value u.marked small;
             many = omega (arith, u.many);
             differ = differ-more;

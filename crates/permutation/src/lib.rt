@@ -11,7 +11,7 @@ ghost use Rattle.store.specs.Literals.{code_of, is_literal};
 ghost use Rattle.store.specs.Stores.{max_variables};
 ghost use Rattle.store.specs.Identity.{identity};
 ghost use Rattle.permutation.specs.Lines.{is_name, not_number, bad_value_after, values_on};
-ghost use Rattle.permutation.specs.Stated.{or_else, stated_by, row_stated, row_of};
+ghost use Rattle.permutation.specs.Stated.{stated_by, row_stated, row_of};
 ghost use Rattle.permutation.specs.Names.{Named, Marks, Walked};
 
 use dimacs::Number;
@@ -32,13 +32,19 @@ pub fn state(names: &[u8], values: &[u8], n: usize, row: &mut [u16]) -> Result<(
     let mut marks = [false; MARKS];
     let mut order = [0u16; Record::MAX_VARIABLES];
     match list_names(names, n, &mut marks, &mut order) {
-        Err(place) => refuse_names(names, place),
+        Err(place) => Err(not_number(names).map_or(
+            Refusal::BadName(place),
+            Refusal::NameNotNumber,
+        )),
         Ok(count) => {
             identity(n, row);
-            if let Some(place) = place_values(&order[..count], &mut marks, values, n, row) {
-                return refuse_values(values, place);
+            match place_values(&order[..count], &mut marks, values, n, row) {
+                Some(place) => Err(not_number(values).map_or(
+                    Refusal::BadValue(place),
+                    Refusal::ValueNotNumber,
+                )),
+                None => Ok(()),
             }
-            Ok(())
         }
     }
 }
@@ -66,10 +72,9 @@ fn list_names(
         let Ok((number, next)) = dimacs::read(names, place) else {
             return Err(place);
         };
-        let name = name_of(number, n);
-        if name == 0 {
+        let Some(name) = name_of(number, n) else {
             return Err(place);
-        }
+        };
         if marks[name] {
             return Err(place);
         }
@@ -80,35 +85,28 @@ fn list_names(
     }
 }
 
-// The variable of 1..n that a number names, and 0 where it names none: no name is signed.
-fn name_of(number: Number, n: usize) -> usize
-    ensures { result ≡ cond (is_name n (code_of number.size number.negative)) number.size 0 }
+// The variable of 1..n that a number names: no name is signed.
+fn name_of(number: Number, n: usize) -> Option<usize>
+    ensures { result ≡ cond (is_name n (code_of number.size number.negative)) (Some number.size) None }
 {
     if number.negative {
-        return 0;
+        return None;
     }
     size_of(number, n)
 }
 
-// The variable of 1..n that a number is or negates, and 0 where there is none.
-fn size_of(number: Number, n: usize) -> usize
-    ensures { result ≡ cond (is_literal n (code_of number.size number.negative)) number.size 0 }
+// The variable of 1..n that a number is or negates.
+fn size_of(number: Number, n: usize) -> Option<usize>
+    ensures { result ≡ cond (is_literal n (code_of number.size number.negative)) (Some number.size) None }
 {
     let size = number.size as usize;
+    if size == 0 {
+        return None;
+    }
     if n < size {
-        return 0;
+        return None;
     }
-    size
-}
-
-// 7 before 8: the refusal of a line whose first bad name stands at `place`.
-fn refuse_names(names: &[u8], place: usize) -> Result<(), Refusal>
-    ensures { result ≡ or_else (not_number (words_at names.now 0)) Refusal.NameNotNumber (Err (Refusal.BadName place)) }
-{
-    if let Some(first) = not_number(names) {
-        return Err(Refusal::NameNotNumber(first));
-    }
-    Err(Refusal::BadName(place))
+    Some(size)
 }
 
 // 7 and 9: the first word that is no number.
@@ -139,8 +137,7 @@ fn identity(n: usize, row: &mut [u16])
 }
 
 // 10: the first value whose size is no name or repeated, or the line's end where there are too few. Each value before it is put in the row,
-// with its sign, in the place of the name that stands where it does in its line. A name is free until a value uses it; 0, which is no name,
-// never is.
+// with its sign, in the place of the name that stands where it does in its line. A name is free until a value uses it.
 fn place_values(
     order: &[u16],
     free: &mut [bool; MARKS],
@@ -171,7 +168,9 @@ fn place_values(
         let Ok((number, next)) = dimacs::read(values, place) else {
             return Some(place);
         };
-        let size = size_of(number, n);
+        let Some(size) = size_of(number, n) else {
+            return Some(place);
+        };
         if !free[size] {
             return Some(place);
         }
@@ -181,14 +180,4 @@ fn place_values(
         row[name - 1] = store::literal::code(size as u16, number.negative);
         at = next.at;
     }
-}
-
-// 9 before 10: the refusal of a line whose first bad value stands at `place`.
-fn refuse_values(values: &[u8], place: usize) -> Result<(), Refusal>
-    ensures { result ≡ or_else (not_number (words_at values.now 0)) Refusal.ValueNotNumber (Err (Refusal.BadValue place)) }
-{
-    if let Some(first) = not_number(values) {
-        return Err(Refusal::ValueNotNumber(first));
-    }
-    Err(Refusal::BadValue(place))
 }

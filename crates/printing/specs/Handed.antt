@@ -1,8 +1,7 @@
 -- How much of the output standard output has taken: a count, which no failed write can add to. Assumes nothing.
-use Rattle.std.specs.Prelude.{ℕ, ◌+◌}
-use Rattle.stdio.specs.declared.Output.{Output}
-use Rattle.printing.specs.declared.Handed.{Handed}
+use Rattle.std.specs.Prelude.{ℕ, ◌+◌, Result, Ok, Err}
 
-abbrev pub handed_after : ℕ → Output → Handed
-handed_after handed (Output.Bytes count) = Handed.Bytes (handed + count)
-handed_after handed Output.Failed = Handed.Failed
+-- after a write of so many bytes, where so many were taken before it
+abbrev pub handed_after : {E : Type 0} → ℕ → Result ℕ E → Result ℕ E
+handed_after handed (Ok count) = Ok (handed + count)
+handed_after handed (Err e) = Err e

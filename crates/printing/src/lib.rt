@@ -3,30 +3,23 @@
 // count: none is left out, repeated or out of order, and what arrived is always a beginning of the output.
 #![tactic(auto)]
 
-ghost use Rattle.std.specs.Prelude.{◌≡◌, ℕ, ◌+◌, ◌≤◌, length};
+ghost use Rattle.std.specs.Prelude.{◌≡◌, ◌+◌, ◌≤◌, length, IfOk};
 ghost use Rattle.store.specs.Stores.{stored};
 ghost use Rattle.emit.specs.Emit.{max_line};
 ghost use Rattle.program.specs.Program.{output_of, fresh_store, max_output, left_to_print, StageStands, PartAt};
 ghost use Rattle.printing.specs.Handed.{handed_after};
 
 use program::Stage;
+use std::io;
 use std::io::Stdout;
-use stdio::Output;
 use store::record::Record;
 
 // The bytes of a page: any line fits.
 pub const PAGE: usize = 131072;
 
-// So many bytes of the output were handed over, or a write failed.
-#[derive(Clone, Copy)]
-pub enum Handed {
-    Bytes(usize),
-    Failed,
-}
-
-// Hands over what the program prints for an input: all of it, or a write failed.
-pub fn print(stdout: Stdout, input: &[u8]) -> Handed
-    ensures { (bytes : ℕ) → result ≡ Handed.Bytes bytes → bytes ≡ length (output_of fresh_store input.now) }
+// Hands over what the program prints for an input, and answers how many bytes: all of it, or a write failed.
+pub fn print(stdout: Stdout, input: &[u8]) -> io::Result<usize>
+    ensures { IfOk result (λ bytes. bytes ≡ length (output_of fresh_store input.now)) }
 {
     let mut literals = [0u16; Record::MAX_LITERALS];
     let mut ends = [0u16; Record::MAX_CLAUSES];
@@ -51,10 +44,10 @@ fn print_from(
     ends: &[u16],
     images: &[u16],
     out: &mut [u8],
-) -> Handed
+) -> io::Result<usize>
     requires { let s = stored counts literals ends images in
         StageStands first s × (left_to_print first s ≡ output_of fresh_store input.now) × (max_line ≤ length out.old) }
-    ensures { (bytes : ℕ) → result ≡ Handed.Bytes bytes → bytes ≡ length (output_of fresh_store input.now) }
+    ensures { IfOk result (λ bytes. bytes ≡ length (output_of fresh_store input.now)) }
 {
     let mut stage = first;
     let mut handed = 0;
@@ -62,31 +55,26 @@ fn print_from(
         let printed = program::page(stage, counts, literals, ends, images, out);
         let bytes = printed.bytes;
         let next = printed.stage;
+        // a page without bytes is the last: `PageStep` of `program::page` says so
         if bytes == 0 {
-            return Handed::Bytes(handed);
+            return Ok(handed);
         }
-        let Handed::Bytes(count) = hand_over(stdout, input, handed, &out[..bytes]) else {
-            return Handed::Failed;
-        };
-        handed = count;
+        handed = hand_over(stdout, input, handed, &out[..bytes])?;
         stage = next;
     }
 }
 
-// Hands over a page, which is the part of the input's output that starts where the pages before it end.
-fn hand_over(stdout: Stdout, input: &[u8], handed: usize, page: &[u8]) -> Handed
+// Hands over a page, which is the part of the input's output that starts where the pages before it end, and answers where it ends.
+fn hand_over(stdout: Stdout, input: &[u8], handed: usize, page: &[u8]) -> io::Result<usize>
     requires { PartAt (output_of fresh_store input.now) handed page.now }
-    ensures { (bytes : ℕ) → result ≡ Handed.Bytes bytes → bytes ≡ handed + length page.now }
+    ensures { IfOk result (λ bytes. bytes ≡ handed + length page.now) }
 {
     counted(handed, stdio::write(stdout, page))
 }
 
-fn counted(handed: usize, answer: Output) -> Handed
-    requires { (count : ℕ) → answer ≡ Output.Bytes count → handed + count ≤ max_output }
+fn counted(handed: usize, answer: io::Result<usize>) -> io::Result<usize>
+    requires { IfOk answer (λ count. handed + count ≤ max_output) }
     ensures { result ≡ handed_after handed answer }
 {
-    match answer {
-        Output::Bytes(count) => Handed::Bytes(handed + count),
-        Output::Failed => Handed::Failed,
-    }
+    Ok(handed + answer?)
 }

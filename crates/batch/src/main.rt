@@ -2,40 +2,28 @@
 // expected. Each input follows its length, which has a line of its own.
 #![tactic(auto)]
 
-use dimacs::Reading;
-use printing::Handed;
 use std::io;
-use stdio::Input;
 
 fn main(rt: HostRuntime) -> io::Result<()> {
     let mut data = [0u8; 65536];
-    let Input::Bytes(read) = stdio::read(rt.stdin(), &mut data) else {
-        return Ok(());
-    };
+    let read = stdio::read(rt.stdin(), &mut data)?;
     inputs(&rt, &data[..read])
 }
 
 fn inputs(rt: &HostRuntime, data: &[u8]) -> io::Result<()> {
     let mut at = 0;
-    let mut count: u64 = 0;
-    loop {
-        let Reading::Found(size, past) = dimacs::read(data, at) else {
-            return Ok(());
+    for count in 1u64.. {
+        let Ok((size, past)) = dimacs::read(data, at) else {
+            break;
         };
         let from = past.at + 1;
         let to = from + size.size as usize;
         if data.len() < to {
-            return Ok(());
+            break;
         }
-        count += 1;
-        heading(rt, count)?;
-        let Handed::Bytes(_) = printing::print(rt.stdout(), &data[from..to]) else {
-            return Ok(());
-        };
+        println!(rt; "input {count}")?;
+        printing::print(rt.stdout(), &data[from..to])?;
         at = to;
     }
-}
-
-fn heading(rt: &HostRuntime, count: u64) -> io::Result<()> {
-    println!(rt; "input {count}")
+    Ok(())
 }

@@ -1,9 +1,6 @@
--- `batch::inputs` is safe and ends: each input lies past the one before it. Assumes nothing.
-use Rattle.std.proofs.Common.{◌-◌, ◌≤◌, length}
+-- `batch::inputs` is safe: an input begins within what was read. Assumes nothing.
+use Rattle.std.proofs.Common.{◌≤◌, length}
 use Rattle.batch.proofs.inputs.Given as goal
 
-abbrev pub invariant-loop-size : goal.invariant-loop-size
-invariant-loop-size l = (l.at ≤ length l.data) × (l.count ≤ l.at)
-
-abbrev pub decreases-loop-size : goal.decreases-loop-size
-decreases-loop-size l = length l.data - l.at
+abbrev pub invariant-loop-count : goal.invariant-loop-count
+invariant-loop-count l = l.at ≤ length l.data

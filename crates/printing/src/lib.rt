@@ -55,6 +55,7 @@ fn print_from(
         let printed = program::page(stage, counts, literals, ends, images, out);
         let bytes = printed.bytes;
         let next = printed.stage;
+        // a page without bytes is the last: `PageStep` of `program::page` says so
         if bytes == 0 {
             return Ok(handed);
         }

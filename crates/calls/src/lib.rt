@@ -309,10 +309,11 @@ pub fn descend(
         a.new ≡ descend_leaves s a.old limit }
 {
     standing::admit(counts, literals, ends, keys, images)?;
-    if !packed::is_assignment(a, counts.variables) {
+    let n = counts.variables;
+    if !packed::is_assignment(a, n) {
         return Err(Refusal::BadAssignment);
     }
-    Ok(descent::descend(images, counts.rows, counts.variables, a, limit))
+    Ok(descent::descend(images, counts.rows, n, a, limit))
 }
 
 // ---- assignments

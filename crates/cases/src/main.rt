@@ -2,11 +2,9 @@
 // vectors, tables 2 and 3 of source document 000: each line is a row, the efficiency printed there, and ours.
 #![tactic(auto)]
 
-use offering::Offered;
-use opening::Opened;
 use std::io;
-use store::answer::Answer;
 use store::record::Record;
+use store::refusal::Refusal;
 
 fn main(rt: HostRuntime) -> io::Result<()> {
     opened(&rt, "512 variables", b"p cnf 512 0")?;
@@ -31,11 +29,7 @@ fn opened(rt: &HostRuntime, name: &str, text: &[u8]) -> io::Result<()> {
         &mut ends,
         &mut keys,
     );
-    let answer = r.answer;
-    match answer {
-        Opened::Open(_, _) => show(rt, name, 0, 0),
-        Opened::Refused(refusal) => show(rt, name, refusal.number(), refusal.place()),
-    }
+    show(rt, name, r.answer)
 }
 
 // An idle line is turned back, and 64 rows are held.
@@ -113,11 +107,7 @@ fn offered(
     values: &[u8],
 ) -> io::Result<Record> {
     let r = calls::offer(counts, literals, ends, keys, images, b"1 2", values);
-    let answer = r.answer;
-    match answer {
-        Offered::Accepted => show(rt, name, 0, 0)?,
-        Offered::Refused(refusal) => show(rt, name, refusal.number(), refusal.place())?,
-    }
+    show(rt, name, r.answer)?;
     Ok(r.counts)
 }
 
@@ -126,8 +116,13 @@ fn held(rt: &HostRuntime, counts: Record) -> io::Result<()> {
     println!(rt; "rows: {rows}")
 }
 
-fn show(rt: &HostRuntime, name: &str, refusal: u32, place: usize) -> io::Result<()> {
-    println!(rt; "{name}: {refusal} {place}")
+// The refusal's number and place, or 0 and 0.
+fn show<T: Copy>(rt: &HostRuntime, name: &str, answer: Result<T, Refusal>) -> io::Result<()> {
+    let (number, place) = match answer {
+        Ok(_) => (0, 0),
+        Err(refusal) => (refusal.number(), refusal.place()),
+    };
+    println!(rt; "{name}: {number} {place}")
 }
 
 // Comment lines after the problem line are skipped, wherever they stand.
@@ -171,7 +166,7 @@ fn figured(
     unlabelled: u64,
     allowed: u64,
 ) -> io::Result<()> {
-    let Answer::Value(figure) = calls::efficiency(labelled, unlabelled, allowed) else {
+    let Ok(figure) = calls::efficiency(labelled, unlabelled, allowed) else {
         return Ok(());
     };
     println!(rt; "{name}: {figure}")

@@ -17,7 +17,7 @@ use Rattle.render.proofs.LineLaws.{length-refusal}
 use Rattle.render.proofs.DigitLaws.{digits-most}
 use Rattle.emit.specs.Emit.{header_of, lines_of, text_of, max_line}
 use Rattle.emit.proofs.Bounds.{header-most, line-longest}
-use Rattle.calls.specs.Calls.{Accepted, accepted}
+use Rattle.calls.specs.Calls.{Accepted}
 use Rattle.session.specs.Session.{session_of}
 use Rattle.session.proofs.Theorem.{ready-formed}
 use Rattle.program.specs.Program.{printed_by, output_of, max_output}
@@ -46,5 +46,5 @@ unfolding output_of
 output-length s input = by (session_of s input).said refl
   where
     by : (said : Said Accepted) → (session_of s input).said ≡ said → length (printed_by said (session_of s input).store.store) ≤ max_output
-    by (done accepted) e = text-length (session_of s input).store.store (its-form _ (ready-formed s input e).formed)
+    by (done u) e = text-length (session_of s input).store.store (its-form _ (ready-formed s input e).formed)
     by (refused number place) e = omega (arith, length-refusal number place, digits-most number, digits-most place)

@@ -1,5 +1,6 @@
 -- The output in pages: one law for a page that is a line, one for a page of clauses, one where nothing is left; and what the first stage has left is the
 -- whole output. Assumes nothing.
+use Rattle.std.proofs.Common.{Result, Ok, Err}
 use mathlib.Core.Path.{◌≡◌, refl, sym, ap, subst, ◌∙◌}
 use mathlib.Core.Bool.{true}
 use mathlib.Core.List.{List, [], ◌++◌, append-nil}
@@ -7,7 +8,7 @@ use Prim.Native.Nat.{ℕ, ◌+◌, ◌≤◌, ◌<◌}
 use native.Mathlib.Omega.{arith}
 use lib.ListN.{length, take, drop, length-append}
 use lib.Seq.{take-append_seam, drop-append_seam, length-take-le}
-use Rattle.store.specs.Refusals.{number_of, place_of}
+use Rattle.store.specs.Refusals.{number_of, place_of, said as told}
 use Rattle.store.specs.Stores.{Store, is_formed}
 use Rattle.store.specs.declared.refusal.Refusal.{Refusal}
 use Rattle.standing.specs.Keyed.{Keyed}
@@ -22,8 +23,7 @@ use Rattle.cursor.specs.Cursors.{remaining_of, CursorStands}
 use Rattle.cursor.specs.declared.Cursor.{Cursor}
 use Rattle.pages.specs.Pages.{FilledPage, fill_from}
 use Rattle.pages.proofs.PageLaws.{PageHolds, page-holds}
-use Rattle.session.specs.Session.{Ended, ended, said_answer, session_of}
-use Rattle.session.specs.declared.Answer.{Answer}
+use Rattle.session.specs.Session.{Ended, ended, session_of}
 use Rattle.program.specs.Program.{printed_by, output_of, left_to_print, StageStands, PageStep}
 use Rattle.program.specs.declared.Stage.{Stage}
 
@@ -99,15 +99,15 @@ step_less {s} {stage} {next} {out} {after} {bytes} g some =
 
 -- ---- the first stage
 
-module _ (s t : Keyed) (input : List ℕ) (answer : Answer) (is : ended (said_answer answer) t ≡ session_of s input) where
-  printed : printed_by (said_answer answer) t.store ≡ output_of s input
+module _ (s t : Keyed) (input : List ℕ) (answer : Result (Unit {0}) Refusal) (is : ended (told answer) t ≡ session_of s input) where
+  printed : printed_by (told answer) t.store ≡ output_of s input
   unfolding output_of
   printed = ap (λ (e : Ended). printed_by e.said e.store.store) is
 
-  pub begins-ready : answer ≡ Answer.Ready → left_to_print Stage.Header t.store ≡ output_of s input
+  pub begins-ready : answer ≡ Ok tt → left_to_print Stage.Header t.store ≡ output_of s input
   unfolding left_to_print
-  begins-ready e = sym (ap (λ (a : Answer). printed_by (said_answer a) t.store) e) ∙ printed
+  begins-ready e = sym (ap (λ (a : Result (Unit {0}) Refusal). printed_by (told a) t.store) e) ∙ printed
 
-  pub begins-refused : (refusal : Refusal) → answer ≡ Answer.Refused refusal → left_to_print (Stage.Refused refusal) t.store ≡ output_of s input
+  pub begins-refused : (refusal : Refusal) → answer ≡ Err refusal → left_to_print (Stage.Refused refusal) t.store ≡ output_of s input
   unfolding left_to_print
-  begins-refused refusal e = sym (ap (λ (a : Answer). printed_by (said_answer a) t.store) e) ∙ printed
+  begins-refused refusal e = sym (ap (λ (a : Result (Unit {0}) Refusal). printed_by (told a) t.store) e) ∙ printed

@@ -10,7 +10,6 @@ ghost use Rattle.session.specs.Session.{session_of};
 ghost use Rattle.program.specs.Program.{output_of, left_to_print, StageStands, PageStep};
 
 use cursor::Cursor;
-use session::Answer;
 use store::record::Record;
 use store::refusal::Refusal;
 
@@ -52,17 +51,13 @@ pub fn begin(
     ensures stands { StageStands result.stage (lent result.counts literals.new ends.new images.new) }
 {
     let ended = session::run(input, literals, ends, keys, images);
-    let answer = ended.answer;
-    let counts = ended.counts;
-    match answer {
-        Answer::Ready => Begun {
-            stage: Stage::Header,
-            counts: counts,
-        },
-        Answer::Refused(refusal) => Begun {
-            stage: Stage::Refused(refusal),
-            counts: counts,
-        },
+    let stage = match ended.answer {
+        Ok(()) => Stage::Header,
+        Err(refusal) => Stage::Refused(refusal),
+    };
+    Begun {
+        stage,
+        counts: ended.counts,
     }
 }
 
@@ -115,7 +110,7 @@ fn header(counts: Record, literals: &[u16], ends: &[u16], images: &[u16], out: &
     let n = counts.variables;
     let first = cursor::start(counts, images, &mut marks[..n]);
     Printed {
-        bytes: bytes,
+        bytes,
         stage: Stage::Clauses(first),
     }
 }
@@ -136,9 +131,8 @@ fn clauses(
     let mut marks = [false; Record::MAX_VARIABLES];
     let n = counts.variables;
     let filled = pages::fill(counts, literals, ends, images, cursor, &mut marks[..n], out);
-    let next = filled.cursor;
     Printed {
         bytes: filled.bytes,
-        stage: Stage::Clauses(next),
+        stage: Stage::Clauses(filled.cursor),
     }
 }

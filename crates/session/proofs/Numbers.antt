@@ -1,5 +1,6 @@
 -- The program prints no 20, 21 or 23, and 15 exactly for its two reasons. What carries it: every test of opening and offering refuses with a number of its
 -- own, so that the number of an answer, 0 for none, is bounded test by test. Assumes nothing.
+use Rattle.std.proofs.Common.{Option, Result, Some, None, Ok, Err}
 use mathlib.Core.Path.{◌≡◌, refl, sym, ap, subst, ◌∙◌}
 use mathlib.Core.Bool.{Bool, true, false, cond, not, ◌&&◌}
 use mathlib.Core.List.{List, [], ◌∷◌}
@@ -15,7 +16,7 @@ use Rattle.dimacs.specs.Lines.{lines_at}
 use Rattle.dimacs.specs.Numbers.{numeral_of}
 use Rattle.store.specs.Literals.{variable_of}
 use Rattle.store.specs.Numerals.{is_numeral, code_in}
-use Rattle.store.specs.Refusals.{Said, done, refused, number_of}
+use Rattle.store.specs.Refusals.{Said, done, refused, number_of, said as told}
 use Rattle.store.specs.Stores.{max_variables, max_clauses, max_literals, max_rows}
 use Rattle.standing.specs.Keyed.{Keyed, well_formed}
 use Rattle.store.specs.declared.refusal.Refusal.{Refusal}
@@ -26,16 +27,14 @@ use Rattle.comments.specs.Comments.{after_comments}
 use Rattle.opening.specs.Problem.{within_limits, problem_in, problem_of, sizes_of}
 use Rattle.opening.specs.Clauses.{scan_from}
 use Rattle.opening.specs.Opening.{body_of, opened_if, opened_after, opened_by}
-use Rattle.opening.specs.declared.Opened.{Opened}
 use Rattle.opening.specs.declared.Problem.{Problem}
-use Rattle.opening.specs.declared.Scanned.{Scanned}
 use Rattle.opening.specs.declared.Sizes.{Sizes}
 use Rattle.opening.proofs.ProblemLaws.{line-limits}
 use Rattle.opening.proofs.DoneLaws.{counted}
 use Rattle.opening.proofs.OpeningLaws.{long-enough}
 use Rattle.permutation.proofs.RowLaws.{row-length}
 use Rattle.offering.specs.Offering.{row_for}
-use Rattle.calls.specs.Calls.{Accepted, accepted, Dimensions, said_opened, open_says, open_store, offer_says, offer_store}
+use Rattle.calls.specs.Calls.{Accepted, accepted, Dimensions, open_says, open_store, offer_says, offer_store}
 use Rattle.demands.specs.Lists.{after}
 use Rattle.demands.proofs.Decided.{Decided, shut, misformed, full, unstated, idle, asymmetric, short, taken, decided}
 use Rattle.demands.proofs.Acceptance.{permitted, store-accepted, accepted-formed}
@@ -48,13 +47,9 @@ use Rattle.session.proofs.Theorem.{said_of}
 
 -- ---- the number of an answer, 0 where it is no refusal
 
-abbrev problem_number : Problem → ℕ
-problem_number (Problem.Line n m end) = 0
-problem_number (Problem.Refused r) = number_of r
-
-abbrev scanned_number : Scanned → ℕ
-scanned_number (Scanned.Done count) = 0
-scanned_number (Scanned.Refused r) = number_of r
+abbrev number_in : {Values : Type 0} → Result Values Refusal → ℕ
+number_in (Ok v) = 0
+number_in (Err r) = number_of r
 
 abbrev said_number : {Values : Type 0} → Said Values → ℕ
 said_number (done v) = 0
@@ -66,27 +61,27 @@ said_place (refused number place) = place
 
 -- ---- opening: 1 to 6, and 23 only where a slice is too short
 
-limits-number : (sizes : Sizes) (place end : ℕ) → problem_number (within_limits sizes place end) ≤ 6
-limits-number (Sizes.Are n m) place end = by (leb n max_variables && leb m max_clauses)
+limits-number : (sizes : Option Sizes) (place end : ℕ) → number_in (within_limits sizes place end) ≤ 6
+limits-number (Some sizes) place end = by (leb sizes.variables max_variables && leb sizes.clauses max_clauses)
   where
-    by : (b : Bool) → problem_number (cond b (Problem.Line n m end) (Problem.Refused (Refusal.SizeOverLimit place))) ≤ 6
+    by : (b : Bool) → number_in {Values = Problem} (cond b (Ok (record { sizes = sizes; end = end })) (Err (Refusal.SizeOverLimit place))) ≤ 6
     by true = omega arith
     by false = omega arith
-limits-number Sizes.Not place end = omega arith
+limits-number None place end = omega arith
 
-problem-number : (text : List ℕ) → problem_number (problem_of text) ≤ 6
+problem-number : (text : List ℕ) → number_in (problem_of text) ≤ 6
 unfolding problem_of problem_in
 problem-number text = by (after_comments (lines_at text 0))
   where
-    by : (lines : List Piece) → problem_number (problem_in (length text) lines) ≤ 6
+    by : (lines : List Piece) → number_in (problem_in (length text) lines) ≤ 6
     by [] = omega arith
     by (line ∷ lines) = limits-number (sizes_of line.bytes) line.place (line.place + length line.bytes)
 
-scan-number : (end n m closed count : ℕ) (words : List Piece) → scanned_number (scan_from end n m closed count words) ≤ 6
+scan-number : (end n m closed count : ℕ) (words : List Piece) → number_in (scan_from end n m closed count words) ≤ 6
 unfolding scan_from
 scan-number end n m closed count [] = by (eqb closed m)
   where
-    by : (b : Bool) → scanned_number (cond b (Scanned.Done count) (Scanned.Refused (Refusal.ClauseCount end))) ≤ 6
+    by : (b : Bool) → number_in {Values = ℕ} (cond b (Ok count) (Err (Refusal.ClauseCount end))) ≤ 6
     by true = omega arith
     by false = omega arith
 scan-number end n m closed count (w ∷ words) =
@@ -94,12 +89,12 @@ scan-number end n m closed count (w ∷ words) =
     (scan_from end n m closed (count + 1) words) (scan-number end n m closed (count + 1) words)
     (eqb closed m) (not (is_numeral (numeral_of w.bytes))) (eqb (code_in w) 0) (ltb n (variable_of (code_in w))) (eqb count max_literals)
   where
-    by : (x : Scanned) → scanned_number x ≤ 6 → (y : Scanned) → scanned_number y ≤ 6 → (a b c d e : Bool)
-        → scanned_number (cond a (Scanned.Refused (Refusal.ClauseCount w.place))
-        (cond b (Scanned.Refused (Refusal.NotNumber w.place))
+    by : (x : Result ℕ Refusal) → number_in x ≤ 6 → (y : Result ℕ Refusal) → number_in y ≤ 6 → (a b c d e : Bool)
+        → number_in {Values = ℕ} (cond a (Err (Refusal.ClauseCount w.place))
+        (cond b (Err (Refusal.NotNumber w.place))
         (cond c x
-        (cond d (Scanned.Refused (Refusal.LiteralBeyond w.place))
-        (cond e (Scanned.Refused (Refusal.TooManyLiterals w.place)) y))))) ≤ 6
+        (cond d (Err (Refusal.LiteralBeyond w.place))
+        (cond e (Err (Refusal.TooManyLiterals w.place)) y))))) ≤ 6
     by x hx y hy true b c d e = omega arith
     by x hx y hy false true c d e = omega arith
     by x hx y hy false false true d e = hx
@@ -115,37 +110,41 @@ open-number : (s : Keyed) (text : List ℕ) → Inner (said_number (open_says s 
 unfolding open_says opened_by
 open-number s text = problem (problem_of text) (problem-number text)
   where
-    room : (count n m : ℕ) (a b c : Bool)
-        → Inner (said_number (said_opened (cond (not a) (Opened.Refused (Refusal.TooShort count)) (cond (not b) (Opened.Refused (Refusal.TooShort m)) (cond (not c) (Opened.Refused (Refusal.TooShort m)) (Opened.Open n m))))))
-    room count n m true true true = inl (omega arith)
-    room count n m true true false = inr (omega arith)
-    room count n m true false c = inr (omega arith)
-    room count n m false b c = inr (omega arith)
+    room : (count : ℕ) (sizes : Sizes) (a b c : Bool)
+        → Inner (said_number (told {Values = Sizes} (cond (not a) (Err (Refusal.TooShort count)) (cond (not b) (Err (Refusal.TooShort sizes.clauses)) (cond (not c) (Err (Refusal.TooShort sizes.clauses)) (Ok sizes))))))
+    room count sizes true true true = inl (omega arith)
+    room count sizes true true false = inr (omega arith)
+    room count sizes true false c = inr (omega arith)
+    room count sizes false b c = inr (omega arith)
 
-    scan : (x : Scanned) → scanned_number x ≤ 6 → (n m : ℕ) → Inner (said_number (said_opened (opened_if x n m (length s.store.literals) (length s.store.ends) (length s.keys))))
-    scan (Scanned.Done count) h n m = room count n m (leb count (length s.store.literals)) (leb m (length s.store.ends)) (leb m (length s.keys))
-    scan (Scanned.Refused r) h n m = inl (omega arith)
+    scan : (x : Result ℕ Refusal) → number_in x ≤ 6 → (sizes : Sizes) → Inner (said_number (told (opened_if x sizes (length s.store.literals) (length s.store.ends) (length s.keys))))
+    scan (Ok count) h sizes = room count sizes (leb count (length s.store.literals)) (leb sizes.clauses (length s.store.ends)) (leb sizes.clauses (length s.keys))
+    scan (Err r) h sizes = inl (omega arith)
 
-    problem : (p : Problem) → problem_number p ≤ 6 → Inner (said_number (said_opened (opened_after p (body_of text) (length text) (length s.store.literals) (length s.store.ends) (length s.keys))))
-    problem (Problem.Line n m end) h = scan (scan_from (length text) n m 0 0 (body_of text)) (scan-number (length text) n m 0 0 (body_of text)) n m
-    problem (Problem.Refused r) h = inl (omega arith)
+    problem : (p : Result Problem Refusal) → number_in p ≤ 6 → Inner (said_number (told (opened_after p (body_of text) (length text) (length s.store.literals) (length s.store.ends) (length s.keys))))
+    problem (Ok p) h =
+        let n = p.sizes.variables in
+        let m = p.sizes.clauses in
+        scan (scan_from (length text) n m 0 0 (body_of text)) (scan-number (length text) n m 0 0 (body_of text)) p.sizes
+    problem (Err r) h = inl (omega arith)
 
 -- with slices as long as the limits there is no 23
 open-low : (s : Keyed) → Ample s → (text : List ℕ) → said_number (open_says s text) ≤ 6
 unfolding open_says opened_by
 open-low s ample text = problem (problem_of text) refl (problem-number text)
   where
-    scan : (n m : ℕ) → m ≤ max_clauses → (x : Scanned) → scan_from (length text) n m 0 0 (body_of text) ≡ x → scanned_number x ≤ 6
-        → said_number (said_opened (opened_if x n m (length s.store.literals) (length s.store.ends) (length s.keys))) ≤ 6
-    scan n m few (Scanned.Done count) e h =
-        let fits = (counted (length text) n m count (body_of text) 0 0 e).total-within (omega arith) in
-        rw (long-enough n m count (length s.store.literals) (length s.store.ends) (length s.keys) (omega (arith, fits, ample.literals)) (omega (arith, ample.ends)) (omega (arith, ample.keys))) (omega arith)
-    scan n m few (Scanned.Refused r) e h = h
+    scan : (sizes : Sizes) → sizes.clauses ≤ max_clauses → (x : Result ℕ Refusal) → scan_from (length text) sizes.variables sizes.clauses 0 0 (body_of text) ≡ x → number_in x ≤ 6
+        → said_number (told (opened_if x sizes (length s.store.literals) (length s.store.ends) (length s.keys))) ≤ 6
+    scan sizes few (Ok count) e h =
+        let fits = (counted (length text) sizes.variables sizes.clauses count (body_of text) 0 0 e).total-within (omega arith) in
+        rw (long-enough sizes count (length s.store.literals) (length s.store.ends) (length s.keys) (omega (arith, fits, ample.literals)) (omega (arith, ample.ends)) (omega (arith, ample.keys))) (omega arith)
+    scan sizes few (Err r) e h = h
 
-    problem : (p : Problem) → problem_of text ≡ p → problem_number p ≤ 6 → said_number (said_opened (opened_after p (body_of text) (length text) (length s.store.literals) (length s.store.ends) (length s.keys))) ≤ 6
-    problem (Problem.Line n m end) e h =
-        scan n m (line-limits text n m end e).clauses (scan_from (length text) n m 0 0 (body_of text)) refl (scan-number (length text) n m 0 0 (body_of text))
-    problem (Problem.Refused r) e h = h
+    problem : (p : Result Problem Refusal) → problem_of text ≡ p → number_in p ≤ 6 → said_number (told (opened_after p (body_of text) (length text) (length s.store.literals) (length s.store.ends) (length s.keys))) ≤ 6
+    problem (Ok p) e h =
+        scan p.sizes (line-limits text p e).clauses (scan_from (length text) p.sizes.variables p.sizes.clauses 0 0 (body_of text)) refl
+        (scan-number (length text) p.sizes.variables p.sizes.clauses 0 0 (body_of text))
+    problem (Err r) e h = h
 
 -- ---- an offer: 20 and 21 by the store, 22, 7 to 11, 31, and 23 only where the images slice is too short
 
@@ -204,7 +203,7 @@ offers-number P none Q each keeps s names (values ∷ lines) h =
         → (offer_says s names values.bytes ≡ done accepted → P (said_number (offer_all (offer_store s names values.bytes) names lines).said))
         → P (said_number (offer_all s names (values ∷ lines)).said)
     by (refused number place) e h rest = subst P (sym (ended-number (offer-refused s names values lines number place e))) h
-    by (done accepted) e h rest = subst P (sym (ended-number (offer-accepted s names values lines e))) (rest e)
+    by (done u) e h rest = subst P (sym (ended-number (offer-accepted s names values lines e))) (rest e)
 
 -- ---- the session
 

@@ -65,7 +65,7 @@ offers-all s names (values ∷ lines) ready = by (offer_says s names values.byte
         → ((offer_all next names lines).said ≡ done accepted → (offer_all next names lines).store ≡ after next (calls names lines))
         → (offer_all s names (values ∷ lines)).store ≡ after next (calls names lines)
     by (refused number place) e rest = not-ready number place (offer-refused s names values lines number place e) ready
-    by (done accepted) e rest =
+    by (done u) e rest =
         let step = offer-accepted s names values lines e in
         store_of step ∙ rest (sym (said_of step) ∙ ready)
 

@@ -3,21 +3,15 @@
 use Rattle.std.specs.Prelude.{ℕ, cond, List, [], ◌∷◌, length, take, ltb}
 use Rattle.dimacs.specs.Words.{Piece}
 use Rattle.dimacs.specs.Lines.{lines_at}
-use Rattle.store.specs.Refusals.{Said, done, refused, said_refused}
+use Rattle.store.specs.Refusals.{Said, done, refused}
 use Rattle.standing.specs.Keyed.{Keyed}
 use Rattle.calls.specs.Calls.{Accepted, accepted, Dimensions, open_says, open_store, offer_says, offer_store}
 use Rattle.session.specs.Input.{max_input, from_divider}
-use Rattle.session.specs.declared.Answer.{Answer}
 
 -- how a session ends: all accepted or the first refusal, and the store as the last call left it
 pub record Ended : Type 0 where
   pub said : Said Accepted
   pub store : Keyed
-
--- what the code answers
-abbrev pub said_answer : Answer → Said Accepted
-said_answer Answer.Ready = done accepted
-said_answer (Answer.Refused r) = said_refused r
 
 abbrev pub ended : Said Accepted → Keyed → Ended
 ended said s = record { said = said; store = s }

@@ -3,82 +3,70 @@
 // each function here walks along that list.
 #![tactic(auto)]
 
-ghost use Rattle.std.specs.Prelude.{◌≡◌, true, ◌<◌, length};
+ghost use Rattle.std.specs.Prelude.{◌≡◌, true, [], ◌<◌, length, MatchOption};
 ghost use Rattle.dimacs.specs.Lines.{lines_at};
+ghost use Rattle.store.specs.Refusals.{said};
 ghost use Rattle.store.specs.Stores.{closed_record, lent};
 ghost use Rattle.standing.specs.Keyed.{keyed, well_formed, with_keys};
 ghost use Rattle.session.specs.Input.{from_divider};
-ghost use Rattle.session.specs.Session.{ended, said_answer, offer_lines, divided, session_of};
+ghost use Rattle.session.specs.Session.{ended, offer_lines, divided, session_of};
 
-use offering::Offered;
-use opening::Opened;
+use calls::Stored;
 use store::record::Record;
 use store::refusal::Refusal;
 
 pub const MAX_INPUT: usize = 65536;
 
-// All that was offered is accepted, or the first refusal.
-#[derive(Clone, Copy)]
-pub enum Answer {
-    Ready,
-    Refused(Refusal),
-}
+// The line between the formula text and the names line.
+const DIVIDER: &[u8] = b"%";
 
-// How a session ends, with the record of its store beside it.
-#[derive(Clone, Copy)]
-pub struct Session {
-    pub answer: Answer,
-    pub counts: Record,
-}
-
-// Opens and offers what an input states, in lent slices of any contents.
+// Opens and offers what an input states, in lent slices of any contents: all that was offered is accepted, or the first refusal is answered.
 pub fn run(
     input: &[u8],
     literals: &mut [u16],
     ends: &mut [u16],
     keys: &mut [u64],
     images: &mut [u16],
-) -> Session
+) -> Stored<()>
     ensures ends { let s = with_keys (lent closed_record literals.old ends.old images.old) keys.old in
         let left = with_keys (lent result.counts literals.new ends.new images.new) keys.new in
-        ended (said_answer result.answer) left ≡ session_of s input.now }
+        ended (said result.answer) left ≡ session_of s input.now }
     ensures formed { let left = with_keys (lent result.counts literals.new ends.new images.new) keys.new in
-        (result.answer ≡ Answer.Ready → well_formed left ≡ true) }
+        (result.answer ≡ Ok tt → well_formed left ≡ true) }
 {
     if MAX_INPUT < input.len() {
         return bad_input();
     }
-    let at = divider(input);
-    if input.len() <= at {
+    let Some(at) = divider(input) else {
         return bad_input();
-    }
+    };
     open_and_offer(input, at, literals, ends, keys, images)
 }
 
-fn bad_input() -> Session
-    ensures { result ≡ record { answer = Answer.Refused Refusal.BadInput; counts = closed_record } }
+fn bad_input() -> Stored<()>
+    ensures { result ≡ record { answer = Err Refusal.BadInput; counts = closed_record } }
 {
-    Session {
-        answer: Answer::Refused(Refusal::BadInput),
+    Stored {
+        answer: Err(Refusal::BadInput),
         counts: calls::new_record(),
     }
 }
 
-// The start of the first line that is just `%`, or a place at which no line starts.
-fn divider(input: &[u8]) -> usize
-    ensures { lines_at input.now result ≡ from_divider (lines_at input.now 0) }
+// The start of the first line that is just `%`.
+fn divider(input: &[u8]) -> Option<usize>
+    ensures { MatchOption result (from_divider (lines_at input.now 0) ≡ [])
+        (λ at. (at < length input.now) × (lines_at input.now at ≡ from_divider (lines_at input.now 0))) }
 {
+    // From line to line: where the next one starts is known once this one is read, so that no range counts the places.
     let mut at = 0;
     while at < input.len() {
         let end = dimacs::line_end(input, at);
-        if end == at + 1 {
-            if input[at] == b'%' {
-                return at;
-            }
+        if &input[at..end] == DIVIDER {
+            return Some(at);
         }
         at = end + 1;
     }
-    at
+    None
 }
 
 // Opens the text before the `%` line at `at`, and offers the lines after it.
@@ -89,19 +77,18 @@ fn open_and_offer(
     ends: &mut [u16],
     keys: &mut [u64],
     images: &mut [u16],
-) -> Session
+) -> Stored<()>
     requires { at < length input.now }
     ensures { let s = with_keys (lent closed_record literals.old ends.old images.old) keys.old in
         let left = with_keys (lent result.counts literals.new ends.new images.new) keys.new in
-        ended (said_answer result.answer) left ≡ divided s input.now (lines_at input.now at) }
+        ended (said result.answer) left ≡ divided s input.now (lines_at input.now at) }
 {
-    let opening = calls::open(calls::new_record(), &input[..at], literals, ends, keys);
-    let answer = opening.answer;
-    let counts = opening.counts;
-    if let Opened::Refused(refusal) = answer {
-        return Session {
-            answer: Answer::Refused(refusal),
-            counts: counts,
+    let opened = calls::open(calls::new_record(), &input[..at], literals, ends, keys);
+    let counts = opened.counts;
+    if let Err(refusal) = opened.answer {
+        return Stored {
+            answer: Err(refusal),
+            counts,
         };
     }
     offer_lines(
@@ -124,23 +111,24 @@ fn offer_lines(
     images: &mut [u16],
     input: &[u8],
     at: usize,
-) -> Session
+) -> Stored<()>
     ensures { let s = with_keys (lent counts literals.now ends.now images.old) keys.now in
         let left = with_keys (lent result.counts literals.now ends.now images.new) keys.now in
-        ended (said_answer result.answer) left ≡ offer_lines s (lines_at input.now at) }
+        ended (said result.answer) left ≡ offer_lines s (lines_at input.now at) }
 {
     if input.len() <= at {
-        return Session {
-            answer: Answer::Ready,
-            counts: counts,
+        return Stored {
+            answer: Ok(()),
+            counts,
         };
     }
     let names = dimacs::line_end(input, at);
     let mut held = counts;
+    // From line to line, as above.
     let mut from = names + 1;
     while from < input.len() {
         let to = dimacs::line_end(input, from);
-        let r = calls::offer(
+        let offered = calls::offer(
             held,
             literals,
             ends,
@@ -149,18 +137,17 @@ fn offer_lines(
             &input[at..names],
             &input[from..to],
         );
-        let answer = r.answer;
-        held = r.counts;
-        if let Offered::Refused(refusal) = answer {
-            return Session {
-                answer: Answer::Refused(refusal),
+        held = offered.counts;
+        if let Err(refusal) = offered.answer {
+            return Stored {
+                answer: Err(refusal),
                 counts: held,
             };
         }
         from = to + 1;
     }
-    Session {
-        answer: Answer::Ready,
+    Stored {
+        answer: Ok(()),
         counts: held,
     }
 }

@@ -5,25 +5,20 @@ use Rattle.standing.proofs.StandingLaws.{its-form}
 use Rattle.session.proofs.Theorem.{store_of}
 use Rattle.program.proofs.ProgramLaws.{begins-ready, begins-refused}
 use Rattle.program.proofs.begin.Goals as goal
-use Rattle.program.proofs.begin.Goals.{In-Ready, In-Refused}
+use Rattle.program.proofs.begin.Goals.{in-Ok, in-Err}
 
-abbrev S : In-Ready → Keyed
-S c = with_keys (lent closed_record c.args.literals.now c.args.ends.now c.args.images.now) c.args.keys.now
-
-pub returns-in-Ready : goal.returns-in-Ready
-returns-in-Ready c = let ready = c.in-Ready.is in
+pub returns : goal.returns
+returns c =
+    let s : Keyed = with_keys (lent closed_record c.args.literals.now c.args.ends.now c.args.images.now) c.args.keys.now in
+    let ends = c.run-ended.ensures.ends in
     record {
-      output = begins-ready (S c) _ c.args.input.now c.run-ended.result.answer c.run-ended.ensures.ends ready;
-      store = store_of c.run-ended.ensures.ends;
-      stands = its-form _ (c.run-ended.ensures.formed ready);
+      output = elim c.match-ended.branch [
+        | in-Ok w ↦ rw w.stage-is (begins-ready s _ c.args.input.now c.run-ended.result.answer ends w.in-Ok.is)
+        | in-Err w ↦ rw w.stage-is (begins-refused s _ c.args.input.now c.run-ended.result.answer ends _ w.in-Err.is)
+      ];
+      store = store_of ends;
+      stands = elim c.match-ended.branch [
+        | in-Ok w ↦ rw w.stage-is (its-form _ (c.run-ended.ensures.formed w.in-Ok.is))
+        | in-Err w ↦ rw w.stage-is tt
+      ];
     }
-
-abbrev S-at-In-Refused : In-Refused → Keyed
-S-at-In-Refused c = with_keys (lent closed_record c.args.literals.now c.args.ends.now c.args.images.now) c.args.keys.now
-
-pub returns-in-Refused : goal.returns-in-Refused
-returns-in-Refused c = record {
-  output = begins-refused (S-at-In-Refused c) _ c.args.input.now c.run-ended.result.answer c.run-ended.ensures.ends _ c.in-Refused.is;
-  store = store_of c.run-ended.ensures.ends;
-  stands = tt;
-}

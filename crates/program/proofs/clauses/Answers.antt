@@ -5,7 +5,6 @@ use lib.Seq.{length-take-le}
 use Rattle.store.specs.Stores.{Store, lent}
 use Rattle.program.proofs.ProgramLaws.{clauses-step}
 use Rattle.program.proofs.clauses.Goals as goal
-use Rattle.program.proofs.clauses.Goals.{After-next-1}
 
 pub slice_bounds-marks-end : goal.slice_bounds-marks-end
 slice_bounds-marks-end c = omega (arith, c.requires.0.1.rows.small)
@@ -17,9 +16,7 @@ pub fill-filled-requires : goal.fill-filled-requires
 fill-filled-requires c =
     (c.requires.0.0, c.requires.0.1, length-take-le _ _ (omega (arith, c.requires.0.1.rows.small)))
 
-abbrev S : After-next-1 → Store
-S c = lent c.args.counts c.args.literals.now c.args.ends.now c.args.images.now
-
 pub returns : goal.returns
 returns c =
-    clauses-step (S c) c.requires.0.0 c.args.cursor _ _ _ _ c.fill-filled.ensures.filled c.fill-filled.ensures.stands (λ none. c.fill-filled.ensures.moves c.requires.1 none)
+    let s : Store = lent c.args.counts c.args.literals.now c.args.ends.now c.args.images.now in
+    clauses-step s c.requires.0.0 c.args.cursor _ _ _ _ c.fill-filled.ensures.filled c.fill-filled.ensures.stands (λ none. c.fill-filled.ensures.moves c.requires.1 none)

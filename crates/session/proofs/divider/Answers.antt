@@ -1,33 +1,20 @@
 -- `session::divider` meets its contract. The invariant: the first line that is just `%` is among those from `at` on. Assumes nothing.
-use mathlib.Core.Path.{refl, sym, ◌∙◌}
+use mathlib.Core.Path.{sym, ◌∙◌}
 use native.Mathlib.Omega.{arith}
-use borrow.Author.Rules.{rules}
 use Rattle.dimacs.specs.Lines.{is_line_byte}
 use Rattle.dimacs.proofs.Runs.{run-within}
-use Rattle.session.proofs.DividerLaws.{divider-here, other_length, other-line, no-divider}
+use Rattle.session.proofs.DividerLaws.{divider-here, other-line, no-divider}
 use Rattle.session.proofs.divider.Goals as goal
-use Rattle.session.proofs.divider.Goals.{then-end-at+else-input-at-eq37, else-end-at}
 
-pub loop-at-init : goal.loop-at-init
-loop-at-init c = refl
+pub slice_bounds-eq-end-in-loop-at : goal.slice_bounds-eq-end-in-loop-at
+slice_bounds-eq-end-in-loop-at c = omega (arith, run-within is_line_byte c.args.input.now c.loop-at.at (omega (arith, c.loop-at-test.true)))
 
-pub returns-then-input-at-eq37 : goal.returns-then-input-at-eq37
-returns-then-input-at-eq37 c =
-    sym (c.loop-at.invariant ∙ divider-here _ c.loop-at.at (search rules) (omega arith) c.if-input-at-eq37.true)
-
-pub overflow_add-at-in-loop-at : goal.overflow_add-at-in-loop-at
-overflow_add-at-in-loop-at c =
-    omega (arith, run-within is_line_byte c.args.input.now c.loop-at.at (search rules))
+pub returns-then-eq : goal.returns-then-eq
+returns-then-eq c =
+    (c.loop-at-test.true, sym (c.loop-at.invariant ∙ divider-here _ c.loop-at.at c.loop-at-test.true _ c.line_end-end.ensures _ c.eq.ensures c.if-eq.true))
 
 pub loop-at-preserved : goal.loop-at-preserved
-loop-at-preserved c = elim c.if-end-at.branch [
-  | then-end-at+else-input-at-eq37 w ↦ c.loop-at.invariant
-      ∙ other-line _ c.loop-at.at (search rules) (sym c.line_end-end.ensures ∙ w.if-end-at.true) w.if-input-at-eq37.false
-      ∙ rw (← c.line_end-end.ensures)
-  | else-end-at w ↦ c.loop-at.invariant
-      ∙ other_length _ c.loop-at.at (search rules) (λ e. w.if-end-at.false (c.line_end-end.ensures ∙ e))
-      ∙ rw (← c.line_end-end.ensures)
-]
+loop-at-preserved c = c.loop-at.invariant ∙ other-line _ c.loop-at.at c.loop-at-test.true _ c.line_end-end.ensures _ c.eq.ensures c.if-eq.false
 
 pub returns : goal.returns
-returns c = sym (c.loop-at.invariant ∙ no-divider _ c.loop-at.at (search rules))
+returns c = c.loop-at.invariant ∙ no-divider _ c.loop-at.at (omega (arith, c.loop-at-test.false))

@@ -11,11 +11,11 @@ use Rattle.store.specs.Refusals.{said_refused}
 use Rattle.store.specs.Stores.{lent}
 use Rattle.standing.specs.Keyed.{Keyed, with_keys}
 use Rattle.store.specs.declared.refusal.Refusal.{Refusal}
-use Rattle.offering.specs.declared.Offered.{Offered}
+use Rattle.std.proofs.Common.{Ok, Err}
 use Rattle.session.specs.Session.{Ended, ended, offer_all, offer_lines}
 use Rattle.session.proofs.SessionLaws.{no_names, names-line, no-values, refused-line, accepted-line}
 use Rattle.session.proofs.offer_lines.Goals as goal
-use Rattle.session.proofs.offer_lines.Goals.{After-loop-from, In-Refused, In_default, Then-input-at}
+use Rattle.session.proofs.offer_lines.Goals.{After-loop-from, In-Err, In_default, Then-input-at}
 
 abbrev S : Then-input-at → Keyed
 S c = with_keys (lent c.args.counts c.args.literals.now c.args.ends.now c.args.images.now) c.args.keys.now
@@ -40,40 +40,40 @@ slice_bounds-offer-end-in-loop-from c =
     omega (arith, run-within is_line_byte c.args.input.now c.loop-from.from (omega arith))
 
 -- what the value lines from a place on come to, offered to a store
-abbrev From : In-Refused → Keyed → ℕ → Ended
+abbrev From : In-Err → Keyed → ℕ → Ended
 From c held from =
     let a = c.args in
     offer_all held (take (c.line_end-names.result - a.at) (drop a.at a.input.now)) (lines_at a.input.now from)
 
 -- the store at the head of the loop, and after the offer
-abbrev held : In-Refused → Keyed
+abbrev held : In-Err → Keyed
 held c = with_keys (lent c.loop-from.held c.args.literals.now c.args.ends.now c.loop-from.images) c.args.keys.now
 
-abbrev left : In-Refused → Keyed
+abbrev left : In-Err → Keyed
 left c =
     let a = c.args in
-    with_keys (lent c.offer-r.result.counts a.literals.now a.ends.now c.offer-r.new.images) a.keys.now
+    with_keys (lent c.offer-offered.result.counts a.literals.now a.ends.now c.offer-offered.new.images) a.keys.now
 
 -- the offer of the line at `from`, refused and accepted
-turned : (c : In-Refused) (refusal : Refusal) → c.offer-r.result.answer ≡ Offered.Refused refusal
+turned : (c : In-Err) (refusal : Refusal) → c.offer-offered.result.answer ≡ Err refusal
     → From c (held c) c.loop-from.from ≡ ended (said_refused refusal) (left c)
 turned c refusal q =
     let law = refused-line (held c) _ _ c.loop-from.from c.loop-from-test.true _ c.line_end-to.ensures in
-    law _ (left c) c.offer-r.ensures.says c.offer-r.ensures.leaves refusal q
+    law _ (left c) c.offer-offered.ensures.says c.offer-offered.ensures.leaves refusal q
 
-abbrev S-at-In-Refused : In-Refused → Keyed
-S-at-In-Refused c = with_keys (lent c.args.counts c.args.literals.now c.args.ends.now c.args.images.now) c.args.keys.now
+abbrev S-at-In-Err : In-Err → Keyed
+S-at-In-Err c = with_keys (lent c.args.counts c.args.literals.now c.args.ends.now c.args.images.now) c.args.keys.now
 
 -- the whole is what the loop has still to offer
-whole : (c : In-Refused)
-    → offer_lines (S-at-In-Refused c) (lines_at c.args.input.now c.args.at) ≡ From c (held c) c.loop-from.from
+whole : (c : In-Err)
+    → offer_lines (S-at-In-Err c) (lines_at c.args.input.now c.args.at) ≡ From c (held c) c.loop-from.from
 whole c =
     let a = c.args in
-    names-line (S-at-In-Refused c) a.input.now a.at c.if-input-at.false _ c.line_end-names.ensures ∙ c.loop-from.invariant.0
+    names-line (S-at-In-Err c) a.input.now a.at c.if-input-at.false _ c.line_end-names.ensures ∙ c.loop-from.invariant.0
 
-pub returns-in-Refused : goal.returns-in-Refused
-returns-in-Refused c =
-    sym (whole c ∙ turned c _ c.in-Refused.is)
+pub returns-in-Err : goal.returns-in-Err
+returns-in-Err c =
+    sym (whole c ∙ turned c _ c.in-Err.is)
 
 pub overflow_add-from-in-loop-from : goal.overflow_add-from-in-loop-from
 overflow_add-from-in-loop-from c =
@@ -92,13 +92,13 @@ held-at-In_default c = with_keys (lent c.loop-from.held c.args.literals.now c.ar
 abbrev left-at-In_default : In_default → Keyed
 left-at-In_default c =
     let a = c.args in
-    with_keys (lent c.offer-r.result.counts a.literals.now a.ends.now c.offer-r.new.images) a.keys.now
+    with_keys (lent c.offer-offered.result.counts a.literals.now a.ends.now c.offer-offered.new.images) a.keys.now
 
-taken : (c : In_default) → c.offer-r.result.answer ≡ Offered.Accepted
+taken : (c : In_default) → c.offer-offered.result.answer ≡ Ok tt
     → From-at-In_default c (held-at-In_default c) c.loop-from.from ≡ From-at-In_default c (left-at-In_default c) (c.line_end-to.result + 1)
 taken c q =
     let law = accepted-line (held-at-In_default c) _ _ c.loop-from.from c.loop-from-test.true _ c.line_end-to.ensures in
-    law _ (left-at-In_default c) c.offer-r.ensures.says c.offer-r.ensures.leaves q
+    law _ (left-at-In_default c) c.offer-offered.ensures.says c.offer-offered.ensures.leaves q
 
 pub loop-from-preserved : goal.loop-from-preserved
 loop-from-preserved c =

@@ -11,10 +11,10 @@ pub slice_bounds-open-end : goal.slice_bounds-open-end
 slice_bounds-open-end c =
     sym (length-take-le c.args.at c.args.input.now (omega (arith, c.requires)))
 
-pub returns-in-Refused : goal.returns-in-Refused
-returns-in-Refused c =
+pub returns-in-Err : goal.returns-in-Err
+returns-in-Err c =
     let law = refused-opening _ _ _ c.args.images.now _ c.args.at c.requires _ c.new_record.ensures in
-    sym (law _ _ _ _ _ c.open-opening.ensures.says c.open-opening.ensures.leaves _ c.in-Refused.is)
+    sym (law _ _ _ _ _ c.open-opened.ensures.says c.open-opened.ensures.leaves _ c.in-Err.is)
 
 pub overflow_add-line_end : goal.overflow_add-line_end
 overflow_add-line_end c =
@@ -24,4 +24,4 @@ pub returns : goal.returns
 returns c =
     let law = opened _ _ _ c.args.images.now _ c.args.at c.requires _ c.new_record.ensures in
     c.offer_lines.ensures
-    ∙ sym (law _ _ _ _ _ c.open-opening.ensures.says c.open-opening.ensures.leaves _ _ c.in_default.is _ (omega (arith, c.line_end.ensures)))
+    ∙ sym (law _ _ _ _ _ c.open-opened.ensures.says c.open-opened.ensures.leaves _ c.in_default.is _ (omega (arith, c.line_end.ensures)))

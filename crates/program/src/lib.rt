@@ -2,16 +2,19 @@
 // next part of the output into a buffer. The program itself only reads, calls these and writes.
 #![tactic(auto)]
 
-ghost use Rattle.std.specs.Prelude.{◌≡◌, ◌≤◌, length};
-ghost use Rattle.store.specs.Stores.{Store, stored, closed_record, lent};
+ghost use Rattle.std.specs.Prelude.{◌≡◌, true, ◌≤◌, length};
+ghost use Rattle.store.specs.Held.{store_of};
+ghost use Rattle.store.specs.Stores.{Store, stored, is_formed, closed_record, lent};
 ghost use Rattle.standing.specs.Keyed.{keyed, with_keys};
 ghost use Rattle.emit.specs.Emit.{max_line};
 ghost use Rattle.session.specs.Session.{session_of};
 ghost use Rattle.program.specs.Program.{output_of, left_to_print, StageStands, PageStep};
 
 use cursor::Cursor;
+use store::form::Formed;
 use store::record::Record;
 use store::refusal::Refusal;
+use store::rows::Rows;
 
 // What comes next: the line of a refusal, the header, the clauses from a cursor on, or nothing.
 #[derive(Clone, Copy)]
@@ -76,12 +79,24 @@ pub fn page(
 {
     match stage {
         Stage::Refused(refusal) => refused(refusal, out),
-        Stage::Header => header(counts, literals, ends, images, out),
-        Stage::Clauses(cursor) => clauses(counts, literals, ends, images, cursor, out),
+        Stage::Header => header(formed(counts, literals, ends, images), out),
+        Stage::Clauses(cursor) => clauses(formed(counts, literals, ends, images), cursor, out),
         Stage::Over => Printed {
             bytes: 0,
             stage: Stage::Over,
         },
+    }
+}
+
+// A store that is known to have its form.
+fn formed<'a>(counts: Record, literals: &'a [u16], ends: &'a [u16], images: &'a [u16]) -> Formed<'a>
+    requires { is_formed (stored counts literals ends images) ≡ true }
+    ensures { store_of result ≡ stored counts literals.entry ends.entry images.entry }
+{
+    Formed {
+        rows: Rows { counts, images },
+        literals,
+        ends,
     }
 }
 
@@ -99,16 +114,15 @@ fn refused(refusal: Refusal, out: &mut [u8]) -> Printed
 }
 
 // The header's page.
-fn header(counts: Record, literals: &[u16], ends: &[u16], images: &[u16], out: &mut [u8]) -> Printed
-    requires { StageStands Stage.Header (stored counts literals ends images) × (max_line ≤ length out.old) }
-    ensures { let s = stored counts literals.entry ends.entry images.entry in
-        PageStep s Stage.Header out.old result.stage result.bytes out.new }
+fn header(s: Formed, out: &mut [u8]) -> Printed
+    requires { max_line ≤ length out.old }
+    ensures { PageStep (store_of s.entry) Stage.Header out.old result.stage result.bytes out.new }
 {
-    let total = lexleader::counting::totals_of(counts, images);
+    let total = lexleader::counting::totals_of(s.rows);
     let bytes = render::put_header(out, 0, total.variables as u64, total.clauses as u64);
     let mut marks = [false; Record::MAX_VARIABLES];
-    let n = counts.variables;
-    let first = cursor::start(counts, images, &mut marks[..n]);
+    let n = s.rows.counts.variables;
+    let first = cursor::start(s.rows, &mut marks[..n]);
     Printed {
         bytes,
         stage: Stage::Clauses(first),
@@ -116,21 +130,13 @@ fn header(counts: Record, literals: &[u16], ends: &[u16], images: &[u16], out: &
 }
 
 // A page of clauses.
-fn clauses(
-    counts: Record,
-    literals: &[u16],
-    ends: &[u16],
-    images: &[u16],
-    cursor: Cursor,
-    out: &mut [u8],
-) -> Printed
-    requires { StageStands (Stage.Clauses cursor) (stored counts literals ends images) × (max_line ≤ length out.old) }
-    ensures { let s = stored counts literals.entry ends.entry images.entry in
-        PageStep s (Stage.Clauses cursor) out.old result.stage result.bytes out.new }
+fn clauses(s: Formed, cursor: Cursor, out: &mut [u8]) -> Printed
+    requires { StageStands (Stage.Clauses cursor) (store_of s) × (max_line ≤ length out.old) }
+    ensures { PageStep (store_of s.entry) (Stage.Clauses cursor) out.old result.stage result.bytes out.new }
 {
     let mut marks = [false; Record::MAX_VARIABLES];
-    let n = counts.variables;
-    let filled = pages::fill(counts, literals, ends, images, cursor, &mut marks[..n], out);
+    let n = s.rows.counts.variables;
+    let filled = pages::fill(s, cursor, &mut marks[..n], out);
     Printed {
         bytes: filled.bytes,
         stage: Stage::Clauses(filled.cursor),

@@ -1,42 +1,30 @@
 -- `program::page` meets its contract, stage by stage. Assumes nothing.
-use mathlib.Core.Path.{subst}
-use Rattle.store.specs.Stores.{Store, lent}
+use mathlib.Core.Path.{sym, subst}
+use Rattle.store.specs.Stores.{Store, stored}
 use Rattle.program.specs.Program.{StageStands}
 use Rattle.program.specs.declared.Stage.{Stage}
 use Rattle.program.proofs.ProgramLaws.{at_stage, over-step}
 use Rattle.program.proofs.page.Goals as goal
-use Rattle.program.proofs.page.Goals.{After-clauses-arg-1, After-header-arg-1, After-slice_known-in-Refused-1, In-Over}
 
-abbrev S : After-header-arg-1 → Store
-S c = lent c.args.counts c.args.literals.now c.args.ends.now c.args.images.now
+pub formed-requires : goal.formed-requires
+formed-requires c = subst (λ (stage : Stage). StageStands stage (stored c.args.counts c.args.literals c.args.ends c.args.images)) c.in-Header.is c.requires.0
 
-pub header-requires : goal.header-requires
-header-requires c =
-    (subst (λ (stage : Stage). StageStands stage (S c)) c.in-Header.is c.requires.0, c.requires.1)
-
-abbrev S-at-After-clauses-arg-1 : After-clauses-arg-1 → Store
-S-at-After-clauses-arg-1 c = lent c.args.counts c.args.literals.now c.args.ends.now c.args.images.now
+pub formed-requires-in-Clauses : goal.formed-requires-in-Clauses
+formed-requires-in-Clauses c = (subst (λ (stage : Stage). StageStands stage (stored c.args.counts c.args.literals c.args.ends c.args.images)) c.in-Clauses.is c.requires.0).0
 
 pub clauses-requires : goal.clauses-requires
 clauses-requires c =
-    (subst (λ (stage : Stage). StageStands stage (S-at-After-clauses-arg-1 c)) c.in-Clauses.is c.requires.0, c.requires.1)
-
-abbrev S-at-After-slice_known-in-Refused-1 : After-slice_known-in-Refused-1 → Store
-S-at-After-slice_known-in-Refused-1 c = lent c.args.counts c.args.literals.now c.args.ends.now c.args.images.now
+    let held = stored c.args.counts c.args.literals c.args.ends c.args.images in
+    (subst (λ (s : Store). StageStands (Stage.Clauses c.in-Clauses.cursor) s) (sym c.formed-in-Clauses.ensures) (subst (λ (stage : Stage). StageStands stage held) c.in-Clauses.is c.requires.0), c.requires.1)
 
 pub returns-in-Refused : goal.returns-in-Refused
-returns-in-Refused c =
-    at_stage c.in-Refused.is (c.refused.ensures (S-at-After-slice_known-in-Refused-1 c))
+returns-in-Refused c = at_stage c.in-Refused.is (c.refused.ensures (stored c.args.counts c.args.literals c.args.ends c.args.images))
 
 pub returns-in-Header : goal.returns-in-Header
-returns-in-Header c = at_stage c.in-Header.is c.header.ensures
+returns-in-Header c = at_stage c.in-Header.is (rw c.formed.ensures at c.header.ensures)
 
 pub returns-in-Clauses : goal.returns-in-Clauses
-returns-in-Clauses c = at_stage c.in-Clauses.is c.clauses.ensures
-
-abbrev S-at-In-Over : In-Over → Store
-S-at-In-Over c = lent c.args.counts c.args.literals.now c.args.ends.now c.args.images.now
+returns-in-Clauses c = at_stage c.in-Clauses.is (rw c.formed-in-Clauses.ensures at c.clauses.ensures)
 
 pub returns-in-Over : goal.returns-in-Over
-returns-in-Over c =
-    at_stage c.in-Over.is (over-step (S-at-In-Over c) c.args.out.now)
+returns-in-Over c = at_stage c.in-Over.is (over-step (stored c.args.counts c.args.literals c.args.ends c.args.images) c.args.out.now)

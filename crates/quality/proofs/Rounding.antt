@@ -4,7 +4,7 @@ use mathlib.Core.Path.{◌≡◌, sym, subst}
 use mathlib.Core.Logic.{◌⊎◌, inl, inr}
 use Prim.Native.Nat.{ℕ, ◌+◌, ◌-◌, ◌*◌, ◌/◌, ◌%◌, ◌≤◌, ◌<◌}
 use borrow.Author.Tests.{lt-ltb, le-ltb, eq-eqb, ne_eqb}
-use native.Mathlib.Nat.{div-add-mod', mod-lt, add-mul, mul-le-mul_right}
+use native.Mathlib.Nat.{div-add-mod', div-lt_self, mod-le, mod-lt, add-mul, mul-le-mul_right}
 use native.Mathlib.Omega.{arith}
 use Rattle.lists.proofs.Cases.{lt-or-le}
 use Rattle.quality.specs.Rounding.{nearest_of, distance, Nearest}
@@ -25,6 +25,10 @@ module _ (x y : ℕ) where
   rounds-up h = rw (le-ltb (2 * (x % y)) y (omega (arith, h)), ne_eqb (2 * (x % y)) y (λ e. omega (arith, h, e)))
 
   module _ (positive : 0 < y) where
+    -- where it may go up, the next number is at most x
+    pub room-above : y ≤ 2 * (x % y) → x / y < x
+    room-above h = div-lt_self (omega (arith, positive, h, mod-le x y)) (omega (arith, positive, h, mod-lt x positive))
+
     -- ---- the nearest
 
     below : nearest_of x y ≡ x / y → 2 * (x % y) ≤ y → (2 * (x % y) ≡ y → x / y % 2 ≡ 0) → Nearest x y (nearest_of x y)

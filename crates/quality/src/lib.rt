@@ -5,8 +5,6 @@ ghost use Rattle.std.specs.Prelude.{◌≡◌, true, ◌<◌, ◌≤◌};
 ghost use Rattle.quality.specs.Rounding.{nearest_of};
 ghost use Rattle.quality.specs.Efficiency.{max_labelled, has_efficiency, efficiency_of};
 
-use std::cmp::Ordering;
-
 // The most labelled solutions that the figure is given for.
 pub const MAX_LABELLED: u64 = 1000000000000;
 
@@ -28,7 +26,8 @@ pub fn efficiency(labelled: u64, unlabelled: u64, allowed: u64) -> u64
     nearest(10000 * (labelled - allowed), labelled - unlabelled)
 }
 
-// x / y to the nearest whole number, an exact half to the even one.
+// x / y to the nearest whole number, an exact half to the even one. Two tests and no match on an order, which takes a quarter more
+// instructions for an efficiency.
 fn nearest(x: u64, y: u64) -> u64
     requires y_nonzero { 0 < y }
     requires y_le_max_labelled { y ≤ max_labelled }
@@ -36,9 +35,11 @@ fn nearest(x: u64, y: u64) -> u64
 {
     let below = x / y;
     let twice = 2 * (x % y);
-    match twice.cmp(&y) {
-        Ordering::Less => below,
-        Ordering::Equal => below + below % 2,
-        Ordering::Greater => below + 1,
+    if twice < y {
+        return below;
     }
+    if twice == y {
+        return below + below % 2;
+    }
+    below + 1
 }

@@ -6,10 +6,11 @@ use Rattle.lists.proofs.Cases.{and_l, and_r, and_both, lt-or-le, eq-or-ne}
 use Rattle.lists.proofs.Members.{has-head, has_other, has-again}
 use Rattle.numbers.specs.Numbers.{numbers, number_count}
 use Rattle.store.specs.Literals.{is_literal}
-use Rattle.store.specs.Stores.{clause_at, clauses_in, FormedFormula, max_variables}
-use Rattle.store.proofs.Cuts.{clause-is}
+use Rattle.store.specs.Held.{formula_of}
+use Rattle.store.specs.Stores.{clause_at, max_variables}
+use Rattle.store.specs.declared.clauses.Clauses.{Clauses}
 use Rattle.store.proofs.FormLaws.{literal-low, literal-high, literal-within}
-use Rattle.store.proofs.Within.{clause-good}
+use Rattle.store.proofs.Held.{its-clause, its-literals}
 use Rattle.keys.specs.Keys.{key_by, key_of}
 use Rattle.keys.specs.Marks.{Below, Marked, Places, OwnPlaces, sent_clause}
 use Rattle.keys.proofs.KeyLaws.{Hand, hand-rest}
@@ -93,7 +94,6 @@ module _ (own : List ℕ) (places : OwnPlaces own) where
   own_key table clause other is good e = rw (is, sent-own clause good, e)
 
 -- what is summed of clause c of a store is the key of clause c of its formula
-pub clause_key : (own table literals ends : List ℕ) (m c : ℕ) → OwnPlaces own → table ≡ numbers → FormedFormula max_variables m literals ends → c < m
-    → key_by table (sent_clause own (clause_at literals ends c)) ≡ key_of (get_or (clauses_in m literals ends) c [])
-clause_key own table literals ends m c places is f h =
-    own_key own places table _ _ is (clause-good max_variables m literals ends f c h) (clause-is literals ends m c f.clauses.known h)
+pub clause_key : (own table : List ℕ) (s : Clauses) (c : ℕ) → OwnPlaces own → table ≡ numbers → c < s.count
+    → key_by table (sent_clause own (clause_at s.literals.now s.ends.now c)) ≡ key_of (get_or (formula_of s) c [])
+clause_key own table s c places is h = own_key own places table _ _ is (its-literals s c h) (its-clause s c h)

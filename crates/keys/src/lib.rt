@@ -8,44 +8,39 @@ ghost use Rattle.std.specs.Prelude.{◌≡◌, ◌+◌, ◌-◌, ◌<◌, ◌≤
 ghost use Rattle.lists.specs.Tests.{all_of};
 ghost use Rattle.lists.specs.Writing.{overwritten};
 ghost use Rattle.store.specs.Literals.{is_literal};
-ghost use Rattle.store.specs.Stores.{clause_at, clauses_in, FormedFormula, max_variables};
+ghost use Rattle.store.specs.Held.{formula_of};
+ghost use Rattle.store.specs.Stores.{clause_at, max_variables};
 ghost use Rattle.numbers.specs.Numbers.{numbers, number_count};
 ghost use Rattle.keys.specs.Keys.{key_by, keys_of, right_keys};
 ghost use Rattle.keys.specs.Marks.{Below, Marked, Places, OwnPlaces, sent_to, sent_clause};
 
-use store::clauses;
+use store::clauses::Clauses;
 
-// Writes the keys of m clauses at the start of a slice.
-pub fn write(literals: &[u16], ends: &[u16], m: usize, keys: &mut [u64])
-    requires { FormedFormula max_variables m literals.now ends.now × (m ≤ length keys.old) }
-    ensures { keys.new ≡ overwritten (keys_of (clauses_in m literals.now ends.now)) keys.old }
+// Writes the keys of the clauses at the start of a slice.
+pub fn write(clauses: Clauses, keys: &mut [u64])
+    requires { clauses.count ≤ length keys.old }
+    ensures { keys.new ≡ overwritten (keys_of (formula_of clauses.entry)) keys.old }
 {
     let table = numbers::numbers();
     let own = own_places();
     let mut marks = [0u16; numbers::COUNT];
-    for c in 0..m {
-        keys[c] = key_at(literals, ends, m, c, &own, &table, &mut marks);
+    for c in 0..clauses.count {
+        keys[c] = key_at(clauses, c, &own, &table, &mut marks);
     }
 }
 
-// Whether the keys of m clauses are right, by the table of the numbers: no slice too short, and no key that isn't its clause's.
-pub fn are_right(
-    literals: &[u16],
-    ends: &[u16],
-    m: usize,
-    keys: &[u64],
-    table: &[u64; numbers::COUNT],
-) -> bool
-    requires { FormedFormula max_variables m literals.now ends.now × (table.now ≡ numbers) }
-    ensures { result ≡ right_keys (clauses_in m literals.now ends.now) keys.now }
+// Whether the keys of the clauses are right, by the table of the numbers: no slice too short, and no key that isn't its clause's.
+pub fn are_right(clauses: Clauses, keys: &[u64], table: &[u64; numbers::COUNT]) -> bool
+    requires { table.now ≡ numbers }
+    ensures { result ≡ right_keys (formula_of clauses.entry) keys.now }
 {
-    if keys.len() < m {
+    if keys.len() < clauses.count {
         return false;
     }
     let own = own_places();
     let mut marks = [0u16; numbers::COUNT];
-    for (c, key) in keys[..m].iter().enumerate() {
-        if *key != key_at(literals, ends, m, c, &own, table, &mut marks) {
+    for (c, key) in keys[..clauses.count].iter().enumerate() {
+        if *key != key_at(clauses, c, &own, table, &mut marks) {
             return false;
         }
     }
@@ -63,30 +58,22 @@ fn own_places() -> [u16; numbers::COUNT]
     own
 }
 
-// The key, by a table of numbers, of what clause c, from 0, of m is sent to, whose literals are then marked with the clause's number. The clauses come in rising order.
+// The key, by a table of numbers, of what clause c, from 0, is sent to, whose literals are then marked with the clause's number. The clauses come in rising order.
 pub fn key_at(
-    literals: &[u16],
-    ends: &[u16],
-    m: usize,
+    clauses: Clauses,
     c: usize,
     places: &[u16; numbers::COUNT],
     table: &[u64; numbers::COUNT],
     marks: &mut [u16],
 ) -> u64
-    requires { FormedFormula max_variables m literals.now ends.now × (c < m) × Places places.now × Below (c + 1) marks.old }
-    ensures key { let sent = sent_clause places.now (clause_at literals.now ends.now c) in
+    requires { (c < clauses.count) × Places places.now × Below (c + 1) marks.old }
+    ensures key { let clauses = clauses.entry in let sent = sent_clause places.now (clause_at clauses.literals.now clauses.ends.now c) in
         result ≡ key_by table.now sent }
-    ensures marked { let sent = sent_clause places.now (clause_at literals.now ends.now c) in
+    ensures marked { let clauses = clauses.entry in let sent = sent_clause places.now (clause_at clauses.literals.now clauses.ends.now c) in
         Marked (c + 1) sent marks.new }
     ensures below { Below (c + 2) marks.new }
 {
-    key(
-        clauses::clause(literals, ends, m, c),
-        places,
-        table,
-        marks,
-        (c + 1) as u16,
-    )
+    key(clauses.clause(c), places, table, marks, (c + 1) as u16)
 }
 
 // The key of what a clause is sent to, by a table of numbers. What it is sent to is marked with a mark above all others.

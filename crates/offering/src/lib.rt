@@ -8,15 +8,18 @@ ghost use Rattle.numbers.specs.Numbers.{numbers};
 ghost use Rattle.keys.specs.Keys.{right_keys};
 ghost use Rattle.offering.specs.Offering.{offered_by, images_after, row_for};
 
+use store::clauses::Clauses;
 use store::record::Record;
 use store::refusal::Refusal;
+use store::row::Row;
+use symmetry::keyed::KeyedClauses;
 
 // Tries an offer on a well-formed store that is not full, and appends its row to the images if it is accepted. The table is that of the literals' numbers.
-pub fn offer(
+pub fn offer<'a>(
     counts: Record,
-    literals: &[u16],
-    ends: &[u16],
-    keys: &[u64],
+    literals: &'a [u16],
+    ends: &'a [u16],
+    keys: &'a [u64],
     images: &mut [u16],
     names: &[u8],
     values: &[u8],
@@ -33,24 +36,23 @@ pub fn offer(
     let rows = counts.rows;
     let mut row = [0u16; Record::MAX_VARIABLES];
     permutation::state(names, values, n, &mut row)?;
-    let row = &row[..n];
-    if store::rows::moves_nothing(row) {
+    let row = Row { images: &row[..n] };
+    if store::rows::moves_nothing(row.images) {
         return Err(Refusal::MovesNothing);
     }
-    if let Some(missing) = symmetry::first_missing(
+    let clauses = Clauses {
         literals,
         ends,
-        keys,
-        counts.clauses,
-        row,
-        table,
-    ) {
+        count: counts.clauses,
+    };
+    let keyed = KeyedClauses { clauses, keys };
+    if let Some(missing) = symmetry::first_missing(keyed, row, table) {
         return Err(Refusal::NoSymmetry(missing));
     }
     let needed = (rows + 1) * n;
     if images.len() < needed {
         return Err(Refusal::TooShort(needed));
     }
-    store::rows::append(images, n, rows, row);
+    store::rows::append(images, n, rows, row.images);
     Ok(())
 }

@@ -15,6 +15,7 @@ ghost use Rattle.opening.specs.Clauses.{scan_from, literals_in, ends_from};
 ghost use Rattle.opening.specs.Opening.{body_of, formula_of, opened_by, written};
 
 use dimacs::Number;
+use store::clauses::Clauses;
 use store::literal;
 use store::record::Record;
 use store::refusal::Refusal;
@@ -60,7 +61,12 @@ pub fn open(
         return Err(Refusal::TooShort(m));
     }
     fill(text, problem.end, literals, ends);
-    keys::write(literals, ends, m, keys);
+    let clauses = Clauses {
+        literals,
+        ends,
+        count: m,
+    };
+    keys::write(clauses, keys);
     Ok(problem.sizes)
 }
 

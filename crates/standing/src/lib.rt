@@ -46,7 +46,7 @@ pub fn admit_by<'a>(s: &Lent<'a>, table: &[u64; numbers::COUNT]) -> Result<Forme
     let Some(store) = Formed::new(s.counts, s.literals, s.ends, s.images) else {
         return Err(Refusal::BadlyFormed);
     };
-    if !keys::are_right(s.literals, s.ends, s.counts.clauses, s.keys, table) {
+    if !keys::are_right(store.clauses(), s.keys, table) {
         return Err(Refusal::BadlyFormed);
     }
     Ok(store)

@@ -5,6 +5,7 @@ pub mod Demands
 pub mod Formed
 pub mod Cuts
 pub mod Within
+pub mod Held
 pub mod RowChanges
 pub mod Identity
 pub mod Examples

@@ -9,11 +9,11 @@ use lib.Seq.{slice, get_or-take, get_or-drop, length-slice}
 use Rattle.lists.specs.Tests.{all_of}
 use Rattle.lists.proofs.Members.{all-at, all_in}
 use Rattle.store.specs.Literals.{is_literal}
-use Rattle.store.specs.Stores.{Store, literal_count, clause_at, clauses_in, plain_of, FormedFormula}
+use Rattle.store.specs.Stores.{Store, literal_count, clause_at, clauses_in, plain_of, is_formed, max_variables, FormedFormula}
 use Rattle.store.proofs.FormLaws.{literal-within, literal-low, literal-high}
 use Rattle.store.proofs.Demands.{used}
 use Rattle.store.proofs.Cuts.{clauses-count, clause-is, end_is}
-use Rattle.store.proofs.Formed.{Formed, formed-clauses}
+use Rattle.store.proofs.Formed.{Formed, formed, formed-clauses}
 
 module _ (s : Store) (formed : Formed s) where
   clause-within : (c : ℕ) → c < s.counts.clauses → all_of (is_literal s.counts.variables) (clause_at s.literals s.ends c) ≡ true
@@ -59,3 +59,7 @@ formula-within n k m literals ends h f = record {
       let good = all-at (is_literal n) clause 0 (all-at (all_of (is_literal n)) (clauses_in m literals ends) [] f.literals-good c l) i g in
       literal-within k (get_or clause i 0) (literal-low n _ good) (omega (arith, literal-high n _ good))));
 }
+
+-- so that a well formed store has clauses of such variables as there may be
+pub store-formula : (s : Store) → is_formed s ≡ true → FormedFormula max_variables s.counts.clauses s.literals s.ends
+store-formula s e = let f = formed s e in formula-within s.counts.variables max_variables s.counts.clauses s.literals s.ends f.variables-fit (formed-formula s f)

@@ -1,6 +1,25 @@
 // The clauses of a store: ranges of the literals slice, each up to its end.
 ghost use Rattle.std.specs.Prelude.{◌≡◌, ◌≤◌, ◌<◌, length};
-ghost use Rattle.store.specs.Stores.{literal_count, clause_at, FormedClauses};
+ghost use Rattle.store.specs.Stores.{literal_count, clause_at, FormedClauses, FormedFormula, max_variables};
+
+// The clauses of a well-formed store, as many as `count`.
+#[derive(Clone, Copy)]
+pub struct Clauses<'a> {
+    pub literals: &'a [u16],
+    pub ends: &'a [u16],
+    pub count: usize,
+    pub ghost formed: { FormedFormula max_variables count literals.now ends.now },
+}
+
+impl<'a> Clauses<'a> {
+    // Clause c, from 0.
+    pub fn clause(self, c: usize) -> &'a [u16]
+        requires { c < self.count }
+        ensures { result.now ≡ clause_at self.entry.literals.now self.entry.ends.now c }
+    {
+        clause(self.literals, self.ends, self.count, c)
+    }
+}
 
 // The count of literals in use by m clauses.
 pub fn literal_count(ends: &[u16], m: usize) -> usize

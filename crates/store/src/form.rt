@@ -4,8 +4,9 @@
 ghost use Rattle.std.specs.Prelude.{◌≡◌, ◌*◌, ◌≤◌, ◌<◌, true, false, length, MatchOption};
 ghost use Rattle.lists.specs.Tests.{all_of};
 ghost use Rattle.store.specs.Literals.{is_literal};
-ghost use Rattle.store.specs.Stores.{stored, is_formed, rising, is_row, rows_of, clause_at, max_variables};
+ghost use Rattle.store.specs.Stores.{stored, is_formed, rising, is_row, rows_of, clause_at, clauses_in, max_variables};
 
+use crate::clauses::Clauses;
 use crate::record::Record;
 use crate::rows::Rows;
 use crate::{clauses, literal, rows};
@@ -38,6 +39,18 @@ impl<'a> Formed<'a> {
             literals,
             ends,
         })
+    }
+
+    // Its clauses alone.
+    pub fn clauses(self) -> Clauses<'a>
+        ensures { clauses_in result.count result.literals.now result.ends.now
+            ≡ clauses_in self.entry.rows.counts.clauses self.entry.literals.now self.entry.ends.now }
+    {
+        Clauses {
+            literals: self.literals,
+            ends: self.ends,
+            count: self.rows.counts.clauses,
+        }
     }
 
     // Clause c, from 0.

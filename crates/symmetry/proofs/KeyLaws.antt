@@ -13,19 +13,20 @@ use Rattle.lists.proofs.Cases.{bool-ext, not_so, and_l, and_r, lt-or-le}
 use Rattle.lists.proofs.Members.{all-has}
 use Rattle.store.specs.Literals.{is_literal}
 use Rattle.store.specs.Stores.{clause_at, max_variables}
-use Rattle.store.proofs.Cuts.{clauses-count, clause-is}
+use Rattle.store.proofs.Held.{formula-length, its-clause}
 use Rattle.store.proofs.FormLaws.{literal-low}
 use Rattle.numbers.specs.Numbers.{numbers}
 use Rattle.keys.specs.Keys.{key_of}
 use Rattle.keys.specs.Marks.{Marked, sent_clause}
 use Rattle.keys.proofs.KeyLaws.{same_key}
 use Rattle.keys.proofs.Counts.{whole}
-use Rattle.keys.proofs.RightLaws.{right-at}
+use Rattle.keys.proofs.RightLaws.{right-at, right-long}
 use Rattle.symmetry.specs.Sets.{within, same_set}
 use Rattle.symmetry.specs.Sought.{Sought}
 use Rattle.symmetry.specs.Symmetry.{clause_image}
-use Rattle.symmetry.specs.Fitting.{RightClauses, ImagePlaces}
+use Rattle.symmetry.specs.Fitting.{ImagePlaces}
 use Rattle.symmetry.specs.Index.{bucket_count, bucket_of}
+use Rattle.symmetry.specs.declared.keyed.KeyedClauses.{KeyedClauses}
 use Rattle.symmetry.proofs.SetLaws.{has-iff, same_set-iff}
 
 -- "proved equal for equal sets" (document 01, "Forms and where they belong"), order and repeats notwithstanding
@@ -85,8 +86,10 @@ sent-image row table t (code ∷ clause) e =
 pub bucket-low : (key : ℕ) → bucket_of key < bucket_count
 bucket-low key = omega arith
 
--- the key stored for a clause is its own
-pub stored-key : (m : ℕ) (literals ends keys : List ℕ) → RightClauses m literals ends keys → (c : ℕ) → c < m → get_or keys c 0 ≡ key_of (clause_at literals ends c)
-stored-key m literals ends keys f c h =
-    right-at _ _ f.keys-right c (omega (arith, clauses-count literals ends m f.formula.clauses.known))
-    ∙ ap key_of (clause-is literals ends m c f.formula.clauses.known h)
+-- each clause has a key, and it is its own
+module _ (k : KeyedClauses) where
+  pub keys-long : k.clauses.count ≤ length k.keys.now
+  keys-long = omega (arith, right-long _ _ k.right, formula-length k.clauses)
+
+  pub stored-key : (c : ℕ) → c < k.clauses.count → get_or k.keys.now c 0 ≡ key_of (clause_at k.clauses.literals.now k.clauses.ends.now c)
+  stored-key c h = right-at _ _ k.right c (omega (arith, formula-length k.clauses)) ∙ ap key_of (its-clause k.clauses c h)

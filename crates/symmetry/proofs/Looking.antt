@@ -10,13 +10,14 @@ use lib.Dec.{eqb}
 use Rattle.buckets.proofs.Index.{last-most, next-below}
 use Rattle.buckets.proofs.Walks.{Walk, begin, go_on, hit, end}
 use Rattle.lists.specs.Tests.{any_of}
-use Rattle.store.specs.Stores.{clause_at, clauses_in}
-use Rattle.store.proofs.Cuts.{clauses-count, clause-is}
+use Rattle.store.specs.Held.{formula_of}
+use Rattle.store.specs.Stores.{clause_at}
+use Rattle.store.proofs.Held.{formula-length, its-clause}
 use Rattle.keys.specs.Keys.{key_of, right_keys}
-use Rattle.keys.proofs.RightLaws.{right-at, right-long}
+use Rattle.keys.proofs.RightLaws.{right-at}
 use Rattle.symmetry.specs.Sets.{same_set}
-use Rattle.symmetry.specs.Fitting.{RightClauses}
 use Rattle.symmetry.specs.Index.{bucket_count, bucket_of, clause_bucket, Indexed}
+use Rattle.symmetry.specs.declared.index.Index.{Index}
 use Rattle.symmetry.proofs.KeyLaws.{same_keys, other_keys, bucket-low}
 
 module _ (image : List ℕ) (formula : List (List ℕ)) (keys : List ℕ) where
@@ -67,37 +68,40 @@ module _ (k : ℕ) (keys heads nexts : List ℕ) (index : Indexed k keys heads n
       go true = h
       go false = omega (arith, next-within first c e h)
 
--- ---- the same for the clauses of a store
+-- ---- the same by the code's index
 
-module _ (m : ℕ) (literals ends keys heads nexts : List ℕ) (f : RightClauses m literals ends keys) (index : Indexed m keys heads nexts) where
+module _ (x : Index) where
   abbrev formula : List (List ℕ)
-  formula = clauses_in m literals ends
+  formula = formula_of x.keyed.clauses
 
-  of-formula : Indexed (length formula) keys heads nexts
-  of-formula = rw (clauses-count literals ends m f.formula.clauses.known) index
+  abbrev keys : List ℕ
+  keys = x.keyed.keys.now
 
-  -- each clause has a key
-  pub keys-long : m ≤ length keys
-  keys-long = omega (arith, right-long _ _ f.keys-right, clauses-count literals ends m f.formula.clauses.known)
+  of-formula : Indexed (length formula) keys x.heads.now x.nexts.now
+  of-formula = rw (formula-length x.keyed.clauses) x.indexed
 
-  pub first-low : (key b first : ℕ) → b ≡ bucket_of key → first ≡ get_or heads b 0 → first ≤ m
-  first-low key b first e h = head-within m keys heads nexts index b first (omega (arith, bucket-low key)) h
+  pub first-low : (key b first : ℕ) → b ≡ bucket_of key → first ≡ get_or x.heads.now b 0 → first ≤ x.keyed.clauses.count
+  first-low key b first e h = head-within x.keyed.clauses.count keys x.heads.now x.nexts.now x.indexed b first (omega (arith, bucket-low key)) h
 
   module _ (image : List ℕ) (key : ℕ) (own : key_of image ≡ key) where
-    pub at-first : (b first : ℕ) → b ≡ bucket_of key → first ≡ get_or heads b 0 → Looking image formula keys first
-    at-first b first e h = look-begin image formula keys heads nexts of-formula f.keys-right b first (e ∙ ap bucket_of (sym own)) h
+    pub at-first : (b first : ℕ) → b ≡ bucket_of key → first ≡ get_or x.heads.now b 0 → Looking image formula keys first
+    at-first b first e h = look-begin image formula keys x.heads.now x.nexts.now of-formula x.keyed.right b first (e ∙ ap bucket_of (sym own)) h
 
-    pub at-nearer : (first next number : ℕ) → Looking image formula keys first → (first ≡ 0 → ⊥) → next ≡ get_or nexts (first - 1) 0
+    pub at-nearer : (first next number : ℕ) → Looking image formula keys first → (first ≡ 0 → ⊥) → next ≡ get_or x.nexts.now (first - 1) 0
         → number ≡ cond (eqb (get_or keys (first - 1) 0) key) first next → Looking image formula keys number
-    at-nearer first next number w some n is = look-near image formula keys heads nexts of-formula f.keys-right first (first - 1) key _ next number w (omega arith) own refl n is
+    at-nearer first next number w some n is =
+        look-near image formula keys x.heads.now x.nexts.now of-formula x.keyed.right first (first - 1) key _ next number w (omega arith) own refl n is
 
   -- what was compared is the clause of that number
-  module _ (image : List ℕ) (number : ℕ) (w : Looking image formula keys number) (some : number ≡ 0 → ⊥) (low : number ≤ m) where
-    compared : same_set image (clause_at literals ends (number - 1)) ≡ same_set image (get_or formula (number - 1) [])
-    compared = ap (same_set image) (sym (clause-is literals ends m (number - 1) f.formula.clauses.known (omega arith)))
+  module _ (image : List ℕ) (number : ℕ) (w : Looking image formula keys number) (some : number ≡ 0 → ⊥) (low : number ≤ x.keyed.clauses.count) where
+    abbrev other : List ℕ
+    other = clause_at x.keyed.clauses.literals.now x.keyed.clauses.ends.now (number - 1)
 
-    pub at-hit : same_set image (clause_at literals ends (number - 1)) ≡ true → any_of (same_set image) formula ≡ true
+    compared : same_set image other ≡ same_set image (get_or formula (number - 1) [])
+    compared = ap (same_set image) (sym (its-clause x.keyed.clauses (number - 1) (omega arith)))
+
+    pub at-hit : same_set image other ≡ true → any_of (same_set image) formula ≡ true
     at-hit e = look_hit image formula keys number (number - 1) w (omega arith) (sym compared ∙ e)
 
-    pub at-next : (then : ℕ) → same_set image (clause_at literals ends (number - 1)) ≡ false → then ≡ get_or nexts (number - 1) 0 → Looking image formula keys then
-    at-next then e n = look-on image formula keys heads nexts of-formula f.keys-right number (number - 1) then w (omega arith) (sym compared ∙ e) n
+    pub at-next : (then : ℕ) → same_set image other ≡ false → then ≡ get_or x.nexts.now (number - 1) 0 → Looking image formula keys then
+    at-next then e n = look-on image formula keys x.heads.now x.nexts.now of-formula x.keyed.right number (number - 1) then w (omega arith) (sym compared ∙ e) n

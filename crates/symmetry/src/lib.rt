@@ -19,163 +19,94 @@
 
 mod index;
 mod judged;
+pub mod keyed;
+mod sought;
 
-ghost use Rattle.std.specs.Prelude.{◌≡◌, true, cond, List, ℕ, ◌≤◌, ◌<◌, length, eqb};
-ghost use Rattle.lists.specs.Tests.{all_of, any_of};
+ghost use Rattle.std.specs.Prelude.{◌≡◌, true, List, ℕ, length};
+ghost use Rattle.lists.specs.Tests.{all_of};
+ghost use Rattle.store.specs.Held.{formula_of};
 ghost use Rattle.store.specs.Literals.{is_literal};
-ghost use Rattle.store.specs.Stores.{clauses_in, clause_at, is_row, max_variables};
+ghost use Rattle.store.specs.Stores.{max_variables};
 ghost use Rattle.numbers.specs.Numbers.{numbers, number_count};
 ghost use Rattle.keys.specs.Keys.{key_of};
 ghost use Rattle.keys.specs.Marks.{Places};
 ghost use Rattle.symmetry.specs.Sets.{same_set};
 ghost use Rattle.symmetry.specs.Symmetry.{image_of, missing_from, first_missing, number_or_none};
-ghost use Rattle.symmetry.specs.Fitting.{RightClauses, RowFits, ImagePlaces};
-ghost use Rattle.symmetry.specs.Sought.{Sought, SoughtKey};
-ghost use Rattle.symmetry.specs.Index.{Indexed};
+ghost use Rattle.symmetry.specs.Fitting.{FitsRow, ImagePlaces};
+ghost use Rattle.symmetry.specs.Sought.{Sought};
 
+use crate::index::Index;
+use crate::keyed::KeyedClauses;
+use crate::sought::Image;
+use store::literal;
 use store::record::Record;
-use store::{clauses, literal};
+use store::row::Row;
 
-// The number, from 1, of the first of m clauses that has no contradictory pair and whose image under a row is missing among them, if one is. The table is that of the
+// The number, from 1, of the first clause that has no contradictory pair and whose image under a row is missing among the clauses, if one is. The table is that of the
 // numbers.
-pub fn first_missing(
-    literals: &[u16],
-    ends: &[u16],
-    keys: &[u64],
-    m: usize,
-    row: &[u16],
-    table: &[u64; numbers::COUNT],
-) -> Option<usize>
-    requires { RowFits m literals.now ends.now keys.now row.now × (table.now ≡ numbers) }
-    ensures { result ≡ number_or_none (first_missing row.now (clauses_in m literals.now ends.now)) }
+pub fn first_missing(keyed: KeyedClauses, row: Row, table: &[u64; numbers::COUNT]) -> Option<usize>
+    requires { FitsRow row.images.now (formula_of keyed.clauses) × (table.now ≡ numbers) }
+    ensures { result ≡ number_or_none (first_missing row.entry.images.now (formula_of keyed.entry.clauses)) }
 {
     let mut places = [0u16; numbers::COUNT];
     image_places(row, &mut places);
     let mut heads = [0u16; index::BUCKETS];
     let mut nexts = [0u16; Record::MAX_CLAUSES];
-    index::of_keys(keys, m, &mut heads, &mut nexts);
-    first_missing_by(literals, ends, keys, m, &places, table, &heads, &nexts)
+    index::of_keys(keyed, &mut heads, &mut nexts);
+    let index = Index {
+        keyed,
+        heads: &heads,
+        nexts: &nexts,
+    };
+    first_missing_by(index, &places, table)
 }
 
 // Fills a table with the places of the images of the row's literals.
-fn image_places(row: &[u16], places: &mut [u16])
-    requires { (length row.now ≤ max_variables)
-        × (is_row (length row.now) row.now ≡ true)
-        × Places places.old
-        × (length places.old ≡ number_count) }
-    ensures { ImagePlaces row.now places.new }
+fn image_places(row: Row, places: &mut [u16])
+    requires { Places places.old × (length places.old ≡ number_count) }
+    ensures { ImagePlaces row.entry.images.now places.new }
 {
-    for code in 2..2 * (row.len() as u32 + 1) {
-        places[keys::place(code)] = keys::place(image(row, code)) as u16;
+    let images = row.images;
+    for code in 2..2 * (images.len() as u32 + 1) {
+        places[keys::place(code)] = keys::place(image(images, code)) as u16;
     }
 }
 
-// The number of the first clause without a contradictory pair whose image is missing, by the places of the images and an index of the keys: by those of any row.
+// The number of the first clause without a contradictory pair whose image is missing, by the places of the images: by those of any row.
 fn first_missing_by(
-    literals: &[u16],
-    ends: &[u16],
-    keys: &[u64],
-    m: usize,
+    index: Index,
     places: &[u16; numbers::COUNT],
     table: &[u64; numbers::COUNT],
-    heads: &[u16],
-    nexts: &[u16],
 ) -> Option<usize>
-    requires { RightClauses m literals.now ends.now keys.now
-        × Places places.now
-        × (table.now ≡ numbers)
-        × Indexed m keys.now heads.now nexts.now }
-    ensures { let formula = clauses_in m literals.now ends.now in
-        ((row : List ℕ) → ImagePlaces row places.now → all_of (all_of (is_literal (length row))) formula ≡ true
+    requires { Places places.now × (table.now ≡ numbers) }
+    ensures { let formula = formula_of index.entry.keyed.clauses in
+        ((row : List ℕ) → ImagePlaces row places.now → FitsRow row formula
         → result ≡ number_or_none (missing_from row formula 1 formula)) }
 {
+    let clauses = index.keyed.clauses;
     let mut marks = [0u16; numbers::COUNT];
-    for c in 0..m {
-        let key = keys::key_at(literals, ends, m, c, places, table, &mut marks);
-        let mark = (c + 1) as u16;
-        if !has_image(key, mark, &marks, literals, ends, keys, m, heads, nexts)
-            && !judged::has_opposites(clauses::clause(literals, ends, m, c), places, mark, &marks)
-        {
+    for c in 0..clauses.count {
+        let key = keys::key_at(clauses, c, places, table, &mut marks);
+        let sought = Image {
+            key,
+            mark: (c + 1) as u16,
+            marks: &marks,
+        };
+        if !index.has(sought) && !judged::has_opposites(clauses.clause(c), places, sought) {
             return Some(c + 1);
         }
     }
     None
 }
 
-// Whether the literals that have this key and this mark are, as a set, one of the m clauses: one of those in the key's bucket, then.
-fn has_image(
-    key: u64,
-    mark: u16,
-    marks: &[u16],
-    literals: &[u16],
-    ends: &[u16],
-    keys: &[u64],
-    m: usize,
-    heads: &[u16],
-    nexts: &[u16],
-) -> bool
-    requires { RightClauses m literals.now ends.now keys.now
-        × SoughtKey key mark marks.now
-        × (length marks.now ≡ number_count)
-        × Indexed m keys.now heads.now nexts.now }
-    ensures { let formula = clauses_in m literals.now ends.now in
-        ((image : List ℕ) → Sought mark marks.now image → result ≡ any_of (same_set image) formula) }
+// Whether an image is, as a set, a clause that has its key. No other function compares clauses in full. The keys say that there are as many different literals in the one as
+// in the other, so it is enough that each of the clause's has the mark.
+fn is_image(clause: &[u16], sought: Image) -> bool
+    requires { (key_of clause.now ≡ sought.key) × (all_of (is_literal max_variables) clause.now ≡ true) }
+    ensures { (image : List ℕ) → Sought sought.entry.mark sought.entry.marks.now image → result ≡ same_set image clause.now }
 {
-    let head = buckets::head(heads, index::bucket(key));
-    if head == 0 {
-        return false;
-    }
-    let mut number = nearer(keys[head - 1], key, head, buckets::next(nexts, head - 1));
-    while number != 0 {
-        let other = number - 1;
-        if is_image_at(key, mark, marks, literals, ends, keys, m, other) {
-            return true;
-        }
-        number = buckets::next(nexts, other);
-    }
-    false
-}
-
-// The first in a bucket where it has the key that is looked for, and the next one else. Which of the two it is can't be foreseen, and a branch that is not foreseen costs
-// more than the rest of the search; so both are at hand, for one to be taken without a branch.
-fn nearer(stored: u64, key: u64, first: usize, next: usize) -> usize
-    ensures { result ≡ cond (eqb stored key) first next }
-{
-    if stored == key { first } else { next }
-}
-
-// Whether the literals that have this key and this mark are another of the m clauses as a set: they are compared in full only where the keys agree.
-fn is_image_at(
-    key: u64,
-    mark: u16,
-    marks: &[u16],
-    literals: &[u16],
-    ends: &[u16],
-    keys: &[u64],
-    m: usize,
-    other: usize,
-) -> bool
-    requires { RightClauses m literals.now ends.now keys.now
-        × (other < m)
-        × SoughtKey key mark marks.now
-        × (length marks.now ≡ number_count) }
-    ensures { (image : List ℕ) → Sought mark marks.now image
-        → result ≡ same_set image (clause_at literals.now ends.now other) }
-{
-    if keys[other] != key {
-        return false;
-    }
-    is_image(clauses::clause(literals, ends, m, other), mark, marks)
-}
-
-// Whether the literals that have this mark are, as a set, a clause that has their key. No other function compares clauses in full. The keys say that there are as many
-// different literals in the one as in the other, so it is enough that each of the clause's has the mark.
-fn is_image(clause: &[u16], mark: u16, marks: &[u16]) -> bool
-    requires { SoughtKey (key_of clause.now) mark marks.now
-        × (all_of (is_literal max_variables) clause.now ≡ true)
-        × (length marks.now ≡ number_count) }
-    ensures { (image : List ℕ) → Sought mark marks.now image → result ≡ same_set image clause.now }
-{
+    let mark = sought.mark;
+    let marks = sought.marks;
     for code in clause {
         if marks[keys::place(u32::from(*code))] != mark {
             return false;

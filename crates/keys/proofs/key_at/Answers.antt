@@ -1,15 +1,14 @@
 -- `keys::key_at` meets its contract: the clause's number from 1 is its mark. Assumes nothing.
 use Rattle.std.proofs.Common.{◌≡◌, ◌+◌, ◌∙◌, arith}
-use Rattle.store.specs.Stores.{max_variables}
-use Rattle.store.proofs.Within.{clause-good}
+use Rattle.store.proofs.Held.{its-literals}
 use Rattle.keys.proofs.key_at.Goals as goal
 
 pub key-requires : goal.key-requires
 key-requires c =
-    (rw c.clause.ensures (clause-good max_variables c.args.m c.args.literals.now c.args.ends.now c.requires.0 c.args.c c.requires.1), c.requires.2, c.requires.3)
+    (rw c.clause.ensures (its-literals c.args.clauses c.args.c c.requires.0), c.requires.1, c.requires.2)
 
 pub overflow_cast-c : goal.overflow_cast-c
-overflow_cast-c c = omega (arith, c.requires.0.clauses-fit, c.requires.1)
+overflow_cast-c c = omega (arith, c.args.clauses.formed.clauses-fit, c.requires.0)
 
 pub returns : goal.returns
 returns c = let next : c.args.c + 1 + 1 ≡ c.args.c + 2 = omega arith in

@@ -5,8 +5,9 @@ use Rattle.std.proofs.lemmas.Result.{err_from_is_err_and}
 use native.Mathlib.Nat.{mul-le-mul}
 use Rattle.store.specs.Stores.{Store, lent, plain_of, appended}
 use Rattle.store.proofs.Formed.{Formed, formed}
+use Rattle.store.proofs.Within.{store-formula}
 use Rattle.permutation.proofs.Theorem.{stated-row}
-use Rattle.symmetry.proofs.Facts.{row_fits}
+use Rattle.symmetry.proofs.Facts.{fits_row}
 use Rattle.offering.proofs.OfferLaws.{RowRead, row_read, not-stated, not-moving, not-symmetric, no_room, held}
 use Rattle.offering.proofs.offer.Goals as goal
 use Rattle.offering.proofs.offer.Goals.{Start, In_ok-state}
@@ -40,14 +41,28 @@ slice_bounds-row-end c = (read c).long
 pub slice_bounds-row-end-2 : goal.slice_bounds-row-end-2
 slice_bounds-row-end-2 c = sym (read (goal.at.slice_bounds-row-end-2 c).In_ok-state).size
 
+pub invariant_of-row : goal.invariant_of-row
+invariant_of-row c =
+    let r = read (goal.at.invariant_of-row c).In_ok-state in
+    let small = (facts (goal.at.invariant_of-row c).Start).variables-fit in
+    record { formed = record { small = omega (arith, r.size); good = rw r.size (rw r.part (stated-row _ _ _ r.stated)) } }
+
 pub returns-then-moves_nothing-clause-answer : goal.returns-then-moves_nothing-clause-answer
 returns-then-moves_nothing-clause-answer c =
     sym (not-moving (read (goal.at.returns-then-moves_nothing-clause-answer c).In_ok-state) _ c.moves_nothing.ensures c.if-moves_nothing.true)
 
+pub invariant_of-clauses : goal.invariant_of-clauses
+invariant_of-clauses c = record { formed = store-formula (S (goal.at.invariant_of-clauses c).Start) c.requires.0 }
+
+pub invariant_of-keyed : goal.invariant_of-keyed
+unfolding plain_of
+invariant_of-keyed c = record { right = c.requires.1 }
+
 pub first_missing-requires : goal.first_missing-requires
+unfolding plain_of
 first_missing-requires c =
     let r = read (goal.at.first_missing-requires c).In_ok-state in
-    (row_fits (S (goal.at.first_missing-requires c).Start) c.args.keys.now _ c.requires.0 c.requires.1 r.size (rw r.part (stated-row _ _ _ r.stated)), c.requires.3)
+    (fits_row (S (goal.at.first_missing-requires c).Start) _ c.requires.0 r.size, c.requires.3)
 
 pub returns-in-Some-clause-answer : goal.returns-in-Some-clause-answer
 unfolding plain_of

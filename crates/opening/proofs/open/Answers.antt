@@ -74,11 +74,11 @@ filled c =
     let body = body-past _ _ (sym c.problem_of.ensures ∙ c.in_ok-problem.was) in
     (rw body c.fill.ensures.literals, rw body c.fill.ensures.ends)
 
-pub write-requires : goal.write-requires
-write-requires c =
+pub invariant_of-clauses : goal.invariant_of-clauses
+invariant_of-clauses c =
     let a = c.args in
-    let f = filled (goal.at.write-requires c).After-fill in
-    (rw (f.0, f.1) (opened-formula a.text.now a.literals.now a.ends.now a.keys.now [] _ (opens (goal.at.write-requires c).Else-keys-m)), c.if-keys-m.false)
+    let f = filled (goal.at.invariant_of-clauses c).After-fill in
+    record { formed = rw (f.0, f.1) (opened-formula a.text.now a.literals.now a.ends.now a.keys.now [] _ (opens (goal.at.invariant_of-clauses c).Else-keys-m)) }
 
 pub returns : goal.returns
 unfolding plain_of

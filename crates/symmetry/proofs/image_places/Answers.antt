@@ -39,7 +39,7 @@ widened : (n code : ℕ) → n ≤ max_variables → is_literal n code ≡ true 
 widened n code h g = literal-within max_variables code (literal-low n code g) (omega (arith, literal-high n code g))
 
 pub loop-code-init : goal.loop-code-init
-loop-code-init c = record { places = c.requires.2; sends = λ x g h. absurd (omega (arith, literal-low _ x g)) }
+loop-code-init c = record { places = c.requires.0; sends = λ x g h. absurd (omega (arith, literal-low _ x g)) }
 
 -- the code at hand is a literal of the row's variables, and so is its image
 pub image-requires : goal.image-requires
@@ -48,23 +48,23 @@ image-requires c = literal-within _ _ (omega arith) (omega arith)
 pub place-requires : goal.place-requires
 place-requires c =
     let literal = image-requires (goal.at.place-requires c).In-loop-code in
-    rw c.image.ensures (widened _ _ c.requires.0 (image-good _ c.args.row.now (row_of _ c.args.row.now c.requires.1) _ literal))
+    rw c.image.ensures (widened _ _ c.args.row.formed.small (image-good _ c.args.row.images.now (row_of _ c.args.row.images.now c.args.row.formed.good) _ literal))
 
 pub place-requires-in-loop-code : goal.place-requires-in-loop-code
-place-requires-in-loop-code c = widened _ _ c.requires.0 (image-requires (goal.at.place-requires-in-loop-code c).In-loop-code)
+place-requires-in-loop-code c = widened _ _ c.args.row.formed.small (image-requires (goal.at.place-requires-in-loop-code c).In-loop-code)
 
 pub loop-code-preserved : goal.loop-code-preserved
 loop-code-preserved c =
     let image = place-requires (goal.at.loop-code-preserved c).After-image in
     let to = c.place.ensures in
     let at = c.place-in-loop-code.ensures in
-    let is : c.place.result + 2 ≡ image_of c.args.row.now c.loop-code.code = omega (arith, to.0, literal-low max_variables _ image, c.image.ensures) in
-    filled_more c.args.row.now c.loop-code.places c.loop-code.code c.loop-code.invariant (omega (arith, c.requires.3)) (omega arith) _ at.0 at.1 _ to.1 is
+    let is : c.place.result + 2 ≡ image_of c.args.row.images.now c.loop-code.code = omega (arith, to.0, literal-low max_variables _ image, c.image.ensures) in
+    filled_more c.args.row.images.now c.loop-code.places c.loop-code.code c.loop-code.invariant (omega (arith, c.requires.1)) (omega arith) _ at.0 at.1 _ to.1 is
 
 pub returns : goal.returns
 returns c =
     record {
-      is-row = c.requires.1;
+      is-row = c.args.row.formed.good;
       sends = λ code g. c.loop-code.invariant.sends code g (omega (arith, literal-high _ code g));
       places = c.loop-code.invariant.places;
     }

@@ -10,4 +10,4 @@ pub record Filled (row table : List ℕ) (code : ℕ) : Type 0 where
   pub sends : (x : ℕ) → is_literal (length row) x ≡ true → x < code → sent_to table x ≡ image_of row x
 
 abbrev pub invariant-loop-code : goal.invariant-loop-code
-invariant-loop-code l = Filled l.row l.places l.code
+invariant-loop-code l = Filled l.images l.places l.code

@@ -43,7 +43,7 @@ returns-then-marks-place c =
     let at = (goal.at.returns-then-marks-place c).After-opposite in
     let sent = sent_clause a.places.now a.clause.now in
     let inside = length-map a.clause.now (sent_to a.places.now) in
-    let found = has-marked a.mark sent a.marks.now c.requires.2 c.opposite.result _ (place-requires at) c.place.ensures.0 c.if-marks-place.true in
+    let found = has-marked a.sought.mark sent a.sought.marks.now c.requires.2 c.opposite.result _ (place-requires at) c.place.ensures.0 c.if-marks-place.true in
     sym (c.loop-code.invariant ∙ any-drop-hit (λ code. has sent (opposite_of code)) sent c.loop-code.code-index 0 (omega arith) (rw (its at) at found))
 
 pub loop-code-preserved : goal.loop-code-preserved
@@ -52,7 +52,7 @@ loop-code-preserved c =
     let at = (goal.at.loop-code-preserved c).After-opposite in
     let sent = sent_clause a.places.now a.clause.now in
     let inside = length-map a.clause.now (sent_to a.places.now) in
-    let none = has-not_marked a.mark sent a.marks.now c.requires.2 c.opposite.result _ (place-requires at) c.place.ensures.0 c.if-marks-place.false in
+    let none = has-not_marked a.sought.mark sent a.sought.marks.now c.requires.2 c.opposite.result _ (place-requires at) c.place.ensures.0 c.if-marks-place.false in
     c.loop-code.invariant ∙ any-drop-miss (λ code. has sent (opposite_of code)) sent c.loop-code.code-index 0 (omega arith) (rw (its at) at none)
 
 pub returns : goal.returns

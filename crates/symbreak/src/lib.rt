@@ -342,7 +342,7 @@ impl From<Record> for CRecord {
     }
 }
 
-// What changes the record, beside it.
+// An answer beside a record: what the answer holds is no part of it.
 impl<T: Copy> From<Stored<T>> for CStored {
     ghost from_gives = { λ r c. c ≡ c_stored (said r.answer) r.counts };
 

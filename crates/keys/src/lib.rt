@@ -1,7 +1,7 @@
 // The keys of a store's clauses (document 02, CR 5): the sum of a clause, all of them written, all of them tested. A sum is linear in the clause's literals, repeated ones
 // included: what was counted in a clause is marked with the clause's number, from 1, so that no search is needed and the marks need not be cleared. It goes through the
 // clause from its end, as its definition does: a literal counts where it does not come again. The table of the numbers is in the memory of whoever goes through all clauses,
-// or of its caller.
+// or of its caller. It is no type of its own: that it is `numbers` is one equation, which its maker gives, and `key_at` takes any table.
 #![tactic(auto)]
 
 ghost use Rattle.std.specs.Prelude.{◌≡◌, ◌+◌, ◌-◌, ◌<◌, ◌≤◌, true, length};

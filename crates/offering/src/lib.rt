@@ -15,6 +15,7 @@ use store::row::Row;
 use symmetry::keyed::KeyedClauses;
 
 // Tries an offer on a well-formed store that is not full, and appends its row to the images if it is accepted. The table is that of the literals' numbers.
+// The slices come one by one: images is lent to be written, so that no `Formed` can hold it.
 pub fn offer<'a>(
     counts: Record,
     literals: &'a [u16],

@@ -9,7 +9,7 @@ ghost use Rattle.symmetry.specs.Judged.{has_opposites};
 use crate::sought::Image;
 use store::literal;
 
-// Whether what a clause is sent to has a literal together with its opposite. It has this mark and nothing else has, so one pass is enough.
+// Whether what a clause is sent to has a literal together with its opposite. It is what is sought: it has that mark and nothing else has, so one pass is enough.
 pub fn has_opposites(clause: &[u16], places: &[u16; numbers::COUNT], sought: Image) -> bool
     requires { (all_of (is_literal max_variables) clause.now ≡ true)
         × Places places.now

@@ -48,10 +48,9 @@ pub fn descend(rows: Rows, a: &mut [u64], limit: u64) -> Descended
     let mut values = [false; valuation::TABLE];
     valuation::tabulate(a, rows.counts.variables, &mut values);
     let mut next = values;
-    let mut buffer = [Span { first: 0, end: 0 }; Record::MAX_ROWS];
-    let spans = &mut buffer[..rows.counts.rows];
-    spans::note(rows, spans);
-    let ended = settle(rows, spans, &mut next, &mut values, limit);
+    let mut spans = [Span { first: 0, end: 0 }; Record::MAX_ROWS];
+    spans::note(rows, &mut spans);
+    let ended = settle(rows, &spans, &mut next, &mut values, limit);
     write_back(&values, rows.counts.variables, a);
     ended
 }
@@ -115,8 +114,8 @@ fn move_by(row: Row, span: Span, next: &mut [bool], values: &mut [bool])
         bits_in n values.new ≡ moved row (bits_in n values.old) }
     ensures same { next.new ≡ values.new }
 {
-    let from = 2 * (span.first as usize + 1);
-    let to = 2 * (span.end as usize + 1);
+    let from = 2 * (span.first + 1);
+    let to = 2 * (span.end + 1);
     move_span(row, span, values, next);
     values[from..to].copy_from_slice(&next[from..to]);
 }
@@ -129,7 +128,7 @@ fn move_span(row: Row, span: Span, values: &[bool], next: &mut [bool])
     ensures { MovedSpan row.entry.images.now span.first span.end values.now next.new }
 {
     let images = row.images;
-    for i in span.first as usize..span.end as usize {
+    for i in span.first..span.end {
         let own = 2 * (i + 1);
         let image = images[i] as usize;
         let value = values[image];

@@ -85,7 +85,7 @@ fn agreeing(row: Row, values: &[bool], marks: &[bool]) -> usize
 {
     let span = Span {
         first: 0,
-        end: row.images.len() as u16,
+        end: row.images.len(),
     };
     match trial::try_row(row.images, span, values) {
         Some(tried) => lexleader::counting::pair_count(&marks[..tried.variable - 1]),

@@ -1,6 +1,6 @@
-// The one test of a store's form, the opposite of refusal 21 but for the keys: every call that needs an open store makes it first, and what
-// it answers is a `Formed`, whose form is in its type: the functions below the public calls take that and don't ask again. The test looks
-// only at the entries in use.
+// The one test of a store's form, the opposite of refusal 21 but for the keys: every call that needs an open store makes it first. A store
+// that passes it is a `Formed`, whose form is in its type: the functions below the public calls take that, or a part of it, and don't ask
+// again. The test looks only at the entries in use.
 ghost use Rattle.std.specs.Prelude.{◌≡◌, ◌*◌, ◌≤◌, ◌<◌, true, false, length, MatchOption};
 ghost use Rattle.lists.specs.Tests.{all_of};
 ghost use Rattle.store.specs.Literals.{is_literal};

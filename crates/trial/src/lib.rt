@@ -31,8 +31,8 @@ pub struct Trial {
 // A part of a row, by indices: from `first` up to `end`, which is past its last.
 #[derive(Clone, Copy)]
 pub struct Span {
-    pub first: u16,
-    pub end: u16,
+    pub first: usize,
+    pub end: usize,
 }
 
 // Tries a row on the values of literals by code, where no variable outside of a span is moved; nothing is found where no variable decides.
@@ -42,8 +42,8 @@ pub fn try_row(row: &[u16], span: Span, values: &[bool]) -> Option<Trial>
     ensures lowers { lowers_of result ≡ lowers_along (by_code values.now) (moved_pairs row.now) }
     ensures decided { IfSome result (λ t. 1 ≤ t.variable) }
 {
-    let end = span.end as usize;
-    let mut i = span.first as usize;
+    let end = span.end;
+    let mut i = span.first;
     // Counted by hand, for speed: two variables to a turn is a step and a test of the end less for every other one.
     while i + 1 < end {
         if decides(row, i, values) {
@@ -95,16 +95,10 @@ pub fn span_of(row: &[u16]) -> Span
     let first = first_moved(row).unwrap_or(row.len());
     for i in (first..row.len()).rev() {
         if row[i] as usize != 2 * (i + 1) {
-            return Span {
-                first: first as u16,
-                end: (i + 1) as u16,
-            };
+            return Span { first, end: i + 1 };
         }
     }
-    Span {
-        first: first as u16,
-        end: first as u16,
-    }
+    Span { first, end: first }
 }
 
 // The index of a row's first moved variable.

@@ -116,7 +116,7 @@ fn held(rt: &HostRuntime, counts: Record) -> io::Result<()> {
     println!(rt; "rows: {rows}")
 }
 
-// The refusal's number and place, or 0 and 0.
+// The refusal's number and place, or 0 and 0, as `stdout` has it.
 fn show<T: Copy>(rt: &HostRuntime, name: &str, answer: Result<T, Refusal>) -> io::Result<()> {
     let (number, place) = match answer {
         Ok(_) => (0, 0),

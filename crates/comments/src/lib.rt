@@ -11,24 +11,26 @@ ghost use Rattle.comments.specs.Comments.{after_comments, starts_comment, words_
 // The first byte of a comment line.
 const COMMENT: u8 = b'c';
 
-// The start of the first line that is no comment, or a place at which no line starts.
+// The start of the first line that is no comment, or a place at which no line starts: where the next one would (`lines_at`), and no Option.
 pub fn first_line(text: &[u8]) -> usize
     ensures { lines_at text.now result ≡ after_comments (lines_at text.now 0) }
 {
     let mut at = 0;
+    // From line to line: where the next one starts is known once this one is read.
     while at < text.len() && text[at] == COMMENT {
         at = dimacs::line_end(text, at) + 1;
     }
     at
 }
 
-// The start of the first word at or after `at` that stands in no comment, or the text's length. What lies between the words of a body is
-// decided here alone.
+// The start of the first word at or after `at` that stands in no comment, or the text's length, by `first_place`. What lies between the words
+// of a body is decided here alone.
 pub fn next_word(text: &[u8], at: usize) -> usize
     requires { Between text.now at }
     ensures { result ≡ first_place (length text.now) (words_past text.now at) }
 {
     let mut i = dimacs::next_word(text, at);
+    // From comment to comment: where one ends is known once it is read.
     while i < text.len() && starts_comment(text, i) {
         i = dimacs::next_word(text, dimacs::line_end(text, i));
     }

@@ -39,6 +39,7 @@ fn visit(row: Row, z: usize, marks: &mut [bool])
     }
     let mut odd = turned(images, z);
     let mut v = sent_to(images, z);
+    // Along the cycle: the next variable is the image of this one.
     while v != z {
         marks[v - 1] = false;
         odd = odd != turned(images, v);

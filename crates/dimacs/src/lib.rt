@@ -33,7 +33,8 @@ struct Digits {
     value: u32,
 }
 
-// The start of the first word at or after `at`, or the text's length. What lies between the words of a line is decided here alone.
+// The start of the first word at or after `at`, or the text's length, which is where its last run ends (`run_end`): a place like others, and no
+// Option. What lies between the words of a line is decided here alone.
 pub fn next_word(text: &[u8], at: usize) -> usize
     ensures { result ≡ run_end is_blank text.now at }
 {

@@ -37,6 +37,7 @@ pub fn clause(s: Formed, q: usize, out: &mut [u8]) -> Result<u64, Refusal>
     ensures answer { said result ≡ clause_by (store_of s.entry) q (length out.old) }
     ensures buffer { out.new ≡ buffer_left (said result) (line_of (store_of s.entry) q) out.old }
 {
+    // Document 01 counts clauses from 1, and 0 is no clause (`clause_by`).
     if q == 0 {
         return Err(Refusal::NoSuchClause);
     }

@@ -20,7 +20,8 @@ use crate::table::Clause;
 
 // A place among the clauses that a row adds: clause r of auxiliary j, that auxiliary's number, and the indices of its pair's variable and
 // of the next one. Past the last clause the index is the row's length and the number that of the next row's first auxiliary, which the walk
-// goes on from: so there is a place too where no clause is (`past_last`), and it is no Option.
+// goes on from: so there is a place too where no clause is (`past_last`), and it is no Option. j and r are document 01's numbers, by which
+// its table is matched on.
 #[derive(Clone, Copy)]
 pub struct Place {
     pub index: usize,

@@ -159,6 +159,7 @@ fn scan(text: &[u8], start: usize, n: usize, m: usize) -> Result<usize, Refusal>
     let mut at = start;
     let mut closed = 0;
     let mut count = 0;
+    // From word to word: where the next one starts is known once this one is read.
     loop {
         let place = comments::next_word(text, at);
         if closed == m {
@@ -205,6 +206,7 @@ fn fill(text: &[u8], start: usize, literals: &mut [u16], ends: &mut [u16])
     let mut at = start;
     let mut closed = 0;
     let mut used = 0;
+    // From word to word: where the next one starts is known once this one is read.
     loop {
         let word = comments::next_word(text, at);
         let Ok((number, next)) = dimacs::read(text, word) else {

@@ -34,6 +34,7 @@ pub fn push_run(out: &mut [u64], w: Writer, value: bool, k: usize) -> Writer
 {
     let mut taken = w;
     let mut left = k;
+    // By what the begun word has room for.
     while 0 < left {
         let here = at_once(taken.taken, left);
         taken = push(out, taken, value, here);

@@ -18,7 +18,7 @@ use dimacs::Number;
 use store::record::Record;
 use store::refusal::Refusal;
 
-// A mark for each variable, and one for 0.
+// A mark for each variable, by its number; that of 0 is not used.
 const MARKS: usize = Record::MAX_VARIABLES + 1;
 
 // Whether the two lines state a permutation, by the rules 7, 8, 9 and 10 in that order, and its row over the first n entries. The row is the
@@ -61,6 +61,7 @@ fn list_names(
 {
     let mut count = 0;
     let mut at = 0;
+    // From word to word: where the next one starts is known once this one is read.
     loop {
         let place = dimacs::next_word(names, at);
         if names.len() <= place {
@@ -114,6 +115,7 @@ fn not_number(line: &[u8]) -> Option<usize>
     ensures { result ≡ not_number (words_at line.now 0) }
 {
     let mut at = 0;
+    // From word to word: where the next one starts is known once this one is read.
     loop {
         let place = dimacs::next_word(line, at);
         if line.len() <= place {
@@ -157,6 +159,7 @@ fn place_values(
 {
     let mut used = 0;
     let mut at = 0;
+    // From word to word: where the next one starts is known once this one is read.
     loop {
         let place = dimacs::next_word(values, at);
         if values.len() <= place {

@@ -51,6 +51,7 @@ fn print_from(
 {
     let mut stage = first;
     let mut handed = 0;
+    // From page to page: what comes next is known once a page is made.
     loop {
         let printed = program::page(stage, counts, literals, ends, images, out);
         let bytes = printed.bytes;

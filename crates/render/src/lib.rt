@@ -142,6 +142,7 @@ fn long_count(x: u64) -> usize
 {
     let mut n = 1;
     let mut rest = x;
+    // By tenths, as in `decimal`.
     while 10 <= rest {
         rest /= 10;
         n += 1;
@@ -183,6 +184,7 @@ fn put_number(out: &mut [u8], at: usize, x: u64) -> usize
     let end = at + digit_count(x);
     let mut k = end;
     let mut y = x;
+    // By tenths, from the last digit on.
     while 10 <= y {
         k -= 1;
         out[k] = (y % 10) as u8 + b'0';

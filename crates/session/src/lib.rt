@@ -85,6 +85,7 @@ fn open_and_offer(
 {
     let opened = calls::open(calls::new_record(), &input[..at], literals, ends, keys);
     let counts = opened.counts;
+    // The record stands beside the answer, which no `?` passes up.
     if let Err(refusal) = opened.answer {
         return Stored {
             answer: Err(refusal),
@@ -138,6 +139,7 @@ fn offer_lines(
             &input[from..to],
         );
         held = offered.counts;
+        // The record beside the answer, as above.
         if let Err(refusal) = offered.answer {
             return Stored {
                 answer: Err(refusal),

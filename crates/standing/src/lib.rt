@@ -1,5 +1,5 @@
-// What a call that needs an open store finds first: whether all that is lent is as it should be. Every such call asks this once, and goes on with a store whose form is in
-// its type.
+// What a call that needs an open store finds first: whether all that is lent is as it should be. Every such call asks this once. One that only
+// reads goes on with a store whose form is in its type; an offer, whose images are lent to be written, with its slices.
 #![tactic(auto)]
 
 ghost use Rattle.std.specs.Prelude.{◌≡◌};

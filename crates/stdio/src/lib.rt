@@ -14,6 +14,7 @@ pub fn read(mut stdin: Stdin, buffer: &mut [u8]) -> io::Result<usize>
     ensures { IfOk result (λ bytes. bytes ≤ length buffer.new) }
 {
     let mut done = 0;
+    // By what each read gives.
     while done < buffer.len() {
         match read_on(done, stdin.read(&mut buffer[done..]))? {
             ControlFlow::Continue(count) => done = count,

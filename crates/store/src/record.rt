@@ -1,4 +1,5 @@
-// The small record that a caller lends at every call, with the limits by name.
+// The small record that a caller lends at every call, with the limits by name. Whether it is open stands beside the counts, and is no Option of
+// them: document 01's record has these four parts, and C lends four numbers.
 ghost use Rattle.std.specs.Prelude.{◌≡◌};
 ghost use Rattle.store.specs.Stores.{closed_record};
 

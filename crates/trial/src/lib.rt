@@ -87,7 +87,8 @@ fn decided(i: usize, values: &[bool]) -> Trial
     }
 }
 
-// The span of a row's moved variables: from the first to the last; an empty one at the row's end where nothing is moved.
+// The span of a row's moved variables: from the first to the last; an empty one at the row's end where nothing is moved, and no Option, as
+// to walk it is then no case of its own (`IsSpan`).
 pub fn span_of(row: &[u16]) -> Span
     requires { length row.now ≤ max_variables }
     ensures { IsSpan row.now result.first result.end }

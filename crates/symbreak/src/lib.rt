@@ -134,13 +134,7 @@ pub extern "C" fn symbreak_withdraw(
     ensures { let s = keyed (record_of variables clauses rows flag) literals.entry ends.entry keys.entry images.entry in
         result ≡ c_stored (withdraw_says s) (withdraw_store s).store.counts }
 {
-    let s = Lent {
-        counts: record_of(variables, clauses, rows, flag),
-        literals,
-        ends,
-        keys,
-        images,
-    };
+    let s = all_lent(variables, clauses, rows, flag, literals, ends, keys, images);
     CStored::from(calls::withdraw(&s))
 }
 
@@ -158,13 +152,7 @@ pub extern "C" fn symbreak_figures(
     ensures { let s = keyed (record_of variables clauses rows flag) literals.entry ends.entry keys.entry images.entry in
         result ≡ c_figures (figures_says s) }
 {
-    let s = Lent {
-        counts: record_of(variables, clauses, rows, flag),
-        literals,
-        ends,
-        keys,
-        images,
-    };
+    let s = all_lent(variables, clauses, rows, flag, literals, ends, keys, images);
     CFigures::from(calls::figures(&s))
 }
 
@@ -185,13 +173,7 @@ pub extern "C" fn symbreak_header(
     ensures leaves { let s = keyed (record_of variables clauses rows flag) literals.entry ends.entry keys.entry images.entry in
         out.new ≡ header_leaves s out.old }
 {
-    let s = Lent {
-        counts: record_of(variables, clauses, rows, flag),
-        literals,
-        ends,
-        keys,
-        images,
-    };
+    let s = all_lent(variables, clauses, rows, flag, literals, ends, keys, images);
     CAnswer::from(calls::header(&s, out))
 }
 
@@ -213,13 +195,7 @@ pub extern "C" fn symbreak_clause(
     ensures leaves { let s = keyed (record_of variables clauses rows flag) literals.entry ends.entry keys.entry images.entry in
         out.new ≡ clause_leaves s q out.old }
 {
-    let s = Lent {
-        counts: record_of(variables, clauses, rows, flag),
-        literals,
-        ends,
-        keys,
-        images,
-    };
+    let s = all_lent(variables, clauses, rows, flag, literals, ends, keys, images);
     CAnswer::from(calls::clause(&s, q as usize, out))
 }
 
@@ -241,13 +217,7 @@ pub extern "C" fn symbreak_fill_in(
     ensures leaves { let s = keyed (record_of variables clauses rows flag) literals.entry ends.entry keys.entry images.entry in
         out.new ≡ fill_leaves s a.now out.old }
 {
-    let s = Lent {
-        counts: record_of(variables, clauses, rows, flag),
-        literals,
-        ends,
-        keys,
-        images,
-    };
+    let s = all_lent(variables, clauses, rows, flag, literals, ends, keys, images);
     CAnswer::from(calls::fill_in(&s, a, out))
 }
 
@@ -266,13 +236,7 @@ pub extern "C" fn symbreak_check(
     ensures { let s = keyed (record_of variables clauses rows flag) literals.entry ends.entry keys.entry images.entry in
         result ≡ c_checked (check_says s a.now) }
 {
-    let s = Lent {
-        counts: record_of(variables, clauses, rows, flag),
-        literals,
-        ends,
-        keys,
-        images,
-    };
+    let s = all_lent(variables, clauses, rows, flag, literals, ends, keys, images);
     CAnswer::from(calls::check(&s, a))
 }
 
@@ -294,13 +258,7 @@ pub extern "C" fn symbreak_descend(
     ensures leaves { let s = keyed (record_of variables clauses rows flag) literals.entry ends.entry keys.entry images.entry in
         a.new ≡ descend_leaves s a.old limit }
 {
-    let s = Lent {
-        counts: record_of(variables, clauses, rows, flag),
-        literals,
-        ends,
-        keys,
-        images,
-    };
+    let s = all_lent(variables, clauses, rows, flag, literals, ends, keys, images);
     CDescent::from(calls::descend(&s, a, limit))
 }
 
@@ -316,6 +274,28 @@ pub extern "C" fn symbreak_efficiency(labelled: u64, unlabelled: u64, allowed: u
     ensures { result ≡ c_answer (efficiency_says labelled unlabelled allowed) }
 {
     CAnswer::from(calls::efficiency(labelled, unlabelled, allowed))
+}
+
+// What C lends to a call that changes none of it: the record as four numbers, for they go by value, and four slices.
+fn all_lent<'a>(
+    variables: u64,
+    clauses: u64,
+    rows: u64,
+    flag: u64,
+    literals: &'a [u16],
+    ends: &'a [u16],
+    keys: &'a [u64],
+    images: &'a [u16],
+) -> Lent<'a>
+    ensures { result ≡ keyed (record_of variables clauses rows flag) literals.entry ends.entry keys.entry images.entry }
+{
+    Lent {
+        counts: record_of(variables, clauses, rows, flag),
+        literals,
+        ends,
+        keys,
+        images,
+    }
 }
 
 fn record_of(variables: u64, clauses: u64, rows: u64, flag: u64) -> Record

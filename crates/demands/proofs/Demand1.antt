@@ -24,7 +24,7 @@ use Rattle.demands.specs.Reasons.{Reason, bad_assignment, no_such_clause, too_sh
 use Rattle.demands.specs.Demand1.{Unchanged, Demand1}
 use Rattle.demands.proofs.Acceptance.{store-refused}
 use Rattle.demands.proofs.Withdrawal.{withdrawn-refused}
-use Rattle.demands.proofs.OpenRefusals.{open-exact}
+use Rattle.demands.proofs.OpenRefusals.{open-exact, problem-line}
 use Rattle.demands.proofs.OfferRefusals.{offer-exact}
 use Rattle.demands.proofs.Refusing.{Exact, same-said, answers, held, missed, where-true, where-false, too_short_lem, on_store_lem}
 
@@ -130,6 +130,7 @@ pub demand-1 : Demand1
 unfolding header_leaves clause_leaves fill_leaves descend_leaves
 demand-1 = record {
   open-refuses = λ s text. (open-exact s text).iff;
+  problem-line = problem-line;
   open-leaves = open-leaves;
   offer-refuses = λ s names values. (offer-exact s names values).iff;
   offer-leaves = store-refused;

@@ -1,7 +1,7 @@
 -- Opening refuses by its list of reasons: the lines up to the problem line, then the words after it from the left. Assumes nothing.
 use Rattle.std.proofs.Common.{Option, Result, Some, None, Ok, Err}
 use mathlib.Core.Path.{◌≡◌, refl, sym, ap, ◌∙◌}
-use mathlib.Core.Bool.{Bool, true, false, cond}
+use mathlib.Core.Bool.{Bool, true, false, cond, ◌&&◌}
 use mathlib.Core.List.{List, [], ◌∷◌, ◌++◌, append_assoc, append-nil}
 use mathlib.Core.Logic.{◌⊎◌, inl, inr, ⊎_elim}
 use Prim.Native.Nat.{ℕ, ◌+◌, ◌≤◌, ◌<◌}
@@ -23,11 +23,12 @@ use Rattle.opening.specs.Problem.{sizes_of, within_limits, problem_in, problem_o
 use Rattle.opening.specs.Clauses.{scan_from}
 use Rattle.opening.specs.Opening.{body_of, opened_if, opened_by}
 use Rattle.opening.specs.declared.Sizes.{Sizes}
+use Rattle.opening.specs.declared.Problem.{Problem}
 use Rattle.opening.proofs.ProblemLaws.{many-variables, many-clauses, within}
 use Rattle.opening.proofs.ScanLaws.{scan-extra, scan-word, scan-close, scan-beyond, scan-many, scan-literal}
 use Rattle.calls.specs.Calls.{Dimensions, open_says}
 use Rattle.demands.specs.Reasons.{Reason, AllPass, FirstFailing, Comment, no_problem_line, size_over_limit, Reads, not_number, literal_beyond}
-use Rattle.demands.specs.Reasons.{count_of, is_zero, is_nonzero, closed_by, literals_by, too_many_literals, too_short, word_reasons, end_reasons, body_reasons, open_reasons}
+use Rattle.demands.specs.Reasons.{count_of, is_zero, is_nonzero, closed_by, literals_by, too_many_literals, too_short, word_reasons, end_reasons, IsProblemLine, body_reasons, open_reasons}
 use Rattle.demands.proofs.Firsts.{never_both, one-first, Turn, on, stop, Walked, found, none, walked}
 use Rattle.demands.proofs.Refusing.{Exact, same-said, refuses, goes_on, held, missed, where-true, where-false, too_short_lem}
 
@@ -167,6 +168,24 @@ problem-here : (text : List ℕ) (f : FirstFailing Comment (lines_at text 0)) �
     → problem_of text ≡ within_limits (sizes_of f.it.bytes) f.it.place (f.it.place + length f.it.bytes)
 unfolding problem_of problem_in
 problem-here text f after = rw after
+
+within-line : (z : Option Sizes) (place end : ℕ) (p : Problem) → within_limits z place end ≡ Ok p → (z ≡ Some p.sizes) × (p.end ≡ end)
+within-line None place end p e = never (cc)
+within-line (Some sizes) place end p e = by (leb sizes.variables max_variables && leb sizes.clauses max_clauses) e
+  where
+    by : (t : Bool) → cond t (Ok (record { sizes = sizes; end = end })) (Err (Refusal.SizeOverLimit place)) ≡ Ok p → (Some sizes ≡ Some p.sizes) × (p.end ≡ end)
+    by true q = (cc, cc)
+    by false q = never (cc)
+
+pub problem-line : (text : List ℕ) (p : Problem) → problem_of text ≡ Ok p → IsProblemLine text p
+unfolding problem_of problem_in after_comments
+problem-line text p e = by (comments (lines_at text 0))
+  where
+    by : Walked Comment comment_walk line_at (lines_at text 0) → IsProblemLine text p
+    by (none all k) = never (cc)
+    by (found f k) =
+        let h = within-line (sizes_of f.it.bytes) f.it.place (f.it.place + length f.it.bytes) p (sym (problem-here text f k) ∙ e) in
+        (f, h.0, h.1)
 
 module _ (s : Keyed) (text : List ℕ) where
   abbrev room-literals : ℕ

@@ -2,12 +2,14 @@
 -- reason holds and comes first, and a refusal leaves the store and every lent buffer unchanged." Of each public call: what it says (`..Says`), what it leaves
 -- (`..Store`, `..Leaves`) and its reasons (`Reasons.antt`). Handing back the lesser refuses nothing. `demand-1` (proofs/Demand1.antt) says that it holds.
 -- Assumes nothing.
-use Rattle.std.specs.Prelude.{◌≡◌, List, ◌↔◌, ℕ, length}
+use Rattle.std.specs.Prelude.{◌≡◌, Ok, List, ◌↔◌, ℕ, length}
 use Rattle.store.specs.Refusals.{Said, refused}
 use Rattle.standing.specs.Keyed.{Keyed}
+use Rattle.opening.specs.Problem.{problem_of}
+use Rattle.opening.specs.declared.Problem.{Problem}
 use Rattle.calls.specs.Calls.{open_says, open_store, offer_says, offer_store, withdraw_says, withdraw_store, header_says, header_leaves, clause_says, clause_leaves, figures_says}
 use Rattle.calls.specs.Calls.{compare_says, fill_says, fill_leaves, check_says, descend_says, descend_leaves, efficiency_says}
-use Rattle.demands.specs.Reasons.{Reason, comes_first, open_reasons, offer_reasons, withdraw_reasons, header_reasons, clause_reasons, figures_reasons}
+use Rattle.demands.specs.Reasons.{Reason, comes_first, IsProblemLine, open_reasons, offer_reasons, withdraw_reasons, header_reasons, clause_reasons, figures_reasons}
 use Rattle.demands.specs.Reasons.{fill_reasons, check_reasons, descend_reasons, compare_reasons, efficiency_reasons}
 
 -- "one numbered refusal exactly where its documented reason holds and comes first"
@@ -20,6 +22,8 @@ Unchanged said lent left = (number place : ℕ) → said ≡ refused number plac
 
 pub record Demand1 : Type 0 where
   pub open-refuses : (s : Keyed) (text : List ℕ) → RefusesBy (open_reasons s text) (open_says s text)
+  -- the line that the reasons of opening speak of
+  pub problem-line : (text : List ℕ) (p : Problem) → problem_of text ≡ Ok p → IsProblemLine text p
   pub open-leaves : (s : Keyed) (text : List ℕ) → Unchanged (open_says s text) s (open_store s text)
   pub offer-refuses : (s : Keyed) (names values : List ℕ) → RefusesBy (offer_reasons s names values) (offer_says s names values)
   pub offer-leaves : (s : Keyed) (names values : List ℕ) → Unchanged (offer_says s names values) s (offer_store s names values)

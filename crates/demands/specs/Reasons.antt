@@ -226,8 +226,12 @@ word_reasons n m before (w ∷ words) =
 abbrev pub end_reasons : ℕ → List Piece → ℕ → ℕ → ℕ → ℕ → List Reason
 end_reasons m words end literals ends keys = clause_missing m words end ∷ too_short (literals_by words) literals ∷ too_short m ends ∷ too_short m keys ∷ []
 
--- what comes after a problem line of n and m that ends there: n, m and the end are those of the first line that is no comment (`problem-line`,
--- proofs/OpenRefusals.antt), and where there are none, 1 or 2 holds
+-- n, m and the end of a problem line are those of the first line that is no comment
+abbrev pub IsProblemLine : List ℕ → Problem → Type 0
+IsProblemLine text p =
+    (f : FirstFailing Comment (lines_at text 0)) × (sizes_of f.it.bytes ≡ Some p.sizes) × (p.end ≡ f.it.place + length f.it.bytes)
+
+-- what comes after a problem line of n and m that ends there; where there is none, 1 or 2 holds
 abbrev pub body_reasons : Result Problem Refusal → List ℕ → ℕ → ℕ → ℕ → List Reason
 body_reasons (Ok p) text literals ends keys =
     word_reasons p.sizes.variables p.sizes.clauses [] (body_of text) ++ end_reasons p.sizes.clauses (body_of text) (length text) literals ends keys
